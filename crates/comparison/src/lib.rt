@@ -1,0 +1,8 @@
+// The five comparisons.
+pub enum Comparison {
+    AtMost,
+    Below,
+    AtLeast,
+    Above,
+    Equal,
+}

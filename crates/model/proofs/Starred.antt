@@ -1,0 +1,29 @@
+-- The cases that document 01 marks ★ hold: the definitions compute the replies that it gives. Assumes nothing.
+use mathlib.Core.Path.{_≡_, refl}
+use mathlib.Core.List.{map, filterMap}
+use lib.Count.{ones, onesIn}
+use Rattle.timer_set.specs.Members.{member, joined, common, minus, added, everyTimer, setOf}
+use Rattle.comparison.specs.Comparison.{met}
+use Rattle.lists.specs.Lists.{memb, anyOf, firstOf, lowest, gather, upTo, pick, top}
+use Rattle.model.specs.Run.{grown, restarted, allMet, after, attempt, steps, begin, outcome, playerTime, accepts}
+use Rattle.model.specs.Flow.{brings, made, round, roundsOf, sameSets, changing, settled}
+use Rattle.model.specs.Live.{startsSet, testsSet, atInitial, liveFlow, unstartedFlow, reachedFlow, liveSets, unstartedSets, reachedSets, isEmpty, firstUnreached, firstUnstarted}
+use Rattle.model.specs.Family.{isPair, livePairs, familyNumber, linkFlow, familyOf, familyFrom, families, meets}
+use Rattle.model.specs.FirstFit.{held, free, place, firstFit, usedBy, numberAt, allHeld, blocked, fullest, floor, board}
+use Rattle.model.specs.Rewrite.{numbering, renamed, newTests, newStarts, newTransition, rewrittenBy}
+use Rattle.model.specs.Judge.{judged, fitted, rewriting}
+use Rattle.model.specs.Player.{arrival, answerOf, tooLarge, countsJudged, stepsOf, played}
+use Rattle.model.specs.Cases.{arrow, test, drawn, A, B, C, selfLoop, neverStarted, B′, C′, selfLoop′, numbersOf, ask, Case, case, starred}
+
+pub starred-hold : map (λ (x : Case). ask (x .question)) starred ≡ map (λ (x : Case). x .reply) starred
+unfolding arrow test drawn A B C selfLoop neverStarted B′ C′ selfLoop′ numbersOf ask case starred
+    member joined common minus added everyTimer met ones onesIn filterMap
+    memb anyOf firstOf lowest gather upTo pick top
+    grown restarted allMet after attempt steps begin outcome playerTime accepts
+    brings made round roundsOf sameSets changing settled
+    setOf startsSet testsSet atInitial liveFlow unstartedFlow reachedFlow liveSets unstartedSets reachedSets isEmpty firstUnreached firstUnstarted
+    isPair livePairs familyNumber linkFlow familyOf familyFrom families meets
+    held free place firstFit usedBy numberAt allHeld blocked fullest floor board
+    numbering renamed newTests newStarts newTransition rewrittenBy
+    judged fitted rewriting arrival answerOf tooLarge countsJudged stepsOf played
+starred-hold = refl

@@ -1,0 +1,126 @@
+-- The charts of document 01, "Charts to try", and its cases marked ★: a list of questions with the replies that the document gives.
+-- That the definitions give these replies is one statement, `starred-hold` in proofs/Starred. Assumes nothing.
+use mathlib.Core.Bool.{Bool, true}
+use mathlib.Core.List.{List, [], _∷_, map, reverse}
+use Prim.Native.Nat.{ℕ}
+use Rattle.comparison.specs.declared.Comparison.{Comparison}
+use Rattle.comparison.specs.declared.Comparison.the-variants.{AtMost, Below, AtLeast, Above, Equal}
+use Rattle.model.specs.Answer.{Answer, result, refused, nowhere}
+use Rattle.model.specs.Chart.{Test, Transition, Chart}
+use Rattle.model.specs.Live.{liveSets}
+use Rattle.model.specs.Family.{familyNumber}
+use Rattle.model.specs.FirstFit.{Placed, board, usedBy, floor}
+use Rattle.model.specs.Judge.{Rewriting, rewriting}
+use Rattle.model.specs.Player.{Arrival, played}
+
+-- "s→t starts .. tests .."
+unfoldable pub arrow : (s t : ℕ) → List ℕ → List Test → Transition
+arrow s t starts tests = record { source = s; target = t; event = 0; starts = starts; tests = tests }
+
+unfoldable pub test : ℕ → Comparison → ℕ → Test
+test j x k = record { timer = j; comparison = x; constant = k }
+
+-- "location 0 is initial and the last one accepts"
+unfoldable pub drawn : (locations last timers : ℕ) → List Transition → Chart
+drawn n last m rs = record { locations = n; initial = 0; timers = m; accepting = last ∷ []; transitions = rs }
+
+unfoldable pub A : Chart
+A = drawn 7 6 3 (
+    arrow 0 1 (0 ∷ []) []
+    ∷ arrow 1 2 (1 ∷ []) []
+    ∷ arrow 2 3 (2 ∷ []) (test 0 AtLeast 3 ∷ [])
+    ∷ arrow 2 4 (2 ∷ []) (test 1 AtMost 7 ∷ [])
+    ∷ arrow 3 5 [] (test 1 Below 9 ∷ [])
+    ∷ arrow 4 5 [] (test 0 Equal 4 ∷ [])
+    ∷ arrow 5 6 [] (test 2 Above 2 ∷ [])
+    ∷ [])
+
+unfoldable pub B : Chart
+B = drawn 4 3 2 (
+    arrow 0 1 (0 ∷ []) []
+    ∷ arrow 1 2 (1 ∷ []) (test 0 AtMost 2 ∷ [])
+    ∷ arrow 2 3 [] (test 1 AtLeast 1 ∷ [])
+    ∷ [])
+
+unfoldable pub C : Chart
+C = drawn 6 5 2 (
+    arrow 0 1 (1 ∷ []) []
+    ∷ arrow 1 2 (0 ∷ []) []
+    ∷ arrow 2 3 [] (test 0 AtLeast 1 ∷ [])
+    ∷ arrow 3 4 (0 ∷ []) (test 1 AtMost 9 ∷ [])
+    ∷ arrow 4 5 [] (test 0 AtLeast 2 ∷ [])
+    ∷ [])
+
+-- "one location, 0→0 starting timer 0, no tests"
+unfoldable pub selfLoop : Chart
+selfLoop = drawn 1 0 1 (arrow 0 0 (0 ∷ []) [] ∷ [])
+
+-- "two locations, 0→0 starts 0; 0→1 tests 0 at least 0"
+unfoldable pub neverStarted : Chart
+neverStarted = drawn 2 1 1 (arrow 0 0 (0 ∷ []) [] ∷ arrow 0 1 [] (test 0 AtLeast 0 ∷ []) ∷ [])
+
+-- B rewritten: transition 1 tests board timer 0 and then starts it
+unfoldable pub B′ : Chart
+B′ = drawn 4 3 1 (
+    arrow 0 1 (0 ∷ []) []
+    ∷ arrow 1 2 (0 ∷ []) (test 0 AtMost 2 ∷ [])
+    ∷ arrow 2 3 [] (test 0 AtLeast 1 ∷ [])
+    ∷ [])
+
+-- C rewritten: drawn timer 0 becomes 1 first and 0 later
+unfoldable pub C′ : Chart
+C′ = drawn 6 5 2 (
+    arrow 0 1 (0 ∷ []) []
+    ∷ arrow 1 2 (1 ∷ []) []
+    ∷ arrow 2 3 [] (test 1 AtLeast 1 ∷ [])
+    ∷ arrow 3 4 (0 ∷ []) (test 0 AtMost 9 ∷ [])
+    ∷ arrow 4 5 [] (test 0 AtLeast 2 ∷ [])
+    ∷ [])
+
+unfoldable pub selfLoop′ : Chart
+selfLoop′ = drawn 1 0 0 (arrow 0 0 [] [] ∷ [])
+
+pub data Question : Type 0 where
+  live-sets : Chart → Question
+  numbers : Chart → Question
+  rewrite : Chart → (K : ℕ) → Question
+  play : Chart → (counts transitions times : List ℕ) → Question
+
+pub data Reply : Type 0 where
+  sets : List ℕ → Reply
+  given : List (ℕ × ℕ) → (used floor : ℕ) → Reply
+  rewriting-is : Answer Rewriting → Reply
+  played-is : Answer Arrival → Reply
+
+-- the families' numbers with their board numbers, rising
+unfoldable pub numbersOf : List Placed → List (ℕ × ℕ)
+numbersOf ps = reverse (map (λ g. (familyNumber (g .family), g .number)) ps)
+
+unfoldable pub ask : Question → Reply
+ask (live-sets c) = sets (liveSets c)
+ask (numbers c) = let placed = board c in given (numbersOf placed) (usedBy placed) (floor c)
+ask (rewrite c k) = rewriting-is (rewriting k c)
+ask (play c v is ts) = played-is (played c v is ts)
+
+pub record Case : Type 0 where
+  pub question : Question
+  pub reply : Reply
+
+unfoldable pub case : Question → Reply → Case
+case q r = record { question = q; reply = r }
+
+-- the cases, in the document's order. A set is a word: {0} is 1, {0,1} is 3, {1,2} is 6, {0,2} is 5, {2} is 4
+unfoldable pub starred : List Case
+starred =
+    case (live-sets A) (sets (0 ∷ 1 ∷ 3 ∷ 6 ∷ 5 ∷ 4 ∷ 0 ∷ []))
+    ∷ case (numbers A) (given ((64, 0) ∷ (129, 1) ∷ (194, 2) ∷ []) 3 2)
+    ∷ case (rewrite A 3) (rewriting-is (result (record { used = 3; chart = A })))
+    ∷ case (rewrite A 2) (rewriting-is (refused 20 nowhere))
+    ∷ case (rewrite B 16) (rewriting-is (result (record { used = 1; chart = B′ })))
+    ∷ case (numbers C) (given ((65, 0) ∷ (128, 1) ∷ (256, 0) ∷ []) 2 2)
+    ∷ case (rewrite C 2) (rewriting-is (result (record { used = 2; chart = C′ })))
+    ∷ case (rewrite selfLoop 0) (rewriting-is (result (record { used = 0; chart = selfLoop′ })))
+    ∷ case (rewrite neverStarted 64) (rewriting-is (refused 10 1))
+    ∷ case (play B (0 ∷ 0 ∷ []) (0 ∷ 1 ∷ 2 ∷ []) (5 ∷ 7 ∷ 8 ∷ [])) (played-is (result (record { location = 3; time = 8; accepting = true })))
+    ∷ case (play B (0 ∷ 0 ∷ []) (0 ∷ 1 ∷ []) (5 ∷ 8 ∷ [])) (played-is (refused 24 1))
+    ∷ []

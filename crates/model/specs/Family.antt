@@ -1,0 +1,106 @@
+-- Families (document 01, "Live, born, family, board number"), over the pairs and the links that are handed in. Assumes nothing.
+use mathlib.Core.Path.{_≡_}
+use mathlib.Core.Logic.{_⊎_}
+use mathlib.Core.Bool.{Bool, true, false, _&&_}
+use mathlib.Core.List.{List, [], _∷_, _++_, map}
+use Prim.Native.Nat.{ℕ, zero, suc, _+_, _*_, _^_, _≤_, _<_}
+use lib.Dec.{eqb}
+use lib.ListN.{getD, getElem?}
+use mathlib.Core.Option.{some}
+use Rattle.timer_set.specs.Members.{member, common, minus, everyTimer}
+use Rattle.lists.specs.Lists.{anyOf, memb, lowest, gather, pick}
+use Rattle.model.specs.Chart.{Transition, Chart}
+use Rattle.model.specs.Flow.{Edge, Flow, settled}
+use Rattle.model.specs.Live.{startsSet, liveSets}
+
+-- the pairs (one, j) and (other, j) are linked for each timer j of the set
+pub record Link : Type 0 where
+  pub one : ℕ
+  pub other : ℕ
+  pub timers : ℕ
+
+-- the pairs (q, j): j is in the set of q; and their links
+pub record Pairs : Type 0 where
+  pub locations : ℕ
+  pub timers : ℕ
+  pub sets : List ℕ
+  pub links : List Link
+
+unfoldable pub isPair : Pairs → (q j : ℕ) → Bool
+isPair p q j = member (getD (p .sets) q 0) j
+
+-- the pairs of a chart: the live timers of each location. A transition links the timers that it does not start and that are live at both ends.
+unfoldable pub livePairs : Chart → Pairs
+livePairs c = let sets = liveSets c in record {
+  locations = c .locations;
+  timers = c .timers;
+  sets = sets;
+  links = map (λ (r : Transition). record {
+    one = r .source;
+    other = r .target;
+    timers = minus (common (getD sets (r .source) 0) (getD sets (r .target) 0)) (startsSet r);
+  }) (c .transitions);
+}
+
+-- ---- a family, by chains of links
+
+-- a link joins (q, j) and (s, j)
+pub record Linked (p : Pairs) (j q s : ℕ) : Type 0 where
+  pub number : ℕ
+  pub link : Link
+  pub is-nth : getElem? (p .links) number ≡ some link
+  pub holds : member (link .timers) j ≡ true
+  pub ends : ((link .one ≡ q) × (link .other ≡ s)) ⊎ ((link .one ≡ s) × (link .other ≡ q))
+
+abbrev pub Chain : Pairs → ℕ → ℕ → List ℕ → ℕ → Type 0
+Chain p j q [] s = q ≡ s
+Chain p j q (x ∷ xs) s = Linked p j q x × Chain p j x xs s
+
+-- (s, j) is of the family of (q, j)
+pub record Joined (p : Pairs) (j q s : ℕ) : Type 0 where
+  pub way : List ℕ
+  pub chain : Chain p j q way s
+
+-- ---- the same, computed
+
+-- a family: its timer, its locations, rising, and the lowest of them
+pub record Family : Type 0 where
+  pub timer : ℕ
+  pub first : ℕ
+  pub locations : List ℕ
+
+-- its number: the smallest 64 times location plus timer among its pairs
+unfoldable pub familyNumber : Family → ℕ
+familyNumber f = 64 * f .first + f .timer
+
+-- what is at q passes along every link to and fro, of each link its timers
+unfoldable pub linkFlow : Pairs → (j q : ℕ) → Flow
+linkFlow p j q = record {
+  locations = p .locations;
+  own = λ s. elim (eqb s q) [ true ↦ 2 ^ j | false ↦ 0 ];
+  edges = map (λ (l : Link). record { into = l .one; from = l .other; cut = minus everyTimer (l .timers); gain = 0 }) (p .links)
+      ++ map (λ (l : Link). record { into = l .other; from = l .one; cut = minus everyTimer (l .timers); gain = 0 }) (p .links);
+}
+
+-- the family of the pair (q, j)
+unfoldable pub familyOf : Pairs → (q j : ℕ) → Family
+familyOf p q j = let sets = settled (linkFlow p j q) in record {
+  timer = j;
+  first = lowest (λ s. member (getD sets s 0) j) (p .locations);
+  locations = pick (λ s. member (getD sets s 0) j) (p .locations);
+}
+
+-- the family of the pair (q, j), if q is its lowest location
+unfoldable pub familyFrom : Pairs → (q j : ℕ) → List Family
+familyFrom p q j = elim (isPair p q j) [
+  | false ↦ []
+  | true ↦ let f = familyOf p q j in elim (eqb (f .first) q) [ true ↦ f ∷ [] | false ↦ [] ]
+]
+
+-- all families, each once, by rising number
+unfoldable pub families : Pairs → List Family
+families p = gather (λ q. gather (λ j. familyFrom p q j) (p .timers)) (p .locations)
+
+-- two families meet if they contain a common location
+unfoldable pub meets : Family → Family → Bool
+meets f g = anyOf (λ q. memb q (g .locations)) (f .locations)

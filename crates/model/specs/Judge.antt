@@ -1,0 +1,35 @@
+-- The judgement that all calls share, 9 and 10, and what the rewriting makes of a chart: 11, 20, or the rewritten chart (document 01,
+-- "Turned down .."). Assumes nothing.
+use mathlib.Core.Bool.{Bool, not}
+use Prim.Native.Nat.{ℕ}
+use lib.Dec.{leb}
+use lib.ListN.{length}
+use Rattle.model.specs.Answer.{Answer, result, refused, then, unless, nowhere}
+use Rattle.model.specs.Chart.{Chart}
+use Rattle.model.specs.Live.{firstUnreached, firstUnstarted}
+use Rattle.model.specs.FirstFit.{board, usedBy, blocked}
+use Rattle.model.specs.Rewrite.{numbering, rewrittenBy}
+
+-- 9 at the lowest location that no path reaches; then 10 at the lowest transition with an unstarted test
+unfoldable pub judged : Chart → Answer Chart
+judged c =
+    let lost = firstUnreached c in
+    let early = firstUnstarted c in
+    unless (leb (c .locations) lost) 9 lost (
+    unless (leb (length (c .transitions)) early) 10 early (
+    result c))
+
+pub record Rewriting : Type 0 where
+  pub used : ℕ
+  pub chart : Chart
+
+-- 11, then 20, then the chart with the board numbers of first fit
+unfoldable pub fitted : (K : ℕ) → Chart → Answer Rewriting
+fitted K c =
+    let placed = board c in
+    unless (leb K 64) 11 nowhere (
+    unless (not (blocked K placed)) 20 nowhere (
+    result (record { used = usedBy placed; chart = rewrittenBy (numbering placed) c })))
+
+unfoldable pub rewriting : (K : ℕ) → Chart → Answer Rewriting
+rewriting K c = then (judged c) (fitted K)

@@ -1,0 +1,15 @@
+pub mod Answer
+pub mod Chart
+pub mod Valid
+pub mod Run
+pub mod Path
+pub mod Flow
+pub mod Live
+pub mod Family
+pub mod FirstFit
+pub mod Rewrite
+pub mod Judge
+pub mod Player
+pub mod Cases
+pub mod Plan
+pub mod Equivalence

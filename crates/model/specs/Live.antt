@@ -1,0 +1,72 @@
+-- Live timers, reached locations and unstarted tests, computed by rounds of sets. What they mean by paths is in `Path`; that both agree is
+-- shown in proofs/. Assumes nothing.
+use mathlib.Core.Bool.{Bool, true, false, not}
+use mathlib.Core.List.{List, [], _∷_, map}
+use Prim.Native.Nat.{ℕ}
+use lib.Dec.{eqb}
+use lib.ListN.{getD}
+use Rattle.timer_set.specs.Members.{member, common, everyTimer, setOf}
+use Rattle.lists.specs.Lists.{lowest, firstOf}
+use Rattle.model.specs.Chart.{Test, Transition, Chart}
+use Rattle.model.specs.Flow.{Edge, Flow, settled}
+
+unfoldable pub startsSet : Transition → ℕ
+startsSet r = setOf (r .starts)
+
+unfoldable pub testsSet : Transition → ℕ
+testsSet r = setOf (map (λ (t : Test). t .timer) (r .tests))
+
+-- w at the initial location, nothing elsewhere
+unfoldable pub atInitial : Chart → ℕ → ℕ → ℕ
+atInitial c w q = elim (eqb q (c .initial)) [ true ↦ w | false ↦ 0 ]
+
+-- live: backwards along each transition, but for what it starts, with what it tests
+unfoldable pub liveFlow : Chart → Flow
+liveFlow c = record {
+  locations = c .locations;
+  own = λ q. 0;
+  edges = map (λ (r : Transition). record { into = r .source; from = r .target; cut = startsSet r; gain = testsSet r }) (c .transitions);
+}
+
+-- unstarted: all timers at the initial location, forwards along each transition, but for what it starts
+unfoldable pub unstartedFlow : Chart → Flow
+unstartedFlow c = record {
+  locations = c .locations;
+  own = atInitial c everyTimer;
+  edges = map (λ (r : Transition). record { into = r .target; from = r .source; cut = startsSet r; gain = 0 }) (c .transitions);
+}
+
+-- reached: the same with nothing cut
+unfoldable pub reachedFlow : Chart → Flow
+reachedFlow c = record {
+  locations = c .locations;
+  own = atInitial c everyTimer;
+  edges = map (λ (r : Transition). record { into = r .target; from = r .source; cut = 0; gain = 0 }) (c .transitions);
+}
+
+-- the live set of each location
+unfoldable pub liveSets : Chart → List ℕ
+liveSets c = settled (liveFlow c)
+
+-- of each location the timers that some path to it starts nowhere
+unfoldable pub unstartedSets : Chart → List ℕ
+unstartedSets c = settled (unstartedFlow c)
+
+-- of each location all timers if it is reached, else none
+unfoldable pub reachedSets : Chart → List ℕ
+reachedSets c = settled (reachedFlow c)
+
+unfoldable pub live : Chart → (q j : ℕ) → Bool
+live c q j = member (getD (liveSets c) q 0) j
+
+unfoldable pub isEmpty : ℕ → Bool
+isEmpty w = eqb w 0
+
+-- 9: the lowest location that no path reaches, or the number of locations
+unfoldable pub firstUnreached : Chart → ℕ
+firstUnreached c = let sets = reachedSets c in lowest (λ q. isEmpty (getD sets q 0)) (c .locations)
+
+-- 10: the lowest transition with an unstarted test, or the number of transitions
+unfoldable pub firstUnstarted : Chart → ℕ
+firstUnstarted c = let sets = unstartedSets c in
+    firstOf (λ (r : Transition). not (isEmpty (common (testsSet r) (getD sets (r .source) 0)))) (c .transitions)

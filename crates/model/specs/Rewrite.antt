@@ -1,0 +1,50 @@
+-- The chart rewritten by a numbering (document 01, "Live, born, family, board number"). Assumes nothing.
+use mathlib.Core.Bool.{Bool}
+use mathlib.Core.Option.{Option, none, some}
+use mathlib.Core.List.{List, [], _∷_, map, filterMap}
+use Prim.Native.Nat.{ℕ}
+use Rattle.lists.specs.Lists.{memb, pick}
+use Rattle.model.specs.Chart.{Test, Transition, Chart}
+use Rattle.model.specs.FirstFit.{Placed, numberAt, usedBy, board}
+
+-- a board number for each timer that is live at a location, none for the others, and how many numbers are used
+pub record Numbering : Type 0 where
+  pub number : (q j : ℕ) → Option ℕ
+  pub used : ℕ
+
+unfoldable pub numbering : List Placed → Numbering
+numbering ps = record { number = numberAt ps; used = usedBy ps }
+
+-- a test reads the number that its timer has at q
+unfoldable pub renamed : Test → Option ℕ → Option Test
+renamed t none = none
+renamed t (some k) = some (record { timer = k; comparison = t .comparison; constant = t .constant })
+
+unfoldable pub newTests : Numbering → (q : ℕ) → List Test → List Test
+newTests N q ts = filterMap (λ t. renamed t (N .number q (t .timer))) ts
+
+-- the numbers at the target of the timers born on r: those that r starts and that have a number there; rising, each once
+unfoldable pub newStarts : Numbering → Transition → List ℕ
+newStarts N r = let born = filterMap (N .number (r .target)) (r .starts) in pick (λ k. memb k born) (N .used)
+
+unfoldable pub newTransition : Numbering → Transition → Transition
+newTransition N r = record {
+  source = r .source;
+  target = r .target;
+  event = r .event;
+  starts = newStarts N r;
+  tests = newTests N (r .source) (r .tests);
+}
+
+unfoldable pub rewrittenBy : Numbering → Chart → Chart
+rewrittenBy N c = record {
+  locations = c .locations;
+  initial = c .initial;
+  timers = N .used;
+  accepting = c .accepting;
+  transitions = map (newTransition N) (c .transitions);
+}
+
+-- the rewritten chart: by the board numbers of first fit
+unfoldable pub rewritten : Chart → Chart
+rewritten c = let N = numbering (board c) in rewrittenBy N c

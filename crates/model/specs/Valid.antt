@@ -1,0 +1,27 @@
+-- The charts that a file can hold, its constants in W bytes: exactly those that the reader yields and the writer takes (limits: document 01,
+-- "The chart"; a version 1 file has W = 2). Assumes nothing.
+use Prim.Native.Nat.{ℕ, _≤_, _<_, _^_}
+use lib.ListN.{length}
+use Rattle.lists.specs.Rising.{Rising, All}
+use Rattle.model.specs.Chart.{Test, Transition, Chart}
+
+pub record ValidTest (W timers : ℕ) (t : Test) : Type 0 where
+  pub timer : t .timer < timers
+  pub constant : t .constant < 256 ^ W
+
+pub record ValidTransition (W locations timers : ℕ) (r : Transition) : Type 0 where
+  pub source : r .source < locations
+  pub target : r .target < locations
+  pub event : r .event < 256
+  pub starts : Rising timers 0 (r .starts)
+  pub few-tests : length (r .tests) ≤ 8
+  pub tests : All (ValidTest W timers) (r .tests)
+
+pub record Valid (W : ℕ) (c : Chart) : Type 0 where
+  pub some-location : 1 ≤ c .locations
+  pub few-locations : c .locations ≤ 256
+  pub initial : c .initial < c .locations
+  pub few-timers : c .timers ≤ 64
+  pub accepting : Rising (c .locations) 0 (c .accepting)
+  pub few-transitions : length (c .transitions) ≤ 512
+  pub transitions : All (ValidTransition W (c .locations) (c .timers)) (c .transitions)

@@ -1,0 +1,4 @@
+// Sets of timers.
+pub struct TimerSet {
+    pub bits: u64,
+}
