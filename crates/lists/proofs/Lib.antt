@@ -1,0 +1,4 @@
+pub mod Bools
+pub mod Membership
+pub mod Lowest
+pub mod Gather
