@@ -3,3 +3,5 @@ pub mod Transitions
 pub mod Paths
 pub mod Edges
 pub mod Flow
+pub mod Rounds
+pub mod Settled
