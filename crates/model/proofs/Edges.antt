@@ -39,9 +39,9 @@ unfoldable pub roundTo : Flow → List ℕ → ℕ → List ℕ
 roundTo f before i = upTo (λ q. withEdges before q (f .own q) (take i (f .edges))) (f .locations)
 
 module _ (f : Flow) (before : List ℕ) where
-  pub made-step : (q i : ℕ) (e : Edge) → getElem? (f .edges) i ≡ some e
+  pub made-as-loop : (q i : ℕ) (e : Edge) → getElem? (f .edges) i ≡ some e
       → withEdges before q (f .own q) (take (suc i) (f .edges)) ≡ withEdge before q (withEdges before q (f .own q) (take i (f .edges))) e
-  made-step q i e n =
+  made-as-loop q i e n =
       ap (withEdges before q (f .own q)) (take-nth (f .edges) i e n) ∙ foldl-append (withEdge before q) (f .own q) (take i (f .edges)) (e ∷ [])
 
   pub made-end : (q : ℕ) → withEdges before q (f .own q) (take (length (f .edges)) (f .edges)) ≡ made f before q
@@ -65,7 +65,7 @@ module _ (f : Flow) (before : List ℕ) where
       → roundTo f before (suc i) ≡ set (roundTo f before i) (e .into) (joined (getD (roundTo f before i) (e .into) 0) (brings before e))
   roundTo-step i e n =
       ext-getD 0 (roundTo f before (suc i)) _ (length-roundTo (suc i) ∙ sym (length-set (roundTo f before i) _ _ ∙ length-roundTo i))
-      (λ q h. let l : q < f .locations = omega (arith, length-roundTo (suc i)) in getD-roundTo (suc i) q l ∙ made-step q i e n ∙ at q l (ℕ-discrete q (e .into)))
+      (λ q h. let l : q < f .locations = omega (arith, length-roundTo (suc i)) in getD-roundTo (suc i) q l ∙ made-as-loop q i e n ∙ at q l (ℕ-discrete q (e .into)))
     where
       at : (q : ℕ) → q < f .locations → Dec (q ≡ e .into)
           → withEdge before q (withEdges before q (f .own q) (take i (f .edges))) e

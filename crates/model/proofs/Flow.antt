@@ -1,16 +1,15 @@
 -- What a round makes of the sets before it, by members, and how a timer comes to a location by rounds. Assumes nothing.
-use mathlib.Core.Path.{_≡_, refl, sym, ap, ap₂, _∙_, subst}
+use mathlib.Core.Path.{_≡_, refl, ap, _∙_}
 use mathlib.Core.Logic.{_⊎_, inl, inr}
 use mathlib.Core.Bool.{Bool, true, false, _||_, _&&_, not}
 use mathlib.Core.Option.{some}
 use mathlib.Core.List.{List, [], _∷_}
-use Prim.Native.Nat.{ℕ, zero, suc, _≤_, _<_, _^_}
-use native.Mathlib.Omega.{arith}
+use Prim.Native.Nat.{ℕ, _<_, _^_}
 use lib.Dec.{eqb}
 use lib.ListN.{getD, getElem?}
 use borrow.Author.Tests.{not-true}
 use Rattle.timer_set.specs.Members.{member, joined, minus}
-use Rattle.timer_set.proofs.Members.{member-joined, member-minus, joined-lt, minus-lt}
+use Rattle.timer_set.proofs.Members.{member-joined, member-minus}
 use Rattle.lists.specs.Lists.{anyOf}
 use Rattle.lists.proofs.Bools.{or-cases, or-left, or-right, and-left, and-right, and-both, same-number, eqb-self}
 use Rattle.lists.proofs.Membership.{any-in, any-out}

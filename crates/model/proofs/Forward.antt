@@ -1,23 +1,20 @@
 -- The sets that go forwards from the initial location are the reached locations, and the timers that some path starts nowhere. Assumes nothing.
 use mathlib.Core.Path.{_≡_, refl, sym, ap, _∙_, subst}
-use mathlib.Core.Logic.{_⊎_, inl, inr, _↔_}
+use mathlib.Core.Logic.{_↔_}
 use mathlib.Core.Bool.{Bool, true, false}
-use mathlib.Core.Option.{some}
-use mathlib.Core.List.{List, map}
+use mathlib.Core.List.{map}
 use Prim.Native.Nat.{ℕ, _<_, _^_}
-use native.Mathlib.Omega.{arith}
 use lib.Dec.{eqb, lit<}
 use lib.ListN.{getD}
-use borrow.Author.Tests.{eqb-false, eqb-true, ne-eqb, eq-eqb}
+use borrow.Author.Tests.{eqb-false, eqb-true, ne-eqb}
 use Rattle.timer_set.specs.Members.{member, everyTimer}
 use Rattle.timer_set.proofs.Members.{member-empty, member-every, some-member}
-use Rattle.lists.specs.Lists.{memb}
 use Rattle.lists.proofs.Bools.{not-both, eqb-self}
 use Rattle.lists.proofs.Membership.{nth-map}
 use Rattle.model.specs.Chart.{Transition, Chart, Nth}
 use Rattle.model.specs.Valid.{Valid}
 use Rattle.model.specs.Path.{Reached, Unstarted}
-use Rattle.model.specs.Flow.{Edge, Flow, settled}
+use Rattle.model.specs.Flow.{Edge, Flow}
 use Rattle.model.specs.Live.{startsSet, atInitial, unstartedFlow, reachedFlow, unstartedSets, reachedSets, isEmpty}
 use Rattle.model.proofs.Transitions.{nth-valid}
 use Rattle.model.proofs.TransitionSets.{member-starts, edge-of}

@@ -8,3 +8,4 @@ pub mod Rounds
 pub mod Settled
 pub mod LivePaths
 pub mod Forward
+pub mod Judgement

@@ -1,22 +1,17 @@
 -- The live sets that the rounds give are what is live by paths. Assumes nothing.
 use mathlib.Core.Path.{_≡_, refl, sym, ap, _∙_, subst}
 use mathlib.Core.Logic.{_⊎_, inl, inr, _↔_}
-use mathlib.Core.Bool.{Bool, true, false}
-use mathlib.Core.Option.{some}
-use mathlib.Core.List.{List, map}
+use mathlib.Core.Bool.{true}
 use Prim.Native.Nat.{ℕ, _≤_, _<_, _^_}
-use native.Mathlib.Omega.{arith}
 use lib.Dec.{lit<}
-use lib.ListN.{getD, getElem?, List·getD-eq-default}
 use Rattle.timer_set.specs.Members.{member}
 use Rattle.timer_set.proofs.Members.{member-empty}
-use Rattle.lists.specs.Lists.{memb}
 use Rattle.lists.proofs.Bools.{not-both, lt-or-le}
 use Rattle.lists.proofs.Membership.{nth-map}
-use Rattle.model.specs.Chart.{Transition, Chart, Nth, tested}
+use Rattle.model.specs.Chart.{Transition, Chart, Nth}
 use Rattle.model.specs.Valid.{Valid}
 use Rattle.model.specs.Path.{Live}
-use Rattle.model.specs.Flow.{Edge, Flow, settled}
+use Rattle.model.specs.Flow.{Edge}
 use Rattle.model.specs.Live.{startsSet, testsSet, liveFlow, liveSets, live}
 use Rattle.model.proofs.Transitions.{nth-valid}
 use Rattle.model.proofs.TransitionSets.{member-starts, member-tests, tests-word, edge-of}

@@ -1,10 +1,9 @@
 -- Paths: how they join, and the ways to be live, reached or unstarted one transition at a time. Assumes nothing.
-use mathlib.Core.Path.{_≡_, refl, sym, ap, _∙_, subst}
+use mathlib.Core.Path.{_≡_, refl, sym, _∙_, subst}
 use mathlib.Core.Logic.{_⊎_, inl, inr}
-use mathlib.Core.Bool.{Bool, true, false}
+use mathlib.Core.Bool.{true, false}
 use mathlib.Core.List.{List, [], _∷_, _++_}
 use Prim.Native.Nat.{ℕ, _<_}
-use native.Mathlib.Omega.{arith}
 use Rattle.lists.specs.Lists.{memb}
 use Rattle.model.specs.Chart.{Transition, Chart, Nth, tested}
 use Rattle.model.specs.Valid.{Valid}
@@ -84,11 +83,10 @@ pub record Inside (c : Chart) (q j : ℕ) : Type 0 where
   pub timer : j < c .timers
 
 pub live-inside : {W : ℕ} {c : Chart} {q j : ℕ} → Valid W c → Live c q j → Inside c q j
-live-inside {W} {c} {q} {j} valid l = record { location = below (live-cases l); timer = tested-below valid j (l .read .is-nth) (l .read .tests-it) }
-  where
-    below : ReadAt c q j ⊎ LiveOnward c q j → q < c .locations
-    below (inl r) = subst (λ (x : ℕ). x < c .locations) (r .leaves) (nth-valid valid (r .is-nth) .source)
-    below (inr r) = subst (λ (x : ℕ). x < c .locations) (r .leaves) (nth-valid valid (r .is-nth) .source)
+live-inside {c = c} {j = j} valid l = record {
+  location = live-least (λ (s : ℕ). s < c .locations) (λ i r n t. nth-valid valid n .source) (λ i r n f b. nth-valid valid n .source) l;
+  timer = tested-below valid j (l .read .is-nth) (l .read .tests-it);
+}
 
 -- ---- from the initial location forwards
 

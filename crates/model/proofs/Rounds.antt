@@ -1,5 +1,5 @@
 -- Rounds from the empty sets: they grow, hold only what comes, and hold all of it where a round changes nothing. Assumes nothing.
-use mathlib.Core.Path.{_≡_, refl, sym, ap, _∙_}
+use mathlib.Core.Path.{_≡_, refl}
 use mathlib.Core.Logic.{_⊎_, inl, inr}
 use mathlib.Core.Bool.{Bool, true, false}
 use mathlib.Core.Option.{some}
@@ -8,13 +8,13 @@ use Prim.Native.Nat.{ℕ, zero, suc, _≤_, _<_, _^_}
 use native.Mathlib.Omega.{arith}
 use lib.Dec.{eqb, lit<}
 use lib.ListN.{length, getD, getElem?, replicate, length-replicate, List·getD-eq-default}
-use Rattle.timer_set.specs.Members.{member, joined, minus}
+use Rattle.timer_set.specs.Members.{member, joined}
 use Rattle.timer_set.proofs.Members.{member-empty, joined-lt, minus-lt}
 use Rattle.lists.proofs.Bools.{lt-or-le, not-both}
 use Rattle.lists.proofs.Gather.{length-upTo, getD-upTo}
 use Rattle.model.specs.Flow.{Edge, Flow, brings, made, round, roundsOf}
 use Rattle.model.proofs.Edges.{withEdge, withEdges}
-use Rattle.model.proofs.Flow.{EdgeInto, Comes, Way, Shaped, made-out, made-in}
+use Rattle.model.proofs.Flow.{Comes, Way, Shaped, made-out, made-in}
 use Rattle.model.proofs.Flow.Comes.{owned, gained, along}
 use Rattle.model.proofs.Flow.Way.{by-own, by-gain, by-edge}
 

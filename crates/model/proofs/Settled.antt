@@ -1,8 +1,8 @@
 -- Rounds end: each round that changes a set puts one timer more into one, so at most 64 to a location do. Where they end the sets hold exactly
 -- what comes. Assumes nothing.
-use mathlib.Core.Path.{_≡_, refl, sym, ap, ap₂, _∙_, subst}
+use mathlib.Core.Path.{_≡_, refl, sym, ap, ap₂, _∙_}
 use mathlib.Core.Logic.{_⊎_, inl, inr, _↔_}
-use mathlib.Core.Bool.{Bool, true, false, _&&_, true≢false}
+use mathlib.Core.Bool.{Bool, true, true≢false}
 use mathlib.Core.List.{List, [], _∷_}
 use Prim.Native.Nat.{ℕ, zero, suc, _+_, _*_, _≤_, _<_}
 use native.Mathlib.Nat.{suc-inj, suc-ne-zero}
@@ -12,7 +12,6 @@ use lib.Dec.{eqb}
 use lib.ListN.{length, getD, List·getD-eq-default}
 use Rattle.timer_set.specs.Members.{member}
 use Rattle.timer_set.proofs.Counts.{ones-grow}
-use Rattle.lists.specs.Lists.{lowest}
 use Rattle.lists.proofs.Bools.{lt-or-le, not-both, is-no, and-left, and-right, and-both, eqb-self, same-number}
 use Rattle.lists.proofs.Lowest.{lowest-le, lowest-passes, lowest-before, lowest-is}
 use Rattle.model.specs.Flow.{Flow, round, roundsOf, sameSets, changing, settled, rounds}
