@@ -1,3 +1,5 @@
 pub mod Starred
+pub mod Transitions
+pub mod Paths
 pub mod FirstFit
 pub mod NumberAt
