@@ -3,3 +3,6 @@ pub mod Transitions
 pub mod Paths
 pub mod FirstFit
 pub mod NumberAt
+pub mod Joined
+pub mod Assumed
+pub mod Families

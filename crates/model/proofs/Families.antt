@@ -1,0 +1,79 @@
+-- The family computed of a pair is the family by chains of links: its locations, its number, the same for each of its pairs, and which ones meet.
+-- Assumes nothing.
+use mathlib.Core.Path.{_≡_, refl, sym, ap, _∙_, subst}
+use mathlib.Core.Logic.{_⊎_, inl, inr, _↔_}
+use mathlib.Core.Bool.{Bool, true, false}
+use mathlib.Core.List.{List}
+use Prim.Native.Nat.{ℕ, _+_, _*_, _≤_, _<_}
+use native.Mathlib.Nat.{le-antisymm}
+use native.Mathlib.Omega.{arith}
+use lib.ListN.{getD}
+use Rattle.timer_set.specs.Members.{member}
+use Rattle.lists.specs.Lists.{memb, lowest, pick}
+use Rattle.lists.proofs.Bools.{same-bool}
+use Rattle.lists.proofs.Membership.{any-memb-in, any-memb-out}
+use Rattle.lists.proofs.Lowest.{lowest-passes, lowest-most}
+use Rattle.lists.proofs.Gather.{pick-in, pick-out, pick-rising}
+use Rattle.lists.proofs.Rising.{rising-same}
+use Rattle.model.specs.Flow.{settled}
+use Rattle.model.specs.Family.{Pairs, isPair, Linked, Joined, Family, familyNumber, linkFlow, familyOf, meets}
+use Rattle.model.proofs.Joined.{WellFormed, joined-refl, joined-one, joined-trans, joined-sym, joined-carries, joined-pair}
+use Rattle.model.proofs.Assumed.{link-flow-iff}
+
+-- n is the number of the family of (q, j): the smallest 64 times location plus timer among its pairs
+pub record NumberOfFamily (p : Pairs) (q j n : ℕ) : Type 0 where
+  pub location : ℕ
+  pub joined : Joined p j q location
+  pub is-its : n ≡ 64 * location + j
+  pub smallest : (s : ℕ) → Joined p j q s → n ≤ 64 * s + j
+
+-- the families of (q, j) and (s, k) contain a common location
+pub record Meet (p : Pairs) (q j s k : ℕ) : Type 0 where
+  pub location : ℕ
+  pub left : Joined p j q location
+  pub right : Joined p k s location
+
+same-family : (f g : Family) → f .timer ≡ g .timer → f .first ≡ g .first → f .locations ≡ g .locations → f ≡ g
+same-family f g t a l = λ i. record { timer = t i; first = a i; locations = l i }
+
+pub family-timer : (p : Pairs) (q j : ℕ) → familyOf p q j .timer ≡ j
+unfolding familyOf
+family-timer p q j = refl
+
+module _ {p : Pairs} (formed : WellFormed p) (q j : ℕ) (pair : isPair p q j ≡ true) where
+  sets : List ℕ
+  sets = settled (linkFlow p j q)
+
+  in-family : (s : ℕ) → Joined p j q s → (s < p .locations) × (member (getD (settled (linkFlow p j q)) s 0) j ≡ true)
+  in-family s a = let l = formed .location s j (joined-pair formed a pair) in (l, link-flow-iff formed q j pair s l .1 a)
+
+  pub family-has : (s : ℕ) → (memb s (familyOf p q j .locations) ≡ true) ↔ Joined p j q s
+  unfolding familyOf
+  family-has s = (
+    λ m. let x = pick-out _ (p .locations) s m in link-flow-iff formed q j pair s (x .0) .0 (x .1),
+    λ a. let x = in-family s a in pick-in _ (p .locations) s (x .0) (x .1),
+  )
+
+  -- the lowest location of the family
+  pub first-least : (s : ℕ) → Joined p j q s → familyOf p q j .first ≤ s
+  unfolding familyOf
+  first-least s a = lowest-most _ (p .locations) s (in-family s a .1)
+
+  pub first-joined : Joined p j q (familyOf p q j .first)
+  unfolding familyOf
+  first-joined =
+      let below : familyOf p q j .first < p .locations = omega (arith, first-least q (joined-refl q), formed .location q j pair) in
+      link-flow-iff formed q j pair (familyOf p q j .first) below .0 (lowest-passes _ (p .locations) below)
+
+  pub family-number : NumberOfFamily p q j (familyNumber (familyOf p q j))
+  unfolding familyNumber
+  family-number = record {
+    location = familyOf p q j .first;
+    joined = first-joined;
+    is-its = rw (family-timer p q j) refl;
+    smallest = λ s a. rw (family-timer p q j) (let l = first-least s a in omega arith);
+  }
+
+  family-rising : Rising (p .locations) 0 (familyOf p q j .locations)
+  unfolding familyOf
+  family-rising = pick-rising _ (p .locations)
