@@ -9,7 +9,8 @@ use native.Mathlib.Nat.{le-antisymm}
 use native.Mathlib.Omega.{arith}
 use lib.ListN.{getD}
 use Rattle.timer_set.specs.Members.{member}
-use Rattle.lists.specs.Lists.{memb, lowest, pick}
+use Rattle.lists.specs.Lists.{memb}
+use Rattle.lists.specs.Rising.{Rising}
 use Rattle.lists.proofs.Bools.{same-bool}
 use Rattle.lists.proofs.Membership.{any-memb-in, any-memb-out}
 use Rattle.lists.proofs.Lowest.{lowest-passes, lowest-most}
@@ -41,9 +42,6 @@ unfolding familyOf
 family-timer p q j = refl
 
 module _ {p : Pairs} (formed : WellFormed p) (q j : ℕ) (pair : isPair p q j ≡ true) where
-  sets : List ℕ
-  sets = settled (linkFlow p j q)
-
   in-family : (s : ℕ) → Joined p j q s → (s < p .locations) × (member (getD (settled (linkFlow p j q)) s 0) j ≡ true)
   in-family s a = let l = formed .location s j (joined-pair formed a pair) in (l, link-flow-iff formed q j pair s l .1 a)
 
@@ -74,6 +72,48 @@ module _ {p : Pairs} (formed : WellFormed p) (q j : ℕ) (pair : isPair p q j �
     smallest = λ s a. rw (family-timer p q j) (let l = first-least s a in omega arith);
   }
 
-  family-rising : Rising (p .locations) 0 (familyOf p q j .locations)
+  pub family-rising : Rising (p .locations) 0 (familyOf p q j .locations)
   unfolding familyOf
   family-rising = pick-rising _ (p .locations)
+
+module _ {p : Pairs} (formed : WellFormed p) {j : ℕ} where
+  -- the pairs of a family have the same one
+  pub family-same : {q s : ℕ} → isPair p q j ≡ true → Joined p j q s → familyOf p q j ≡ familyOf p s j
+  family-same {q} {s} pair a =
+      same-family (familyOf p q j) (familyOf p s j) (family-timer p q j ∙ sym (family-timer p s j))
+      (le-antisymm (first-least formed q j pair _ (joined-trans a (first-joined formed s j pair′)))
+      (first-least formed s j pair′ _ (joined-trans (joined-sym a) (first-joined formed q j pair))))
+      (rising-same (p .locations) (p .locations) 0 _ _ (family-rising formed q j pair) (family-rising formed s j pair′) (λ x. same-bool _ _
+      (λ m. family-has formed s j pair′ x .1 (joined-trans (joined-sym a) (family-has formed q j pair x .0 m)))
+      (λ m. family-has formed q j pair x .1 (joined-trans a (family-has formed s j pair′ x .0 m)))))
+    where
+      pair′ : isPair p s j ≡ true
+      pair′ = joined-pair formed a pair
+
+  -- two pairs of a timer are of one family if the first locations of theirs are equal
+  pub same-first : {q s : ℕ} → isPair p q j ≡ true → isPair p s j ≡ true → familyOf p q j .first ≡ familyOf p s j .first → Joined p j q s
+  same-first {q} {s} pair pair′ e =
+      joined-trans (first-joined formed q j pair) (subst (λ (x : ℕ). Joined p j x s) (sym e) (joined-sym (first-joined formed s j pair′)))
+
+  -- labels that are of the family, are no higher than their own location and agree over links are the first locations: what passing on
+  -- smallest labels ends with
+  pub labels-first : (label : ℕ → ℕ) → ((q : ℕ) → isPair p q j ≡ true → Joined p j q (label q)) → ((q : ℕ) → isPair p q j ≡ true → label q ≤ q)
+      → ((q s : ℕ) → Linked p j q s → label q ≡ label s) → (q : ℕ) → isPair p q j ≡ true → label q ≡ familyOf p q j .first
+  labels-first label joined low agree q pair =
+      let x = familyOf p q j .first in
+      let a : Joined p j q x = first-joined formed q j pair in
+      let e : label q ≡ label x = joined-carries (λ (y : ℕ). label q ≡ label y) (λ y z l h. h ∙ agree y z l) a refl in
+      le-antisymm (subst (λ (n : ℕ). n ≤ x) (sym e) (low x (joined-pair formed a pair))) (first-least formed q j pair (label q) (joined q pair))
+
+-- the test of a common location is right
+pub meets-iff : {p : Pairs} → WellFormed p → (q j s k : ℕ) → isPair p q j ≡ true → isPair p s k ≡ true
+    → (meets (familyOf p q j) (familyOf p s k) ≡ true) ↔ Meet p q j s k
+unfolding meets
+meets-iff {p} formed q j s k pair pair′ = (
+  λ h.
+      let x = any-memb-out (λ y. memb y (familyOf p s k .locations)) (familyOf p q j .locations) h in
+      record { location = x .0; left = family-has formed q j pair (x .0) .0 (x .1); right = family-has formed s k pair′ (x .0) .0 (x .2) },
+  λ m.
+      any-memb-in (λ y. memb y (familyOf p s k .locations)) (m .location) (familyOf p q j .locations)
+      (family-has formed q j pair (m .location) .1 (m .left)) (family-has formed s k pair′ (m .location) .1 (m .right)),
+)
