@@ -80,10 +80,11 @@ module _ {A : Type 0} where
       rw map-append (rising-append (bound (suc n)) (bound 0) (bound n) (map h (gather f n)) (map h (f n)) (ih .1) (up n) (ih .0) (each n)),
     )
 
--- a higher limit does as well
-pub rising-limit : (limit limit′ lo : ℕ) (xs : List ℕ) → Rising limit lo xs → limit ≤ limit′ → Rising limit′ lo xs
-rising-limit limit limit′ lo [] r h = tt
-rising-limit limit limit′ lo (x ∷ xs) r h = ((r .0 .0, omega (arith, r .0 .1)), rising-limit limit limit′ (suc x) xs (r .1) h)
+-- wider bounds do as well
+pub rising-wider : (limit limit′ lo lo′ : ℕ) (xs : List ℕ) → Rising limit lo xs → limit ≤ limit′ → lo′ ≤ lo → Rising limit′ lo′ xs
+rising-wider limit limit′ lo lo′ [] r h l = tt
+rising-wider limit limit′ lo lo′ (x ∷ xs) r h l =
+    ((omega (arith, r .0 .0), omega (arith, r .0 .1)), rising-wider limit limit′ (suc x) (suc x) xs (r .1) h (omega arith))
 
 -- ---- filtered lists
 

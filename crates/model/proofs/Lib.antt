@@ -6,3 +6,4 @@ pub mod NumberAt
 pub mod Joined
 pub mod Assumed
 pub mod Families
+pub mod FamilyList
