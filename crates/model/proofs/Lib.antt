@@ -1,9 +1,14 @@
 pub mod Starred
 pub mod Transitions
 pub mod Paths
+pub mod Edges
+pub mod Flow
+pub mod Rounds
+pub mod Settled
 pub mod FirstFit
 pub mod NumberAt
 pub mod Joined
+pub mod LinkFlow
 pub mod Assumed
 pub mod Families
 pub mod FamilyList
