@@ -13,9 +13,5 @@ use Rattle.model.specs.Flow.{settled}
 use Rattle.model.specs.Family.{Link, Pairs, isPair, Linked, Chain, Joined, linkFlow}
 use Rattle.model.proofs.Joined.{WellFormed}
 
-pub link-flow-iff : {p : Pairs} → WellFormed p → (q j : ℕ) → isPair p q j ≡ true → (s : ℕ) → s < p .locations
-    → (member (getD (settled (linkFlow p j q)) s 0) j ≡ true) ↔ Joined p j q s
-link-flow-iff = ?
-
 pub live-iff : {W : ℕ} {c : Chart} → Valid W c → (q j : ℕ) → (live c q j ≡ true) ↔ Live c q j
 live-iff = ?

@@ -19,7 +19,7 @@ use Rattle.lists.proofs.Rising.{rising-same}
 use Rattle.model.specs.Flow.{settled}
 use Rattle.model.specs.Family.{Pairs, isPair, Linked, Joined, Family, familyNumber, linkFlow, familyOf, meets}
 use Rattle.model.proofs.Joined.{WellFormed, joined-refl, joined-one, joined-trans, joined-sym, joined-carries, joined-pair}
-use Rattle.model.proofs.Assumed.{link-flow-iff}
+use Rattle.model.proofs.LinkFlow.{link-flow-iff}
 
 -- n is the number of the family of (q, j): the smallest 64 times location plus timer among its pairs
 pub record NumberOfFamily (p : Pairs) (q j n : ℕ) : Type 0 where

@@ -11,21 +11,13 @@ use lib.Dec.{eqb}
 use lib.ListN.{getElem?}
 use borrow.Author.Tests.{eq-eqb}
 use Rattle.lists.specs.Lists.{memb, lowest, top}
-use Rattle.lists.proofs.Bools.{not-both, is-no, or-cases, or-left, or-right, same-number, lt-or-le}
+use Rattle.lists.proofs.Bools.{not-both, not-true, not-false, is-no, or-cases, or-left, or-right, same-number, lt-or-le}
 use Rattle.lists.proofs.Membership.{memb-cases, memb-head, memb-tail, memb-nil, nth-memb, memb-nth, nth-map, nth-unmap, top-above, top-below}
 use Rattle.lists.proofs.Lowest.{lowest-le, lowest-passes, lowest-before, lowest-is}
 use Rattle.model.specs.Family.{Family, meets}
 use Rattle.model.specs.FirstFit.{Placed, held, free, place, usedBy, allHeld, blocked}
 
 -- ---- the smallest number that is not in a list
-
-not-true : (b : Bool) → not b ≡ true → b ≡ false
-not-true true h = absurd (true≢false (sym h))
-not-true false h = refl
-
-not-false : (b : Bool) → not b ≡ false → b ≡ true
-not-false true h = refl
-not-false false h = absurd (true≢false h)
 
 pub free-not-held : (l : List ℕ) → memb (free l) l ≡ false
 unfolding free

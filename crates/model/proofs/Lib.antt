@@ -12,3 +12,4 @@ pub mod LinkFlow
 pub mod Assumed
 pub mod Families
 pub mod FamilyList
+pub mod PairNumbers
