@@ -13,3 +13,4 @@ pub mod Assumed
 pub mod Families
 pub mod FamilyList
 pub mod PairNumbers
+pub mod BoardPlan
