@@ -8,6 +8,7 @@ use Prim.Native.Nat.{ℕ, zero, suc, _≤_, _<_, _^_}
 use native.Mathlib.Omega.{arith}
 use lib.Dec.{eqb}
 use lib.ListN.{getD, getElem?}
+use borrow.Author.Tests.{not-true}
 use Rattle.timer_set.specs.Members.{member, joined, minus}
 use Rattle.timer_set.proofs.Members.{member-joined, member-minus, joined-lt, minus-lt}
 use Rattle.lists.specs.Lists.{anyOf}
@@ -73,10 +74,6 @@ member-brings : (before : List ℕ) (e : Edge) (j : ℕ)
 unfolding brings
 member-brings before e j =
     member-joined (e .gain) (minus (getD before (e .from) 0) (e .cut)) j ∙ ap (λ (b : Bool). member (e .gain) j || b) (member-minus (getD before (e .from) 0) (e .cut) j)
-
-not-true : (b : Bool) → not b ≡ true → b ≡ false
-not-true true h = sym h
-not-true false h = refl
 
 module _ (f : Flow) (before : List ℕ) (q j : ℕ) where
   -- j stands at s before the round

@@ -109,6 +109,22 @@ module _ {c : Chart} where
     nowhere = starts-append c j (x .path) (i ∷ []) (x .nowhere) (starts-one c j n f);
   }
 
+  -- what holds at the initial location, and on over each transition, holds wherever a path leads; and so over those that do not start j
+  pub reached-least : (R : ℕ → Type 0) → R (c .initial) → ((i : ℕ) (r : Transition) → Nth c i r → R (r .source) → R (r .target)) → {q : ℕ} → Reached c q → R q
+  reached-least R base step {q} x = go (x .path) (c .initial) base (x .leads)
+    where
+      go : (p : List ℕ) (s : ℕ) → R s → Path c s p q → R q
+      go [] s h w = subst R w h
+      go (i ∷ p) s h w = go p (w .0 .target) (step i (w .0) (w .1) (subst R (sym (w .2)) h)) (w .3)
+
+  pub unstarted-least : {j : ℕ} (R : ℕ → Type 0) → R (c .initial)
+      → ((i : ℕ) (r : Transition) → Nth c i r → memb j (r .starts) ≡ false → R (r .source) → R (r .target)) → {q : ℕ} → Unstarted c q j → R q
+  unstarted-least {j} R base step {q} x = go (x .path) (c .initial) base (x .leads) (x .nowhere)
+    where
+      go : (p : List ℕ) (s : ℕ) → R s → Path c s p q → StartsNowhere c j p → R q
+      go [] s h w u = subst R w h
+      go (i ∷ p) s h w u = go p (w .0 .target) (step i (w .0) (w .1) (u .0 (w .0) (w .1)) (subst R (sym (w .2)) h)) (w .3) (u .1)
+
   -- an unstarted location is reached
   pub unstarted-reached : {q j : ℕ} → Unstarted c q j → Reached c q
   unstarted-reached x = record { path = x .path; leads = x .leads }

@@ -9,7 +9,7 @@ use native.Mathlib.Nat.{suc-inj, suc-ne-zero}
 use native.Mathlib.Omega.{arith}
 use lib.Count.{ones, ones-le}
 use lib.Dec.{eqb}
-use lib.ListN.{length, getD}
+use lib.ListN.{length, getD, List·getD-eq-default}
 use Rattle.timer_set.specs.Members.{member}
 use Rattle.timer_set.proofs.Counts.{ones-grow}
 use Rattle.lists.specs.Lists.{lowest}
@@ -81,6 +81,9 @@ module _ (f : Flow) where
   pub length-settled : length (settled f) ≡ f .locations
   unfolding settled
   length-settled = length-rounds f (changing f)
+
+  pub settled-beyond : (q : ℕ) → f .locations ≤ q → getD (settled f) q 0 ≡ 0
+  settled-beyond q h = List·getD-eq-default (settled f) 0 (omega (arith, length-settled))
 
   module _ (shaped : Shaped f) where
     next : (k : ℕ) → (roundsOf f k ≡ roundsOf f (suc k)) ⊎ (total (roundsOf f k) < total (roundsOf f (suc k)))
