@@ -47,10 +47,12 @@ module _ {p : Pairs} (formed : WellFormed p) where
   has-joined : (f : Family) (q j : ℕ) → FamilyOfPair p f → has f q j ≡ true → (isPair p (f .first) j ≡ true) × Joined p j (f .first) q
   has-joined f q j a h =
       let t : f .timer ≡ j = has-timer f q j h in
-      let pair : isPair p (f .first) j ≡ true = subst (λ (x : ℕ). isPair p (f .first) x ≡ true) t (a .pair) in
-      (pair, family-has formed (f .first) j pair q .0
-      (subst (λ (x : ℕ). memb q (familyOf p (f .first) x .locations) ≡ true) t
-      (ap (λ (g : Family). memb q (g .locations)) (sym (a .whole)) ∙ has-location f q j h)))
+      let pair : isPair p (f .first) j ≡ true = subst (λ (x : ℕ). isPair p (f .first) x ≡ true) t (a .pair) in (
+        pair,
+        family-has formed (f .first) j pair q .0
+            (subst (λ (x : ℕ). memb q (familyOf p (f .first) x .locations) ≡ true) t
+            (ap (λ (g : Family). memb q (g .locations)) (sym (a .whole)) ∙ has-location f q j h)),
+      )
 
   has-whole : (f : Family) (q j : ℕ) → FamilyOfPair p f → has f q j ≡ true → f ≡ familyOf p q j
   has-whole f q j a h =
