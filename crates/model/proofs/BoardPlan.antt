@@ -1,10 +1,9 @@
 -- A chart's pairs are well formed, so its board numbers are a plan; each transition of the rewritten chart starts the numbers of the timers born
 -- on it; and 20 is given exactly where more than K numbers are used. Assumes nothing.
 use mathlib.Core.Path.{_≡_, refl, sym, ap, _∙_, subst}
-use mathlib.Core.Logic.{_⊎_, inl, inr, _↔_}
-use mathlib.Core.Bool.{Bool, true, false, not, _&&_}
-use mathlib.Core.Option.{Option, some}
-use mathlib.Core.List.{List, map, filterMap}
+use mathlib.Core.Logic.{inl, _↔_}
+use mathlib.Core.Bool.{true, false, not, _&&_}
+use mathlib.Core.Option.{some}
 use Prim.Native.Nat.{ℕ, _<_}
 use lib.ListN.{getD, getElem?}
 use Rattle.timer_set.specs.Members.{member, minus, common}
@@ -16,18 +15,18 @@ use Rattle.lists.proofs.Gather.{pick-in, pick-out}
 use Rattle.lists.proofs.Elements.{filter-in, filter-out}
 use Rattle.model.specs.Chart.{Transition, Chart, Nth}
 use Rattle.model.specs.Valid.{Valid}
-use Rattle.model.specs.Path.{ReadAt, Live, Born, Reached, UnstartedTest}
+use Rattle.model.specs.Path.{Live, Born, UnstartedTest}
 use Rattle.model.specs.Live.{startsSet, liveSets, live}
-use Rattle.model.specs.Family.{Link, Pairs, isPair, livePairs, Linked, families}
-use Rattle.model.specs.FirstFit.{Placed, firstFit, usedBy, numberAt, blocked, board, used}
-use Rattle.model.specs.Rewrite.{Numbering, numbering, newStarts}
+use Rattle.model.specs.Family.{Link, isPair, livePairs, Linked, families}
+use Rattle.model.specs.FirstFit.{firstFit, usedBy, numberAt, blocked, board, used}
+use Rattle.model.specs.Rewrite.{numbering, newStarts}
 use Rattle.model.specs.Plan.{Plan}
 use Rattle.model.proofs.Transitions.{nth-valid}
 use Rattle.model.proofs.Paths.{live-here, live-back, live-inside, live-unstarted}
 use Rattle.model.proofs.Joined.{WellFormed, WellFormedLink}
 use Rattle.model.proofs.FirstFit.{blocked-iff}
 use Rattle.model.proofs.NumberAt.{number-below}
-use Rattle.model.proofs.PairNumbers.{pair-number, number-pair, linked-same, pair-apart, pair-below}
+use Rattle.model.proofs.PairNumbers.{number-of-pair, number-pair, linked-same, apart, below}
 use Rattle.model.proofs.LivePaths.{live-iff}
 
 -- the timers that a transition links, and its link
@@ -85,7 +84,7 @@ module _ {W : ℕ} {c : Chart} (valid : Valid W c) where
 
   pub live-number : (q j : ℕ) → Live c q j → (k : ℕ) × (numberAt (board c) q j ≡ some k)
   unfolding board
-  live-number q j l = pair-number live-pairs-formed q j (pair-live q j .1 l)
+  live-number q j l = number-of-pair live-pairs-formed q j (pair-live q j .1 l)
 
   pub board-plan : ((i : ℕ) (r : Transition) → Nth c i r → UnstartedTest c r → ⊥) → Plan c (numbering (board c))
   unfolding numbering board
@@ -95,8 +94,8 @@ module _ {W : ℕ} {c : Chart} (valid : Valid W c) where
     keeps = λ i r j k n x f e.
         let l = number-live (r .target) j k e in
         linked-same live-pairs-formed (transition-links j n f (live-back n f l) l) ∙ e;
-    apart = λ q j j′ k x e e′ i r n y. ap (λ (t : ℕ). memb t (r .starts)) (pair-apart (livePairs c) q j k j′ e e′);
-    below = λ q j k e. pair-below (livePairs c) q j k e;
+    apart = λ q j j′ k x e e′ i r n y. ap (λ (t : ℕ). memb t (r .starts)) (apart (livePairs c) q j k j′ e e′);
+    below = λ q j k e. below (livePairs c) q j k e;
   }
 
   -- a transition of the rewritten chart starts exactly the numbers that the timers born on it have at its target

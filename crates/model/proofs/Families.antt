@@ -1,9 +1,8 @@
 -- The family computed of a pair is the family by chains of links: its locations, its number, the same for each of its pairs, and which ones meet.
 -- Assumes nothing.
-use mathlib.Core.Path.{_≡_, refl, sym, ap, _∙_, subst}
-use mathlib.Core.Logic.{_⊎_, inl, inr, _↔_}
-use mathlib.Core.Bool.{Bool, true, false}
-use mathlib.Core.List.{List}
+use mathlib.Core.Path.{_≡_, refl, sym, _∙_, subst}
+use mathlib.Core.Logic.{_↔_}
+use mathlib.Core.Bool.{true}
 use Prim.Native.Nat.{ℕ, _+_, _*_, _≤_, _<_}
 use native.Mathlib.Nat.{le-antisymm}
 use native.Mathlib.Omega.{arith}
@@ -18,7 +17,7 @@ use Rattle.lists.proofs.Gather.{pick-in, pick-out, pick-rising}
 use Rattle.lists.proofs.Rising.{rising-same}
 use Rattle.model.specs.Flow.{settled}
 use Rattle.model.specs.Family.{Pairs, isPair, Linked, Joined, Family, familyNumber, linkFlow, familyOf, meets}
-use Rattle.model.proofs.Joined.{WellFormed, joined-refl, joined-one, joined-trans, joined-sym, joined-carries, joined-pair}
+use Rattle.model.proofs.Joined.{WellFormed, joined-refl, joined-trans, joined-sym, joined-carries, joined-pair}
 use Rattle.model.proofs.LinkFlow.{link-flow-iff}
 
 -- n is the number of the family of (q, j): the smallest 64 times location plus timer among its pairs

@@ -3,8 +3,8 @@
 use mathlib.Core.Path.{_≡_, refl, sym, ap, ap₂, _∙_, subst}
 use mathlib.Core.Bool.{Bool, true, false}
 use mathlib.Core.Option.{some, Option·none-ne-some, Option·some-injective}
-use mathlib.Core.List.{List, [], _∷_, map}
-use Prim.Native.Nat.{ℕ, zero, suc, _+_, _*_, _≤_, _<_}
+use mathlib.Core.List.{[], _∷_, map}
+use Prim.Native.Nat.{ℕ, zero, suc, _+_, _*_}
 use native.Mathlib.Omega.{arith}
 use lib.Dec.{eqb}
 use lib.ListN.{getElem?}
@@ -14,7 +14,7 @@ use Rattle.lists.specs.Rising.{Rising}
 use Rattle.lists.proofs.Bools.{same-number}
 use Rattle.lists.proofs.Elements.{Element, gather-in, gather-out, gather-rising, rising-wider}
 use Rattle.model.specs.Family.{Pairs, isPair, Joined, Family, familyNumber, familyOf, familyFrom, families}
-use Rattle.model.proofs.Joined.{WellFormed, joined-pair, joined-sym}
+use Rattle.model.proofs.Joined.{WellFormed, joined-pair}
 use Rattle.model.proofs.Families.{family-timer, first-joined, family-same}
 
 -- f is the family of a pair, the pair of its first location
@@ -65,9 +65,9 @@ module _ (p : Pairs) (q j : ℕ) where
       go false = tt
 
 module _ {p : Pairs} (formed : WellFormed p) where
-  pub family-in : (q j : ℕ) → isPair p q j ≡ true → Element (families p) (familyOf p q j)
+  pub families-have : (q j : ℕ) → isPair p q j ≡ true → Element (families p) (familyOf p q j)
   unfolding families
-  family-in q j pair =
+  families-have q j pair =
       let x = familyOf p q j .first in
       let a : Joined p j q x = first-joined formed q j pair in
       let there : isPair p x j ≡ true = joined-pair formed a pair in
@@ -76,9 +76,9 @@ module _ {p : Pairs} (formed : WellFormed p) where
       (gather-in _ (p .locations) x (formed .location x j there)
       (gather-in _ (p .timers) j (formed .timer x j there) (from-in p x j there (ap (λ (f : Family). f .first) (sym same)))))
 
-  pub family-out : (i : ℕ) (f : Family) → getElem? (families p) i ≡ some f → FamilyOfPair p f
+  pub families-are : (i : ℕ) (f : Family) → getElem? (families p) i ≡ some f → FamilyOfPair p f
   unfolding families
-  family-out i f e =
+  families-are i f e =
       let a = gather-out _ (p .locations) i e in
       let b = gather-out _ (p .timers) (a .element .place) (a .element .is-nth) in
       from-out p (a .number) (b .number) (b .element .place) (b .element .is-nth)

@@ -7,13 +7,12 @@ use mathlib.Core.Option.{some, Option·none-ne-some, Option·some-injective}
 use mathlib.Core.List.{List, [], _∷_, _++_, map}
 use Prim.Native.Nat.{ℕ, zero, suc, max, _≤_, _<_}
 use native.Mathlib.Omega.{arith}
-use lib.Dec.{eqb}
 use lib.ListN.{getElem?}
 use borrow.Author.Tests.{eq-eqb}
-use Rattle.lists.specs.Lists.{memb, lowest, top}
+use Rattle.lists.specs.Lists.{memb, top}
 use Rattle.lists.proofs.Bools.{not-both, not-true, not-false, is-no, or-cases, or-left, or-right, same-number, lt-or-le}
 use Rattle.lists.proofs.Membership.{memb-cases, memb-head, memb-tail, memb-nil, nth-memb, memb-nth, nth-map, nth-unmap, top-above, top-below}
-use Rattle.lists.proofs.Lowest.{lowest-le, lowest-passes, lowest-before, lowest-is}
+use Rattle.lists.proofs.Lowest.{lowest-passes, lowest-before, lowest-is}
 use Rattle.model.specs.Family.{Family, meets}
 use Rattle.model.specs.FirstFit.{Placed, held, free, place, usedBy, allHeld, blocked}
 

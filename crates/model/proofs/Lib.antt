@@ -15,4 +15,5 @@ pub mod LinkFlow
 pub mod Families
 pub mod FamilyList
 pub mod PairNumbers
+pub mod PlacedOnce
 pub mod BoardPlan

@@ -3,7 +3,7 @@ use mathlib.Core.Path.{_≡_, refl, sym, ap, _∙_, subst, subst₂}
 use mathlib.Core.Logic.{_⊎_, inl, inr, _↔_}
 use mathlib.Core.Bool.{Bool, true, false, not, _&&_}
 use mathlib.Core.Option.{some}
-use mathlib.Core.List.{List, map, _++_}
+use mathlib.Core.List.{map, _++_}
 use Prim.Native.Nat.{ℕ, _^_, _<_}
 use native.Mathlib.Omega.{arith}
 use lib.Dec.{eqb}
@@ -14,9 +14,9 @@ use lib.Pow.{pow-lt, pow-pos}
 use Rattle.lists.proofs.Bools.{not-both, not-false, eqb-self, same-number}
 use Rattle.lists.proofs.Membership.{nth-map, nth-unmap}
 use Rattle.lists.proofs.Elements.{Element, element-left, element-right, element-cases}
-use Rattle.model.specs.Flow.{Edge, Flow, settled}
+use Rattle.model.specs.Flow.{Edge, settled}
 use Rattle.model.specs.Family.{Link, Pairs, isPair, Linked, Joined, linkFlow}
-use Rattle.model.proofs.Flow.{EdgeInto, Comes, Shaped}
+use Rattle.model.proofs.Flow.{Comes, Shaped}
 use Rattle.model.proofs.Flow.Comes.{owned, gained, along}
 use Rattle.model.proofs.Settled.{settled-iff}
 use Rattle.model.proofs.Joined.{WellFormed, WellFormedLink, joined-refl, joined-one, joined-trans, joined-carries}

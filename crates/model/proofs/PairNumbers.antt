@@ -1,10 +1,10 @@
 -- The numbers that first fit gives to pairs: each pair has the number of its family, and nothing else has one; linked pairs have one number,
 -- two timers of a location have two. Assumes nothing.
-use mathlib.Core.Path.{_≡_, refl, sym, ap, _∙_, subst}
+use mathlib.Core.Path.{_≡_, sym, ap, _∙_, subst}
 use mathlib.Core.Logic.{_⊎_, inl, inr}
-use mathlib.Core.Bool.{Bool, true, false}
-use mathlib.Core.Option.{Option, some, Option·none-ne-some}
-use mathlib.Core.List.{List, []}
+use mathlib.Core.Bool.{true}
+use mathlib.Core.Option.{some, Option·none-ne-some}
+use mathlib.Core.List.{[]}
 use Prim.Native.Nat.{ℕ, _<_}
 use lib.ListN.{getElem?}
 use Rattle.lists.specs.Lists.{memb}
@@ -13,9 +13,9 @@ use Rattle.model.specs.Family.{Pairs, isPair, Linked, Joined, Family, fa
 use Rattle.model.specs.FirstFit.{Placed, place, firstFit, usedBy, numberAt}
 use Rattle.model.proofs.FirstFit.{FirstFitRule, Fitted, first-fit-rule, place-fitted}
 use Rattle.model.proofs.NumberAt.{has, has-timer, has-location, has-pair, number-in, number-out, number-same, number-apart, number-below, place-in, place-out}
-use Rattle.model.proofs.Joined.{WellFormed, joined-refl, joined-one, joined-trans, joined-sym, joined-pair, linked-sym, linked-pair}
+use Rattle.model.proofs.Joined.{WellFormed, joined-refl, joined-one, joined-sym, joined-pair, linked-sym, linked-pair}
 use Rattle.model.proofs.Families.{family-timer, family-has, family-same}
-use Rattle.model.proofs.FamilyList.{FamilyOfPair, family-in, family-out}
+use Rattle.model.proofs.FamilyList.{FamilyOfPair, families-have, families-are}
 
 -- the family of the pair (q, j) was given the number k
 pub record PairNumber (p : Pairs) (q j k : ℕ) : Type 0 where
@@ -35,16 +35,16 @@ unfolding firstFit
 first-fit-families p = first-fit-rule (families p)
 
 module _ {p : Pairs} (formed : WellFormed p) where
-  placed-family : (i : ℕ) (g : Placed) → getElem? (firstFit p) i ≡ some g → FamilyOfPair p (g .family)
+  pub placed-family : (i : ℕ) (g : Placed) → getElem? (firstFit p) i ≡ some g → FamilyOfPair p (g .family)
   unfolding firstFit
   placed-family i g e = go (place-out (families p) [] i g e)
     where
       go : ((i : ℕ) × (getElem? (families p) i ≡ some (g .family))) ⊎ ((i : ℕ) × (getElem? [] i ≡ some g)) → FamilyOfPair p (g .family)
-      go (inl x) = family-out formed (x .0) (g .family) (x .1)
+      go (inl x) = families-are formed (x .0) (g .family) (x .1)
       go (inr x) = absurd (Option·none-ne-some _ (x .1))
 
   -- a family of a pair has the pair (q, j) if (q, j) is joined to its first
-  has-joined : (f : Family) (q j : ℕ) → FamilyOfPair p f → has f q j ≡ true → (isPair p (f .first) j ≡ true) × Joined p j (f .first) q
+  pub has-joined : (f : Family) (q j : ℕ) → FamilyOfPair p f → has f q j ≡ true → (isPair p (f .first) j ≡ true) × Joined p j (f .first) q
   has-joined f q j a h =
       let t : f .timer ≡ j = has-timer f q j h in
       let pair : isPair p (f .first) j ≡ true = subst (λ (x : ℕ). isPair p (f .first) x ≡ true) t (a .pair) in (
@@ -54,15 +54,15 @@ module _ {p : Pairs} (formed : WellFormed p) where
             (ap (λ (g : Family). memb q (g .locations)) (sym (a .whole)) ∙ has-location f q j h)),
       )
 
-  has-whole : (f : Family) (q j : ℕ) → FamilyOfPair p f → has f q j ≡ true → f ≡ familyOf p q j
+  pub has-whole : (f : Family) (q j : ℕ) → FamilyOfPair p f → has f q j ≡ true → f ≡ familyOf p q j
   has-whole f q j a h =
       let x = has-joined f q j a h in
       a .whole ∙ ap (λ (i : ℕ). familyOf p (f .first) i) (has-timer f q j h) ∙ family-same formed (x .0) (x .1)
 
-  pub pair-number : (q j : ℕ) → isPair p q j ≡ true → (k : ℕ) × (numberAt (firstFit p) q j ≡ some k)
+  pub number-of-pair : (q j : ℕ) → isPair p q j ≡ true → (k : ℕ) × (numberAt (firstFit p) q j ≡ some k)
   unfolding firstFit
-  pair-number q j pair =
-      let e = family-in formed q j pair in
+  number-of-pair q j pair =
+      let e = families-have formed q j pair in
       let x = place-in (families p) [] (e .place) (familyOf p q j) (e .is-nth) in
       number-in q j (firstFit p) (x .place) (x .placed) (x .is-nth)
       (subst (λ (f : Family). has f q j ≡ true) (sym (x .family))
@@ -96,8 +96,8 @@ module _ {p : Pairs} (formed : WellFormed p) where
 
 -- two timers of a location have two numbers, and all numbers are below the number of numbers used
 module _ (p : Pairs) (q j k : ℕ) where
-  pub pair-apart : (j′ : ℕ) → numberAt (firstFit p) q j ≡ some k → numberAt (firstFit p) q j′ ≡ some k → j ≡ j′
-  pair-apart j′ = number-apart q j j′ k (firstFit p) (first-fit-fitted p)
+  pub apart : (j′ : ℕ) → numberAt (firstFit p) q j ≡ some k → numberAt (firstFit p) q j′ ≡ some k → j ≡ j′
+  apart j′ = number-apart q j j′ k (firstFit p) (first-fit-fitted p)
 
-  pub pair-below : numberAt (firstFit p) q j ≡ some k → k < usedBy (firstFit p)
-  pair-below = number-below q j (firstFit p) k
+  pub below : numberAt (firstFit p) q j ≡ some k → k < usedBy (firstFit p)
+  below = number-below q j (firstFit p) k
