@@ -1,2 +1,4 @@
 pub mod Starred
+pub mod Transitions
+pub mod Paths
 pub mod Rewritten
