@@ -1,4 +1,7 @@
 pub mod Starred
 pub mod Transitions
 pub mod Paths
+pub mod Answers
+pub mod Steps
 pub mod Rewritten
+pub mod Agree

@@ -17,10 +17,6 @@ use Rattle.model.specs.Run.{Counts, allMet}
 use Rattle.model.specs.Rewrite.{Numbering, renamed, newTests, newStarts, newTransition, rewrittenBy}
 use Rattle.model.specs.Plan.{Has}
 
--- a chart has one transition of a number
-pub nth-same : {c : Chart} {i : ℕ} {r r′ : Transition} → Nth c i r → Nth c i r′ → r ≡ r′
-nth-same n n′ = Option·some-injective _ _ (sym (n .there) ∙ n′ .there)
-
 module _ (N : Numbering) (c : Chart) (i : ℕ) where
   pub new-nth : {r : Transition} → Nth c i r → Nth (rewrittenBy N c) i (newTransition N r)
   unfolding rewrittenBy
