@@ -5,3 +5,4 @@ pub mod Answers
 pub mod Steps
 pub mod Rewritten
 pub mod Agree
+pub mod EqualRuns
