@@ -6,3 +6,4 @@ pub mod Steps
 pub mod Rewritten
 pub mod Agree
 pub mod EqualRuns
+pub mod RewrittenPaths
