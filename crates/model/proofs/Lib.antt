@@ -7,3 +7,4 @@ pub mod Rewritten
 pub mod Agree
 pub mod EqualRuns
 pub mod RewrittenPaths
+pub mod RewrittenValid
