@@ -8,3 +8,4 @@ pub mod Agree
 pub mod EqualRuns
 pub mod RewrittenPaths
 pub mod RewrittenValid
+pub mod PlayerNumbers
