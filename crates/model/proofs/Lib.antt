@@ -9,3 +9,4 @@ pub mod EqualRuns
 pub mod RewrittenPaths
 pub mod RewrittenValid
 pub mod PlayerNumbers
+pub mod PlayerLaws
