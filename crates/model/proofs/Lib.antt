@@ -10,3 +10,4 @@ pub mod RewrittenPaths
 pub mod RewrittenValid
 pub mod PlayerNumbers
 pub mod PlayerLaws
+pub mod PlayerAnswer
