@@ -11,3 +11,4 @@ pub mod RewrittenValid
 pub mod PlayerNumbers
 pub mod PlayerLaws
 pub mod PlayerAnswer
+pub mod RewritingAlike

@@ -104,9 +104,9 @@ module _ (c : Chart) where
   abbrev Refused : Answer Chart → Type 0
   Refused x = (n p : ℕ) × (x ≡ refused n p) × (memb n (9 ∷ 10 ∷ []) ≡ true)
 
-  pub judged-cases : (judged c ≡ result c) ⊎ ((n p : ℕ) × (judged c ≡ refused n p) × (memb n (9 ∷ 10 ∷ []) ≡ true))
+  pub judged-either : (judged c ≡ result c) ⊎ ((n p : ℕ) × (judged c ≡ refused n p) × (memb n (9 ∷ 10 ∷ []) ≡ true))
   unfolding judged
-  judged-cases = two-tests (leb (c .locations) (firstUnreached c)) (leb (length (c .transitions)) (firstUnstarted c)) (firstUnreached c) (firstUnstarted c)
+  judged-either = two-tests (leb (c .locations) (firstUnreached c)) (leb (length (c .transitions)) (firstUnstarted c)) (firstUnreached c) (firstUnstarted c)
     where
       two-tests : (b b′ : Bool) (p p′ : ℕ)
           → (unless b 9 p (unless b′ 10 p′ (result c)) ≡ result c) ⊎ Refused (unless b 9 p (unless b′ 10 p′ (result c)))
@@ -116,7 +116,7 @@ module _ (c : Chart) where
 
   -- a result of the judgement is the chart itself
   pub judged-is : {c′ : Chart} → judged c ≡ result c′ → judged c ≡ result c
-  judged-is e = go judged-cases
+  judged-is e = go judged-either
     where
       go : (judged c ≡ result c) ⊎ Refused (judged c) → judged c ≡ result c
       go (inl h) = h
@@ -133,7 +133,7 @@ module _ (c : Chart) (counts is ts : List ℕ) where
 
   -- the player is refused 9 or 10 exactly as the judgement of the chart is
   pub played-9-10 : (n p : ℕ) → memb n (9 ∷ 10 ∷ []) ≡ true → (played c counts is ts ≡ refused n p) ↔ (judged c ≡ refused n p)
-  played-9-10 n p m = (λ e. go (judged-cases c) e, played-refused)
+  played-9-10 n p m = (λ e. go (judged-either c) e, played-refused)
     where
       go : (judged c ≡ result c) ⊎ ((n p : ℕ) × (judged c ≡ refused n p) × (memb n (9 ∷ 10 ∷ []) ≡ true)) → played c counts is ts ≡ refused n p
           → judged c ≡ refused n p
@@ -141,7 +141,7 @@ module _ (c : Chart) (counts is ts : List ℕ) where
       go (inr h) e = let x = refused-same (sym (played-refused (h .2)) ∙ e) in h .2 ∙ ap₂ refused (x .0) (x .1)
 
   pub played-numbers : (n p : ℕ) → played c counts is ts ≡ refused n p → memb n (9 ∷ 10 ∷ 12 ∷ 13 ∷ 14 ∷ 15 ∷ 22 ∷ 23 ∷ 24 ∷ []) ≡ true
-  played-numbers n p e = memb-append n (9 ∷ 10 ∷ []) later ∙ go (judged-cases c)
+  played-numbers n p e = memb-append n (9 ∷ 10 ∷ []) later ∙ go (judged-either c)
     where
       go : (judged c ≡ result c) ⊎ ((n p : ℕ) × (judged c ≡ refused n p) × (memb n (9 ∷ 10 ∷ []) ≡ true))
           → (memb n (9 ∷ 10 ∷ []) || memb n later) ≡ true
