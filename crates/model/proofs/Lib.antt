@@ -1,6 +1,14 @@
 pub mod Starred
 pub mod Transitions
+pub mod TransitionSets
 pub mod Paths
+pub mod Edges
+pub mod Flow
+pub mod Rounds
+pub mod Settled
+pub mod LivePaths
+pub mod Forward
+pub mod Judgement
 pub mod Answers
 pub mod Steps
 pub mod Rewritten

@@ -1,10 +1,9 @@
 -- Paths: how they join, and the ways to be live, reached or unstarted one transition at a time. Assumes nothing.
-use mathlib.Core.Path.{_≡_, refl, sym, ap, _∙_, subst}
+use mathlib.Core.Path.{_≡_, refl, sym, _∙_, subst}
 use mathlib.Core.Logic.{_⊎_, inl, inr}
-use mathlib.Core.Bool.{Bool, true, false}
+use mathlib.Core.Bool.{true, false}
 use mathlib.Core.List.{List, [], _∷_, _++_}
 use Prim.Native.Nat.{ℕ, _<_}
-use native.Mathlib.Omega.{arith}
 use Rattle.lists.specs.Lists.{memb}
 use Rattle.model.specs.Chart.{Transition, Chart, Nth, tested}
 use Rattle.model.specs.Valid.{Valid}
@@ -84,11 +83,10 @@ pub record Inside (c : Chart) (q j : ℕ) : Type 0 where
   pub timer : j < c .timers
 
 pub live-inside : {W : ℕ} {c : Chart} {q j : ℕ} → Valid W c → Live c q j → Inside c q j
-live-inside {W} {c} {q} {j} valid l = record { location = below (live-cases l); timer = tested-below valid j (l .read .is-nth) (l .read .tests-it) }
-  where
-    below : ReadAt c q j ⊎ LiveOnward c q j → q < c .locations
-    below (inl r) = subst (λ (x : ℕ). x < c .locations) (r .leaves) (nth-valid valid (r .is-nth) .source)
-    below (inr r) = subst (λ (x : ℕ). x < c .locations) (r .leaves) (nth-valid valid (r .is-nth) .source)
+live-inside {c = c} {j = j} valid l = record {
+  location = live-least (λ (s : ℕ). s < c .locations) (λ i r n t. nth-valid valid n .source) (λ i r n f b. nth-valid valid n .source) l;
+  timer = tested-below valid j (l .read .is-nth) (l .read .tests-it);
+}
 
 -- ---- from the initial location forwards
 
@@ -108,6 +106,22 @@ module _ {c : Chart} where
     leads = path-more c (x .path) (c .initial) (x .leads) n;
     nowhere = starts-append c j (x .path) (i ∷ []) (x .nowhere) (starts-one c j n f);
   }
+
+  -- what holds at the initial location, and on over each transition, holds wherever a path leads; and so over those that do not start j
+  pub reached-least : (R : ℕ → Type 0) → R (c .initial) → ((i : ℕ) (r : Transition) → Nth c i r → R (r .source) → R (r .target)) → {q : ℕ} → Reached c q → R q
+  reached-least R base step {q} x = go (x .path) (c .initial) base (x .leads)
+    where
+      go : (p : List ℕ) (s : ℕ) → R s → Path c s p q → R q
+      go [] s h w = subst R w h
+      go (i ∷ p) s h w = go p (w .0 .target) (step i (w .0) (w .1) (subst R (sym (w .2)) h)) (w .3)
+
+  pub unstarted-least : {j : ℕ} (R : ℕ → Type 0) → R (c .initial)
+      → ((i : ℕ) (r : Transition) → Nth c i r → memb j (r .starts) ≡ false → R (r .source) → R (r .target)) → {q : ℕ} → Unstarted c q j → R q
+  unstarted-least {j} R base step {q} x = go (x .path) (c .initial) base (x .leads) (x .nowhere)
+    where
+      go : (p : List ℕ) (s : ℕ) → R s → Path c s p q → StartsNowhere c j p → R q
+      go [] s h w u = subst R w h
+      go (i ∷ p) s h w u = go p (w .0 .target) (step i (w .0) (w .1) (u .0 (w .0) (w .1)) (subst R (sym (w .2)) h)) (w .3) (u .1)
 
   -- an unstarted location is reached
   pub unstarted-reached : {q j : ℕ} → Unstarted c q j → Reached c q
