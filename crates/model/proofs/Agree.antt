@@ -1,5 +1,5 @@
 -- What the states of a chart and of the rewritten chart have in common during a run, and that one step keeps it. Assumes nothing.
-use mathlib.Core.Path.{_≡_, refl, sym, ap, ap₂, _∙_, subst}
+use mathlib.Core.Path.{_≡_, refl, sym, ap, ap₂, _∙_}
 use mathlib.Core.Logic.{_⊎_, inl, inr}
 use mathlib.Core.Bool.{Bool, true, false}
 use mathlib.Core.Option.{Option, none, some}
@@ -9,8 +9,7 @@ use lib.Dec.{leb, eqb}
 use lib.ListN.{getElem?}
 use Rattle.lists.specs.Lists.{memb}
 use Rattle.lists.proofs.Bools.{yes-or-no, not-both, is-no, same-number}
-use Rattle.model.specs.Answer.{Answer, result, refused, unless}
-use Rattle.model.specs.Chart.{Transition, Chart, Nth, tested}
+use Rattle.model.specs.Chart.{Transition, Chart, Nth}
 use Rattle.model.specs.Run.{Counts, State, Step, grown, restarted, allMet, after, attempt, begin}
 use Rattle.model.specs.Path.{Reached}
 use Rattle.model.specs.Rewrite.{Numbering, newTests, newStarts, newTransition, rewrittenBy}

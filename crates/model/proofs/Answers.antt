@@ -1,6 +1,6 @@
 -- Answers: two of them that match, and which refusal numbers they can hold. Assumes nothing.
-use mathlib.Core.Path.{_≡_, refl, sym, ap, _∙_, subst}
-use mathlib.Core.Bool.{Bool, true, false, true≢false}
+use mathlib.Core.Path.{_≡_, refl, sym, ap₂, subst}
+use mathlib.Core.Bool.{Bool, true, false}
 use mathlib.Core.List.{List}
 use Prim.Native.Nat.{ℕ}
 use Rattle.lists.specs.Lists.{memb}
@@ -73,7 +73,7 @@ module _ {A B : Type 0} (R : A → B → Type 0) where
   match-same (result a) (result b) f g h m = h a b m
   match-same (result a) (refused n p) f g h m = absurd m
   match-same (refused n p) (result b) f g h m = absurd m
-  match-same (refused n p) (refused n′ p′) f g h m = mathlib.Core.Path.ap₂ refused (m .0) (m .1)
+  match-same (refused n p) (refused n′ p′) f g h m = ap₂ refused (m .0) (m .1)
 
 -- ---- the number of a refusal is one of a list
 

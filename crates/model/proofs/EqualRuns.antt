@@ -1,17 +1,17 @@
 -- For every plan a chart and its rewritten chart have equal runs (demand 3 on charts). Assumes nothing.
-use mathlib.Core.Path.{_≡_, refl, sym, ap, ap₂, _∙_, subst}
+use mathlib.Core.Path.{_≡_, refl, sym, ap, ap₂, _∙_}
 use mathlib.Core.Logic.{_⊎_, inl, inr, _↔_}
-use mathlib.Core.Bool.{Bool, true}
+use mathlib.Core.Bool.{Bool}
 use mathlib.Core.Option.{some}
 use mathlib.Core.List.{List, [], _∷_, _++_}
 use Prim.Native.Nat.{ℕ, suc, _+_}
 use lib.ListN.{getElem?}
 use Rattle.lists.specs.Lists.{memb}
-use Rattle.model.specs.Answer.{Answer, result, then}
+use Rattle.model.specs.Answer.{Answer, result}
 use Rattle.model.specs.Chart.{Test, Transition, Chart, Nth}
 use Rattle.model.specs.Run.{Counts, State, Step, Run, EndsAccepting, grown, attempt, steps, begin, outcome, everyTime, playerTime, accepts, waited}
-use Rattle.model.specs.Rewrite.{Numbering, newTests, newTransition, rewrittenBy}
-use Rattle.model.specs.Plan.{Has, Plan}
+use Rattle.model.specs.Rewrite.{Numbering, newTransition, rewrittenBy}
+use Rattle.model.specs.Plan.{Plan}
 use Rattle.model.specs.Player.{Arrival, arrival, answerOf}
 use Rattle.model.specs.Equivalence.{Starts, StartedIn, Reads, SamePoint, SamePoints, IsRun, Alike}
 use Rattle.model.proofs.Answers.{Matching, match-then, match-weaken, match-result, match-result′, match-same}

@@ -29,3 +29,4 @@ pub mod PlayerNumbers
 pub mod PlayerLaws
 pub mod PlayerAnswer
 pub mod RewritingAlike
+pub mod EqualAnswers

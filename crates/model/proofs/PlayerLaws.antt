@@ -1,7 +1,6 @@
 -- The player on two charts that behave alike gives one answer, from any counts that 12 allows. Assumes nothing.
 use mathlib.Core.Path.{_≡_, refl, sym, ap, _∙_}
-use mathlib.Core.Logic.{_↔_}
-use mathlib.Core.Bool.{Bool, true, false, not}
+use mathlib.Core.Bool.{not}
 use mathlib.Core.List.{List}
 use Prim.Native.Nat.{ℕ, _≤_, _<_}
 use native.Mathlib.Omega.{arith}
@@ -9,18 +8,18 @@ use lib.Dec.{leb, eqb}
 use lib.ListN.{length, getD}
 use borrow.Author.Tests.{leb-true, le-leb, eqb-true, eq-eqb, not-false}
 use Rattle.lists.specs.Lists.{lowest}
-use Rattle.lists.proofs.Lowest.{lowest-le, lowest-before, lowest-is}
+use Rattle.lists.proofs.Lowest.{lowest-before, lowest-is}
 use Rattle.model.specs.Answer.{Answer, result, unless, nowhere}
 use Rattle.model.specs.Chart.{Chart}
 use Rattle.model.specs.Run.{playerTime}
 use Rattle.model.specs.Rewrite.{Numbering, rewrittenBy}
 use Rattle.model.specs.Plan.{Plan}
 use Rattle.model.specs.Judge.{judged}
-use Rattle.model.specs.Player.{Arrival, answerOf, tooLarge, countsJudged, stepsOf, played}
+use Rattle.model.specs.Player.{answerOf, tooLarge, countsJudged, stepsOf, played}
 use Rattle.model.specs.Equivalence.{Alike}
 use Rattle.model.proofs.Answers.{unless-passed}
 use Rattle.model.proofs.EqualRuns.{plan-alike}
-use Rattle.model.proofs.PlayerNumbers.{playedOn, played-judged}
+use Rattle.model.proofs.PlayerNumbers.{played-judged}
 
 -- one count for each timer, none over 16,777,215
 pub record CountsAllowed (c : Chart) (counts : List ℕ) : Type 0 where

@@ -10,7 +10,7 @@ use lib.ListN.{length, getD, getElem?}
 use Rattle.lists.specs.Lists.{memb, lowest}
 use Rattle.lists.proofs.Bools.{or-left, or-right}
 use Rattle.lists.proofs.Membership.{memb-cases, memb-nil, memb-append}
-use Rattle.model.specs.Answer.{Answer, result, refused, then, unless, nowhere}
+use Rattle.model.specs.Answer.{Answer, result, refused, unless, nowhere}
 use Rattle.model.specs.Chart.{Transition, Chart}
 use Rattle.model.specs.Run.{Counts, State, Step, grown, allMet, after, attempt, steps, begin, outcome, everyTime, playerTime}
 use Rattle.model.specs.Live.{firstUnreached, firstUnstarted}

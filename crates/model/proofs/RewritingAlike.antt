@@ -1,6 +1,6 @@
 -- What the rewriting of a chart returns behaves as the chart, and the player answers alike for both. Assumes nothing.
-use mathlib.Core.Path.{_≡_, refl, sym, ap, _∙_, subst}
-use mathlib.Core.Bool.{Bool, true, false, not}
+use mathlib.Core.Path.{_≡_, refl, sym, ap}
+use mathlib.Core.Bool.{false, not}
 use mathlib.Core.List.{List}
 use Prim.Native.Nat.{ℕ, _≤_}
 use native.Mathlib.Omega.{arith}
@@ -10,7 +10,7 @@ use Rattle.model.specs.Answer.{Answer, result, refused, then, unless, no
 use Rattle.model.specs.Chart.{Chart}
 use Rattle.model.specs.Valid.{Valid}
 use Rattle.model.specs.FirstFit.{board, usedBy, blocked}
-use Rattle.model.specs.Rewrite.{Numbering, numbering, rewrittenBy}
+use Rattle.model.specs.Rewrite.{numbering, rewrittenBy}
 use Rattle.model.specs.Plan.{Plan}
 use Rattle.model.specs.Judge.{Rewriting, judged, fitted, rewriting}
 use Rattle.model.specs.Player.{played}

@@ -1,17 +1,18 @@
 -- The rewritten chart, transition by transition: what its tests read, what its starts start. Assumes nothing.
-use mathlib.Core.Path.{_≡_, refl, sym, ap, ap₂, _∙_, subst}
+use mathlib.Core.Path.{_≡_, refl, sym, ap, ap₂, _∙_}
 use mathlib.Core.Logic.{_⊎_, inl, inr}
-use mathlib.Core.Bool.{Bool, true, false, _&&_}
+use mathlib.Core.Bool.{true, _&&_}
 use mathlib.Core.Option.{Option, none, some, Option·some-injective, Option·none-ne-some}
 use mathlib.Core.List.{List, [], _∷_, filterMap, filterMap-cons-none, filterMap-cons-some}
 use Prim.Native.Nat.{ℕ, zero, suc, _<_}
 use lib.Dec.{eqb}
 use lib.ListN.{getElem?}
 use Rattle.comparison.specs.Comparison.{met}
-use Rattle.lists.specs.Lists.{memb, anyOf, pick}
-use Rattle.lists.proofs.Bools.{or-cases, or-left, or-right, eqb-self, same-number}
-use Rattle.lists.proofs.Membership.{memb-cases, memb-head, memb-tail, memb-nil, any-in, any-out, nth-map, nth-none, nth-unmap}
+use Rattle.lists.specs.Lists.{memb, anyOf}
+use Rattle.lists.proofs.Bools.{not-both, or-cases, or-right, eqb-self, same-number}
+use Rattle.lists.proofs.Membership.{any-in, nth-map, nth-none, nth-unmap}
 use Rattle.lists.proofs.Gather.{pick-in, pick-out}
+use Rattle.lists.proofs.Elements.{filter-in, filter-out}
 use Rattle.model.specs.Chart.{Test, Transition, Chart, Nth, tested}
 use Rattle.model.specs.Run.{Counts, allMet}
 use Rattle.model.specs.Rewrite.{Numbering, renamed, newTests, newStarts, newTransition, rewrittenBy}
@@ -95,7 +96,7 @@ module _ (N : Numbering) (q : ℕ) where
 
   -- a timer that a test of the new list reads is the number of one that a test of the list reads
   pub tested-old : (k : ℕ) (ts : List Test) → tested k (newTests N q ts) ≡ true → (j : ℕ) × (tested j ts ≡ true) × Has N q j k
-  tested-old k [] h = absurd (Rattle.lists.proofs.Bools.not-both h (unfold tested anyOf newTests filterMap in refl))
+  tested-old k [] h = absurd (not-both h (unfold tested anyOf newTests filterMap in refl))
   tested-old k (t ∷ ts) h = go (N .number q (t .timer)) refl (tested-old k ts)
     where
       Old : List Test → Type 0
@@ -115,45 +116,15 @@ module _ (N : Numbering) (q : ℕ) where
 
 -- ---- starts
 
-module _ (f : ℕ → Option ℕ) where
-  pub numbers-in : (j k : ℕ) (l : List ℕ) → memb j l ≡ true → f j ≡ some k → memb k (filterMap f l) ≡ true
-  numbers-in j k [] m e = absurd (memb-nil j m)
-  numbers-in j k (x ∷ l) m e = go (f x) refl (memb-cases j x l m) (λ (n : memb j l ≡ true). numbers-in j k l n e)
-    where
-      go : (o : Option ℕ) → f x ≡ o → (j ≡ x) ⊎ (memb j l ≡ true) → (memb j l ≡ true → memb k (filterMap f l) ≡ true) → memb k (filterMap f (x ∷ l)) ≡ true
-      go none a (inl p) ih = absurd (Option·none-ne-some k (sym a ∙ ap f (sym p) ∙ e))
-      go none a (inr n) ih = rw (filterMap-cons-none f x l a) (ih n)
-      go (some y) a (inl p) ih =
-          rw (filterMap-cons-some f x l a) (memb-head k y (filterMap f l) (Option·some-injective _ _ (sym e ∙ ap f p ∙ a)))
-      go (some y) a (inr n) ih = rw (filterMap-cons-some f x l a) (memb-tail k y (filterMap f l) (ih n))
-
-  pub numbers-out : (k : ℕ) (l : List ℕ) → memb k (filterMap f l) ≡ true → (j : ℕ) × (memb j l ≡ true) × (f j ≡ some k)
-  numbers-out k [] m = absurd (memb-nil k (unfold filterMap in m))
-  numbers-out k (x ∷ l) m = go (f x) refl (numbers-out k l)
-    where
-      Old : List ℕ → Type 0
-      Old xs = (j : ℕ) × (memb j xs ≡ true) × (f j ≡ some k)
-
-      later : Old l → Old (x ∷ l)
-      later y = (y .0, memb-tail (y .0) x l (y .1), y .2)
-
-      here : (n : ℕ) → f x ≡ some n → (memb k (filterMap f l) ≡ true → Old l) → (k ≡ n) ⊎ (memb k (filterMap f l) ≡ true) → Old (x ∷ l)
-      here n a ih (inl e) = (x, memb-head x x l refl, a ∙ ap some (sym e))
-      here n a ih (inr h) = later (ih h)
-
-      go : (o : Option ℕ) → f x ≡ o → (memb k (filterMap f l) ≡ true → Old l) → Old (x ∷ l)
-      go none a ih = later (ih (rw (filterMap-cons-none f x l a) at m))
-      go (some n) a ih = here n a ih (memb-cases k n (filterMap f l) (rw (filterMap-cons-some f x l a) at m))
-
 -- a transition starts the numbers at its target of the timers that it starts, and no others
 module _ (N : Numbering) (r : Transition) where
   pub starts-in : (j k : ℕ) → memb j (r .starts) ≡ true → Has N (r .target) j k → k < N .used → memb k (newStarts N r) ≡ true
   unfolding newStarts
-  starts-in j k m a b = pick-in _ (N .used) k b (numbers-in (N .number (r .target)) j k (r .starts) m a)
+  starts-in j k m a b = pick-in _ (N .used) k b (filter-in (N .number (r .target)) (r .starts) j k m a)
 
   pub starts-out : (k : ℕ) → memb k (newStarts N r) ≡ true → (j : ℕ) × (memb j (r .starts) ≡ true) × Has N (r .target) j k
   unfolding newStarts
-  starts-out k m = numbers-out (N .number (r .target)) k (r .starts) (pick-out _ (N .used) k m .1)
+  starts-out k m = filter-out (N .number (r .target)) (r .starts) k (pick-out _ (N .used) k m .1)
 
   pub starts-below : (k : ℕ) → memb k (newStarts N r) ≡ true → k < N .used
   unfolding newStarts

@@ -1,14 +1,13 @@
 -- The rewritten chart has the paths of the chart, and no test of it is unstarted. Assumes nothing.
-use mathlib.Core.Path.{_≡_, refl, sym, ap, _∙_, subst}
-use mathlib.Core.Logic.{_⊎_, inl, inr, _↔_}
-use mathlib.Core.Bool.{Bool, true, false}
+use mathlib.Core.Path.{_≡_, sym, ap, _∙_, subst}
+use mathlib.Core.Logic.{_↔_}
+use mathlib.Core.Bool.{false}
 use mathlib.Core.List.{List, [], _∷_}
 use Prim.Native.Nat.{ℕ}
 use Rattle.lists.specs.Lists.{memb}
-use Rattle.lists.proofs.Bools.{is-no, not-both}
-use Rattle.model.specs.Chart.{Transition, Chart, Nth, tested}
+use Rattle.model.specs.Chart.{Transition, Chart, Nth}
 use Rattle.model.specs.Path.{Path, StartsNowhere, Reached, UnstartedTest}
-use Rattle.model.specs.Rewrite.{Numbering, newTests, newStarts, newTransition, rewrittenBy}
+use Rattle.model.specs.Rewrite.{Numbering, newTransition, rewrittenBy}
 use Rattle.model.specs.Plan.{Has, Plan}
 use Rattle.model.proofs.Paths.{reached-initial, reached-step}
 use Rattle.model.proofs.Rewritten.{new-nth, old-nth, tested-old}

@@ -1,5 +1,5 @@
 -- The rewritten chart is one that a file can hold, and it names only timers below used. Assumes nothing.
-use mathlib.Core.Path.{_≡_, refl, ap, subst}
+use mathlib.Core.Path.{_≡_, refl}
 use mathlib.Core.Bool.{true}
 use mathlib.Core.Option.{Option, none, some}
 use mathlib.Core.List.{List, [], _∷_, map, filterMap}
@@ -7,13 +7,13 @@ use Prim.Native.Nat.{ℕ, _≤_, _<_}
 use native.Mathlib.Omega.{arith}
 use lib.ListN.{length, length-map}
 use Rattle.lists.specs.Lists.{memb}
-use Rattle.lists.specs.Rising.{Rising, All}
+use Rattle.lists.specs.Rising.{All}
 use Rattle.lists.proofs.Gather.{pick-rising}
 use Rattle.model.specs.Chart.{Test, Transition, Chart, Nth, tested}
 use Rattle.model.specs.Valid.{Valid, ValidTest, ValidTransition}
 use Rattle.model.specs.Rewrite.{Numbering, newTests, newStarts, newTransition, rewrittenBy}
 use Rattle.model.specs.Plan.{Plan}
-use Rattle.model.proofs.Rewritten.{onTimer, old-nth, tests-none, tests-some, tested-old, starts-below}
+use Rattle.model.proofs.Rewritten.{old-nth, tests-none, tests-some, tested-old, starts-below}
 
 all-map : {A B : Type 0} (P : A → Type 0) (Q : B → Type 0) (f : A → B) (l : List A) → ((a : A) → P a → Q (f a)) → All P l → All Q (map f l)
 all-map P Q f [] h x = tt

@@ -1,5 +1,5 @@
 -- One step, and lists of steps: how an attempt is judged, and that what begins a run is a run. Assumes nothing.
-use mathlib.Core.Path.{_≡_, refl, sym, ap, _∙_}
+use mathlib.Core.Path.{_≡_, refl}
 use mathlib.Core.Bool.{Bool}
 use mathlib.Core.Option.{none}
 use mathlib.Core.List.{List, [], _∷_, _++_}
@@ -8,7 +8,7 @@ use lib.Dec.{leb, eqb}
 use lib.ListN.{getElem?}
 use Rattle.model.specs.Answer.{Answer, result, refused, then, unless}
 use Rattle.model.specs.Chart.{Transition, Chart, Nth}
-use Rattle.model.specs.Run.{Counts, State, Step, Run, grown, allMet, after, attempt, steps, begin, outcome, everyTime}
+use Rattle.model.specs.Run.{Counts, State, Step, grown, allMet, after, attempt, steps, begin, outcome, everyTime}
 use Rattle.model.specs.Equivalence.{IsRun}
 use Rattle.model.proofs.Answers.{not-result}
 
