@@ -2,3 +2,4 @@ pub mod Parsed
 pub mod Reading
 pub mod Items
 pub mod Frame
+pub mod RoundTrip
