@@ -3,3 +3,4 @@ pub mod Reading
 pub mod Items
 pub mod Frame
 pub mod RoundTrip
+pub mod Fields
