@@ -4,3 +4,4 @@ pub mod Items
 pub mod Frame
 pub mod RoundTrip
 pub mod Fields
+pub mod Transitions
