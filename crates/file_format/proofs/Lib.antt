@@ -5,3 +5,4 @@ pub mod Frame
 pub mod RoundTrip
 pub mod Fields
 pub mod Transitions
+pub mod Body
