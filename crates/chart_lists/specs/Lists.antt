@@ -1,0 +1,84 @@
+-- The nine lists in which a chart is handed over (docs/LISTS.md). Assumes nothing.
+use mathlib.Core.Bool.{Bool, _&&_}
+use mathlib.Core.List.{List, [], _∷_, _++_, map}
+use Prim.Native.Nat.{ℕ}
+use lib.Dec.{leb}
+use lib.ListN.{length, drop}
+use Rattle.comparison.specs.Comparison.{codeOf}
+use Rattle.model.specs.Chart.{Test, Transition, Chart}
+use Rattle.model.specs.Live.{startsSet}
+
+-- the accepting locations; of each transition its source, its target, its event, the set of the timers that it starts as a word, and the
+-- number of its tests; of each test, in the order of the transitions, its timer, its comparison's code and its constant
+pub record Lists : Type 0 where
+  pub accepting : List ℕ
+  pub sources : List ℕ
+  pub targets : List ℕ
+  pub events : List ℕ
+  pub starts : List ℕ
+  pub counts : List ℕ
+  pub timers : List ℕ
+  pub codes : List ℕ
+  pub constants : List ℕ
+
+unfoldable pub allTests : List Transition → List Test
+allTests [] = []
+allTests (r ∷ rs) = r .tests ++ allTests rs
+
+-- the lists of a chart
+unfoldable pub listsOf : Chart → Lists
+listsOf c = record {
+  accepting = c .accepting;
+  sources = map (λ (r : Transition). r .source) (c .transitions);
+  targets = map (λ (r : Transition). r .target) (c .transitions);
+  events = map (λ (r : Transition). r .event) (c .transitions);
+  starts = map startsSet (c .transitions);
+  counts = map (λ (r : Transition). length (r .tests)) (c .transitions);
+  timers = map (λ (t : Test). t .timer) (allTests (c .transitions));
+  codes = map (λ (t : Test). codeOf (t .comparison)) (allTests (c .transitions));
+  constants = map (λ (t : Test). t .constant) (allTests (c .transitions));
+}
+
+-- xs over the front of l; what is beyond stays
+unfoldable pub put : List ℕ → List ℕ → List ℕ
+put xs l = xs ++ drop (length xs) l
+
+-- each of the lists over the front of the lent one
+unfoldable pub laid : Lists → Lists → Lists
+laid xs l = record {
+  accepting = put (xs .accepting) (l .accepting);
+  sources = put (xs .sources) (l .sources);
+  targets = put (xs .targets) (l .targets);
+  events = put (xs .events) (l .events);
+  starts = put (xs .starts) (l .starts);
+  counts = put (xs .counts) (l .counts);
+  timers = put (xs .timers) (l .timers);
+  codes = put (xs .codes) (l .codes);
+  constants = put (xs .constants) (l .constants);
+}
+
+-- each lent list is long enough
+unfoldable pub roomFor : Lists → Lists → Bool
+roomFor xs l =
+    leb (length (xs .accepting)) (length (l .accepting))
+    && (leb (length (xs .sources)) (length (l .sources))
+    && (leb (length (xs .targets)) (length (l .targets))
+    && (leb (length (xs .events)) (length (l .events))
+    && (leb (length (xs .starts)) (length (l .starts))
+    && (leb (length (xs .counts)) (length (l .counts))
+    && (leb (length (xs .timers)) (length (l .timers))
+    && (leb (length (xs .codes)) (length (l .codes))
+    && leb (length (xs .constants)) (length (l .constants)))))))))
+
+abbrev pub lists : (accepting sources targets events starts counts timers codes constants : List ℕ) → Lists
+lists a s t e w g j x k = record {
+  accepting = a;
+  sources = s;
+  targets = t;
+  events = e;
+  starts = w;
+  counts = g;
+  timers = j;
+  codes = x;
+  constants = k;
+}
