@@ -8,7 +8,6 @@ use lib.Dec.{leb}
 use lib.ListN.{length}
 use borrow.Author.Tests.{leb-true, le-leb}
 use Rattle.lists.specs.Rising.{Rising, All}
-use Rattle.lists.proofs.Gather.{rising-length}
 use Rattle.model.specs.Answer.{nowhere}
 use Rattle.model.specs.Chart.{Transition, Chart}
 use Rattle.model.specs.Valid.{ValidTransition, Valid}
@@ -16,7 +15,7 @@ use Rattle.file_format.specs.Parse.{Parsed, value, refusal, bind, guard,
 use Rattle.file_format.specs.Body.{Header, readHeader, readTransitions, chartOf, isEnd, readBody, writeHeader, writeTransition, writeBody}
 use Rattle.file_format.proofs.Parsed.{same-value, value-refused}
 use Rattle.file_format.proofs.RoundTrip.{Bytes, RoundTrip, restated, field, field-as, condition, end}
-use Rattle.file_format.proofs.Fields.{number-trip, below-trip, rising-trip}
+use Rattle.file_format.proofs.Fields.{number-trip, below-trip, rising-trip, rising-most}
 use Rattle.file_format.proofs.Transitions.{transitions-trip}
 
 pub record ValidHeader (h : Header) : Type 0 where
@@ -39,9 +38,6 @@ written h =
     ++ (digits 2 (length (h .accepting))
     ++ (writeAll (digits 2) (h .accepting)
     ++ digits 2 (h .count)))))
-
-pub few-accepting : (locations : ℕ) (xs : List ℕ) → locations ≤ 256 → Rising locations 0 xs → length xs ≤ 256
-few-accepting locations xs h r = omega (arith, rising-length locations 0 xs r (omega arith))
 
 header-trip : RoundTrip ValidHeader written readHeader
 unfolding readHeader
@@ -66,7 +62,7 @@ header-trip =
             (
               omega (arith, v .few-timers),
               (
-                omega (arith, few-accepting (h .locations) (h .accepting) (v .few-locations) (v .accepting)),
+                omega (arith, rising-most (h .locations) 256 (h .accepting) (v .few-locations) (v .accepting)),
                 (
                   v .accepting,
                   (omega (arith, v .few-transitions), tt),

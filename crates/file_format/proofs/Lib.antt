@@ -6,3 +6,4 @@ pub mod RoundTrip
 pub mod Fields
 pub mod Transitions
 pub mod Body
+pub mod Lengths
