@@ -7,3 +7,4 @@ pub mod Fields
 pub mod Transitions
 pub mod Body
 pub mod Lengths
+pub mod File
