@@ -8,3 +8,4 @@ pub mod Transitions
 pub mod Body
 pub mod Lengths
 pub mod File
+pub mod Bytes
