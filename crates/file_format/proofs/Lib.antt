@@ -9,3 +9,4 @@ pub mod Body
 pub mod Lengths
 pub mod File
 pub mod Bytes
+pub mod Refusals
