@@ -1,6 +1,5 @@
 -- The fields of the file are read and written so that each undoes the other: numbers of any width, rising lists, comparisons. Assumes nothing.
-use mathlib.Core.Path.{_≡_, refl, sym, ap, _∙_, subst}
-use mathlib.Core.Bool.{true}
+use mathlib.Core.Path.{_≡_, refl, sym, ap, _∙_}
 use mathlib.Core.Option.{Option, none, some, Option·some-injective, Option·none-ne-some}
 use mathlib.Core.List.{List, [], _∷_, _++_, append-nil}
 use Prim.Native.Nat.{ℕ, zero, suc, _+_, _*_, _^_, _/_, _%_, _≤_, _<_}
@@ -14,10 +13,10 @@ use Rattle.comparison.specs.declared.Comparison.the-variants.{AtMost, Below, At
 use Rattle.comparison.specs.Comparison.{comparisonOf, codeOf}
 use Rattle.lists.specs.Rising.{Rising}
 use Rattle.lists.proofs.Gather.{rising-length}
-use Rattle.file_format.specs.Parse.{Parsed, value, refusal, bind, byte, number, below, entry, rising, digits, writeAll}
+use Rattle.file_format.specs.Parse.{value, byte, number, below, entry, rising, digits, writeAll}
 use Rattle.file_format.specs.Body.{known, readComparison}
-use Rattle.file_format.proofs.Parsed.{value-refused, same-value, same-rest, bind-value}
-use Rattle.file_format.proofs.RoundTrip.{Bytes, RoundTrip, restated, field, field-as, condition, end, items}
+use Rattle.file_format.proofs.Parsed.{value-refused, same-value, same-rest}
+use Rattle.file_format.proofs.RoundTrip.{Bytes, RoundTrip, restated, field, condition, end, items}
 
 byte-trip : RoundTrip (λ b. b < 256) (λ b. b ∷ []) byte
 byte-trip = record { reads = λ b t h. refl; written = written }

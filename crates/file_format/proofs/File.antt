@@ -1,40 +1,24 @@
 -- Reading and writing a chart file undo one another: what is written for a chart that a file can hold is read as that chart, and a file
 -- that is read as a chart is the one that is written for it. Assumes nothing.
 use mathlib.Core.Path.{_≡_, refl, sym, ap, _∙_, subst}
-use mathlib.Core.Bool.{Bool, true, false}
-use mathlib.Core.List.{List, [], _∷_, _++_, append-assoc, append-nil}
+use mathlib.Core.List.{List, _++_, append-assoc, append-nil}
 use Prim.Native.Nat.{ℕ, _^_, _≤_, _<_}
 use native.Mathlib.Omega.{arith}
 use lib.Dec.{eqb}
 use lib.ListN.{length}
 use Rattle.lists.proofs.Bools.{eqb-self, same-number}
-use Rattle.model.specs.Answer.{Answer, result, refused, then, unless, nowhere}
+use Rattle.model.specs.Answer.{result, nowhere}
 use Rattle.model.specs.Chart.{Chart}
 use Rattle.model.specs.Valid.{Valid}
-use Rattle.file_format.specs.Parse.{Parsed, value, refusal, bind, number, digits}
+use Rattle.file_format.specs.Parse.{Parsed, value, refusal, digits}
 use Rattle.file_format.specs.Body.{readBody, writeBody}
-use Rattle.file_format.specs.File.{Frame, readFrame, judgeFrame, answered, readFile, writeFile, chartIn, fileOf}
-use Rattle.file_format.specs.Lengths.{bodyLength, fileLength}
+use Rattle.file_format.specs.File.{Frame, readFrame, judgeFrame, readFile, writeFile, chartIn, fileOf}
+use Rattle.file_format.specs.Lengths.{fileLength}
+use Rattle.file_format.proofs.Answers.{result-refused, then-result, unless-result, answered-result}
 use Rattle.file_format.proofs.RoundTrip.{Bytes, bytes-rest, RoundTrip, restated, field, end}
 use Rattle.file_format.proofs.Fields.{number-trip}
 use Rattle.file_format.proofs.Body.{body-reads, body-written}
 use Rattle.file_format.proofs.Lengths.{length-body, file-most}
-
--- a result is no refusal
-pub result-refused : {A : Type 0} {x : Answer A} {a : A} {n p : ℕ} → x ≡ result a → x ≡ refused n p → ⊥
-result-refused e f = let z : _≡_ {A = ℕ} 0 1 = cc in omega arith
-
-pub then-result : {A B : Type 0} (x : Answer A) (k : A → Answer B) {b : B} → then x k ≡ result b → (a : A) × (x ≡ result a) × (k a ≡ result b)
-then-result (result a) k e = (a, refl, e)
-then-result (refused n p) k e = absurd (result-refused e refl)
-
-pub unless-result : {A : Type 0} (c : Bool) (n p : ℕ) (x : Answer A) {a : A} → unless c n p x ≡ result a → (c ≡ true) × (x ≡ result a)
-unless-result true n p x e = (refl, e)
-unless-result false n p x e = absurd (result-refused e refl)
-
-pub answered-result : {A : Type 0} (x : Parsed A) {a : A} → answered x ≡ result a → (t : List ℕ) × (x ≡ value a t)
-answered-result (value b t) e = (t, cc)
-answered-result (refusal n p) e = absurd (result-refused e refl)
 
 -- ---- version and length
 

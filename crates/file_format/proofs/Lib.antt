@@ -1,4 +1,5 @@
 pub mod Parsed
+pub mod Answers
 pub mod Reading
 pub mod Items
 pub mod Frame

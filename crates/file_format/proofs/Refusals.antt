@@ -1,6 +1,6 @@
 -- With which numbers and places reading refuses: a file with 1 to 8, a body with 3 to 8; 1, 2 and 3 have no place of their own, and the
 -- others none or the number of a transition, which is below 512. Assumes nothing.
-use mathlib.Core.Path.{_≡_, refl, sym, ap, _∙_, subst}
+use mathlib.Core.Path.{_≡_, refl, subst}
 use mathlib.Core.Logic.{_⊎_, inl, inr, ⊎-map}
 use mathlib.Core.Bool.{Bool, true, false}
 use mathlib.Core.Option.{Option, none, some}
@@ -13,13 +13,13 @@ use borrow.Author.Tests.{ltb-true}
 use Rattle.comparison.specs.declared.Comparison.{Comparison}
 use Rattle.comparison.specs.Comparison.{comparisonOf}
 use Rattle.model.specs.Answer.{Answer, result, refused, then, unless, nowhere}
-use Rattle.model.specs.Chart.{Test, Transition, Chart}
+use Rattle.model.specs.Chart.{Test, Transition}
 use Rattle.file_format.specs.Parse.{Parsed, value, refusal, bind, guard, byte, number, below, many, entry, rising}
 use Rattle.file_format.specs.Body.{known, readComparison, readTest, readTests, recordLength, readTransition, readTransitions, isEnd, Header, readHeader, chartOf, readBody}
 use Rattle.file_format.specs.File.{Frame, readFrame, judgeFrame, answered, readFile, chartIn}
-use Rattle.file_format.specs.Refusals.{RefusalFrom, RefusalOfFile, RefusalOfBody}
+use Rattle.file_format.specs.Refusals.{RefusalOfFile, RefusalOfBody}
 use Rattle.file_format.proofs.Parsed.{value-refused, same-value}
-use Rattle.file_format.proofs.File.{result-refused}
+use Rattle.file_format.proofs.Answers.{answered-refused}
 
 -- what reading comes to: a refusal of a body, or a value with the property Q
 record Reads {A : Type 0} (Q : A → Type 0) (x : Parsed A) : Type 0 where
@@ -148,12 +148,8 @@ refusals-of-readBody W bs n p e = body-refuses W bs .refuses n p e
 
 -- ---- the file
 
-answered-refused : {A : Type 0} (x : Parsed A) {n p : ℕ} → answered x ≡ refused n p → x ≡ refusal n p
-answered-refused (value a t) e = absurd (result-refused refl e)
-answered-refused (refusal m q) e = cc
-
 -- 1 and 2 come before the body and have no place
-module _ (n p : ℕ) where
+module _ (version W n p : ℕ) where
   before-body : {A : Type 0} (m : ℕ) → 1 ≤ m → m ≤ 2 → _≡_ {A = Answer A} (refused m nowhere) (refused n p) → RefusalOfFile n p
   before-body m h l e = let f : n ≡ m = cc in record { first-number = omega arith; last-number = omega arith; place = inl (cc) }
 
@@ -163,18 +159,22 @@ module _ (n p : ℕ) where
   at-unless true m h l x k rest e = rest e
   at-unless false m h l x k rest e = before-body m h l e
 
-  in-body : (body : List ℕ) → answered (readBody 2 body) ≡ refused n p → RefusalOfFile n p
+  in-body : (body : List ℕ) → answered (readBody W body) ≡ refused n p → RefusalOfFile n p
   in-body body e =
-      let r = refusals-of-readBody 2 body n p (answered-refused (readBody 2 body) e) in
+      let r = refusals-of-readBody W body n p (answered-refused (readBody W body) e) in
       record { first-number = omega (arith, r .first-number); last-number = r .last-number; place = r .place }
 
-  at-frame : (x : Parsed Frame) → then (judgeFrame 1 x) (λ body. answered (readBody 2 body)) ≡ refused n p → RefusalOfFile n p
+  at-frame : (x : Parsed Frame) → then (judgeFrame version x) (λ body. answered (readBody W body)) ≡ refused n p → RefusalOfFile n p
   unfolding judgeFrame
   at-frame (refusal m q) e = before-body 1 (omega arith) (omega arith) e
   at-frame (value f body) e =
       at-unless (eqb (f .follow) (length body)) 1 (omega arith) (omega arith) _ _
-      (at-unless (eqb (f .version) 1) 2 (omega arith) (omega arith) (result body) _ (in-body body)) e
+      (at-unless (eqb (f .version) version) 2 (omega arith) (omega arith) (result body) _ (in-body body)) e
+
+pub refusals-of-readFile : (version W : ℕ) (bs : List ℕ) (n p : ℕ) → readFile version W bs ≡ refused n p → RefusalOfFile n p
+unfolding readFile
+refusals-of-readFile version W bs n p e = at-frame version W n p (readFrame bs) e
 
 pub refusals-of-chartIn : (bs : List ℕ) (n p : ℕ) → chartIn bs ≡ refused n p → RefusalOfFile n p
-unfolding chartIn readFile
-refusals-of-chartIn bs n p e = at-frame n p (readFrame bs) e
+unfolding chartIn
+refusals-of-chartIn bs n p e = refusals-of-readFile 1 2 bs n p e
