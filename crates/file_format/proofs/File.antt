@@ -50,32 +50,31 @@ judged-frame version (value f b) {body} e =
 
 -- ---- the file, for any version byte and constants of W bytes
 
-module _ (version W : ℕ) (narrow : W ≤ 8) where
-  body-fits : (c : Chart) → Valid W c → length (writeBody W c) < 256 ^ 4
-  unfolding fileLength
-  body-fits c v = omega (arith, length-body W c, file-most W c v)
+body-fits : (W : ℕ) → W ≤ 8 → (c : Chart) → Valid W c → length (writeBody W c) < 256 ^ 4
+unfolding fileLength
+body-fits W narrow c v = omega (arith, length-body W c, file-most W c v)
 
-  pub read-written : version < 256 → (c : Chart) → Valid W c → readFile version W (writeFile version W c) ≡ result c
-  unfolding readFile writeFile judgeFrame
-  read-written h c v =
-      let frame : Frame = record { version = version; follow = length (writeBody W c) } in
-      let e : readFrame (digits 1 version ++ (digits 4 (length (writeBody W c)) ++ writeBody W c)) ≡ value frame (writeBody W c) =
-      rw append-assoc at (frame-trip .reads frame (writeBody W c) (record { version = h; follow = body-fits c v })) in
-      rw (e, eqb-self (length (writeBody W c)), eqb-self version, body-reads W narrow c v)
+pub read-written : (version W : ℕ) → version < 256 → W ≤ 8 → (c : Chart) → Valid W c → readFile version W (writeFile version W c) ≡ result c
+unfolding readFile writeFile judgeFrame
+read-written version W h narrow c v =
+    let frame : Frame = record { version = version; follow = length (writeBody W c) } in
+    let e : readFrame (digits 1 version ++ (digits 4 (length (writeBody W c)) ++ writeBody W c)) ≡ value frame (writeBody W c) =
+    rw append-assoc at (frame-trip .reads frame (writeBody W c) (record { version = h; follow = body-fits W narrow c v })) in
+    rw (e, eqb-self (length (writeBody W c)), eqb-self version, body-reads W narrow c v)
 
-  pub written-read : (bs : List ℕ) (c : Chart) → Bytes bs → readFile version W bs ≡ result c → Valid W c × (bs ≡ writeFile version W c)
-  unfolding readFile writeFile
-  written-read bs c by e =
-      let i = then-result (judgeFrame version (readFrame bs)) _ e in
-      let f = judged-frame version (readFrame bs) (i .1) in
-      let j = frame-trip .written bs (f .0) (i .0) by (f .1) in
-      let b = answered-result (readBody W (i .0)) (i .2) in
-      let k = body-written W narrow (i .0) c (b .0) (bytes-rest (writeFrame (f .0)) (i .0) (subst Bytes (j .1) by)) (b .1) in
-      (k .0, put (f .0) (i .0) (f .2) (f .3) (j .1) (k .1))
-    where
-      put : (f : Frame) (body : List ℕ) → f .follow ≡ length body → f .version ≡ version → bs ≡ writeFrame f ++ body → body ≡ writeBody W c
-          → bs ≡ digits 1 version ++ (digits 4 (length (writeBody W c)) ++ writeBody W c)
-      put f body l v e q = rw (← q, ← l, ← v, ← append-assoc) e
+pub written-read : (version W : ℕ) → W ≤ 8 → (bs : List ℕ) (c : Chart) → Bytes bs → readFile version W bs ≡ result c → Valid W c × (bs ≡ writeFile version W c)
+unfolding readFile writeFile
+written-read version W narrow bs c by e =
+    let i = then-result (judgeFrame version (readFrame bs)) _ e in
+    let f = judged-frame version (readFrame bs) (i .1) in
+    let j = frame-trip .written bs (f .0) (i .0) by (f .1) in
+    let b = answered-result (readBody W (i .0)) (i .2) in
+    let k = body-written W narrow (i .0) c (b .0) (bytes-rest (writeFrame (f .0)) (i .0) (subst Bytes (j .1) by)) (b .1) in
+    (k .0, joined (f .0) (i .0) (f .2) (f .3) (j .1) (k .1))
+  where
+    joined : (f : Frame) (body : List ℕ) → f .follow ≡ length body → f .version ≡ version → bs ≡ writeFrame f ++ body → body ≡ writeBody W c
+        → bs ≡ digits 1 version ++ (digits 4 (length (writeBody W c)) ++ writeBody W c)
+    joined f body l v e q = rw (← q, ← l, ← v, ← append-assoc) e
 
 -- ---- version 1
 
