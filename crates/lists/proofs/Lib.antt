@@ -2,3 +2,4 @@ pub mod Bools
 pub mod Membership
 pub mod Lowest
 pub mod Gather
+pub mod Rising
