@@ -1,4 +1,16 @@
+use mathlib.Core.Path.{_≡_, sym, ap, _∙_}
+use mathlib.Core.Option.{none, some}
+use native.Mathlib.Omega.{arith}
+use lib.ListN.{drop}
+use denote.Ref.{now}
 use borrow.Author.Needs.{needs}
+use Rattle.comparison.specs.Comparison.{comparisonOf}
+use Rattle.comparison.specs.Decoding.{decodedOf}
+use Rattle.file_format.specs.Parse.{value, number, below}
+use Rattle.file_format.proofs.Parsed.{below-limit}
+use Rattle.fields.specs.Meaning.{meant}
+use Rattle.fields.proofs.Answers.{told, turned}
+use Rattle.fields.proofs.Steps.{test-timer, test-code, test-unknown, test-constant, test-whole}
 use Rattle.fields.proofs.test_at.Statement.{statement}
 use Rattle.fields.proofs.test_at.Tie as tie
 use Rattle.fields.proofs.test_at.Reads as reads
@@ -8,6 +20,22 @@ use Rattle.fields.proofs.byte_at.Reads as byte-at-reads
 use Rattle.fields.proofs.byte_below.Reads as byte-below-reads
 use Rattle.fields.proofs.pair_at.Reads as pair-at-reads
 use Rattle.fields.proofs.refusal_of.Reads as refusal-of-reads
+
+-- what each field is where its value was bound
+timer-at : (c : tie.After-known-told) → let a = c .before .before .before .before .before .args in
+    below 1 (a .timers) 6 (a .place) (drop (a .at) (now (a .s))) ≡ value (c .before .a .given .0 .0) (drop (c .before .a .given .0 .1 .0) (now (a .s)))
+timer-at c = told (meant (now (c .before .before .before .before .before .args .s))) (c .before .a .given .1) (c .before .before .before .byte-below .ensures)
+
+code-at : (c : tie.After-known-told2) → let a = c .before .before .before .before .before .before .before .before .before .args in
+    number 1 (drop (c .before .before .before .before .before .a .given .0 .1 .0) (now (a .s))) ≡ value (c .before .b .given .0 .0) (drop (c .before .b .given .0 .1 .0) (now (a .s)))
+code-at c = told (meant (now (c .before .before .before .before .before .before .before .before .before .args .s))) (c .before .b .given .1) (c .before .before .before .byte-at .ensures .reads)
+
+comparison-at : (c : tie.After-known-told3) → comparisonOf (c .before .before .before .before .before .b .given .0 .0) ≡ some (c .before .d .given .0 .0)
+comparison-at c = sym (c .before .before .before .decode .ensures) ∙ ap decodedOf (c .before .d .given .1)
+
+constant-at : (c : tie.After-known-told4) → let a = c .before .before .before .before .before .before .before .before .before .before .before .before .before .before .before .before .before .args in
+    number 2 (drop (c .before .before .before .before .before .before .before .before .before .b .given .0 .1 .0) (now (a .s))) ≡ value (c .before .e .given .0 .0) (drop (c .before .e .given .0 .1 .0) (now (a .s)))
+constant-at c = told (meant (now (c .before .before .before .before .before .before .before .before .before .before .before .before .before .before .before .before .before .args .s))) (c .before .e .given .1) (c .before .before .before .pair-at .ensures .reads)
 
 -- src/lib.rt:167:9
 byte-below-requires : tie.Need-byte-below-requires
@@ -27,7 +55,9 @@ refusal-of-requires c κs = search needs
 
 -- src/lib.rt:169:9
 returns : tie.Need-returns
-returns c = ?
+returns c =
+    let a = c .before .before .before .before .before .args in
+    test-timer 2 (a .timers) (a .place) _ (turned (now (a .s)) (c .before .enum-told .given .1) (c .refusal-of .ensures) (c .before .before .before .byte-below .ensures))
 
 -- src/lib.rt:171:9
 byte-at-requires : tie.Need-byte-at-requires
@@ -47,11 +77,13 @@ refusal-of-requires-2 c κs = search needs
 
 -- src/lib.rt:173:9
 returns-2 : tie.Need-returns-2
-returns-2 c = ?
+returns-2 c =
+    let a = c .before .before .before .before .before .before .before .before .before .args in
+    test-code 2 (a .timers) (a .place) _ (timer-at (c .before .before .before .before)) (turned (now (a .s)) (c .before .enum-told2 .given .1) (c .refusal-of2 .ensures) (c .before .before .before .byte-at .ensures .reads))
 
 -- src/lib.rt:175:32
 cast-decode : tie.Need-cast-decode
-cast-decode c = ?
+cast-decode c = record { fits = omega (arith, c .before .before .before .byte-at .ensures .small _ _ (c .before .b .given .1)) }
 
 -- src/lib.rt:175:9
 decode-requires : tie.Need-decode-requires
@@ -67,7 +99,9 @@ enum-told-3 c = search needs
 
 -- src/lib.rt:177:9
 returns-3 : tie.Need-returns-3
-returns-3 c = ?
+returns-3 c =
+    let a = c .before .before .before .before .before .before .before .before .before .before .before .before .args in
+    test-unknown 2 (a .timers) (a .place) _ (timer-at (c .before .before .before .before .before .before .before)) (code-at (c .before .before .before)) (sym (c .before .before .decode .ensures) ∙ ap decodedOf (c .enum-told3 .given .1))
 
 -- src/lib.rt:179:9
 pair-at-requires : tie.Need-pair-at-requires
@@ -87,19 +121,21 @@ refusal-of-requires-3 c κs = search needs
 
 -- src/lib.rt:181:9
 returns-4 : tie.Need-returns-4
-returns-4 c = ?
+returns-4 c =
+    let a = c .before .before .before .before .before .before .before .before .before .before .before .before .before .before .before .before .before .args in
+    test-constant 2 (a .timers) (a .place) _ (timer-at (c .before .before .before .before .before .before .before .before .before .before .before .before)) (code-at (c .before .before .before .before .before .before .before .before)) (comparison-at (c .before .before .before .before)) (turned (now (a .s)) (c .before .enum-told4 .given .1) (c .refusal-of3 .ensures) (c .before .before .before .pair-at .ensures .reads))
 
 -- src/lib.rt:184:16
 cast-t19 : tie.Need-cast-t19
-cast-t19 c = ?
+cast-t19 c = record { fits = omega (arith, below-limit _ _ _ _ _ (timer-at (c .before .before .before .before .before .before .before .before .before .before .before .before)), c .before .before .before .before .before .before .before .before .before .before .before .before .before .before .before .before .before .good) }
 
 -- src/lib.rt:186:19
 cast-t22 : tie.Need-cast-t22
-cast-t22 c = ?
+cast-t22 c = record { fits = omega (arith, c .before .before .before .pair-at .ensures .small _ _ (c .before .e .given .1)) }
 
 -- src/lib.rt:164:1
 returns-5 : tie.Need-returns-5
-returns-5 c = ?
+returns-5 c = let a = c .before .before .before .before .before .before .before .before .before .before .before .before .before .before .before .before .before .args in test-whole 2 (a .timers) (a .place) _ (timer-at (c .before .before .before .before .before .before .before .before .before .before .before .before)) (code-at (c .before .before .before .before .before .before .before .before)) (comparison-at (c .before .before .before .before)) (constant-at c)
 
 pub test-at-spec : {M : Type 1} → statement M
 test-at-spec =
