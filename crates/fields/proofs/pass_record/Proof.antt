@@ -1,3 +1,8 @@
+use mathlib.Core.Path.{_∙_}
+use denote.Ref.{now}
+use Rattle.fields.specs.Meaning.{meantHead}
+use Rattle.fields.proofs.Answers.{told}
+use Rattle.fields.proofs.Parts.{pass-head-refused, pass-tests-left}
 use borrow.Author.Needs.{needs}
 use Rattle.fields.proofs.pass_record.Statement.{statement}
 use Rattle.fields.proofs.pass_record.Tie as tie
@@ -25,7 +30,10 @@ head-refusal-requires c κs = search needs
 
 -- src/lib.rt:365:9
 returns : tie.Need-returns
-returns c = ?
+returns c =
+    let a = c .before .before .before .before .before .args in
+    rw (c .head-refusal .ensures, c .before .enum-told .given .1)
+    (pass-head-refused 2 (a .locations) (a .timers) (a .place) _ (told (meantHead (now (a .s))) (c .before .enum-told .given .1) (c .before .before .before .head-at .ensures)))
 
 -- src/lib.rt:367:5
 pass-tests-requires : tie.Need-pass-tests-requires
@@ -33,7 +41,11 @@ pass-tests-requires c κs = search needs
 
 -- src/lib.rt:351:1
 returns-2 : tie.Need-returns-2
-returns-2 c = ?
+returns-2 c =
+    let d = c .before .before .before .before in
+    let a = d .before .before .args in
+    c .pass-tests .ensures
+    ∙ pass-tests-left 2 (a .locations) (a .timers) (a .place) _ (told (meantHead (now (a .s))) (c .before .before .a .given .1) (d .head-at .ensures))
 
 pub pass-record-spec : {M : Type 1} → statement M
 pass-record-spec =
