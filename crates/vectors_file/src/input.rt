@@ -1,0 +1,129 @@
+// Numbers and lists of the input. Every function is total: a byte past the end counts as 0, and no place is above 1,000,000.
+ghost use Prim.Native.Nat.{_≤_};
+use chart_lists::Numbers;
+
+pub fn least(a: usize, b: usize) -> usize
+    ensures { λ r. ⌜ r ≤ b ⌝ }
+{
+    if a < b { a } else { b }
+}
+
+// The place n bytes on, or the sum of two counts.
+pub fn plus(at: usize, n: usize) -> usize {
+    least(least(at, 1000000) + least(n, 1000000), 1000000)
+}
+
+pub fn byte(s: &[u8], at: usize) -> u8 {
+    if at < s.len() { s[at] } else { 0 }
+}
+
+pub fn pair(s: &[u8], at: usize) -> u16 {
+    joined8(byte(s, at), byte(s, plus(at, 1)))
+}
+
+pub fn quad(s: &[u8], at: usize) -> u32 {
+    joined16(pair(s, at), pair(s, plus(at, 2)))
+}
+
+fn octet(s: &[u8], at: usize) -> u64 {
+    joined32(quad(s, at), quad(s, plus(at, 4)))
+}
+
+fn joined8(high: u8, low: u8) -> u16 {
+    high as u16 * 256 + low as u16
+}
+
+fn joined16(high: u16, low: u16) -> u32 {
+    high as u32 * 65536 + low as u32
+}
+
+fn joined32(high: u32, low: u32) -> u64 {
+    high as u64 * 4294967296 + low as u64
+}
+
+pub fn size16(x: u16) -> usize {
+    x as usize
+}
+
+pub fn size32(x: u32) -> usize {
+    x as usize
+}
+
+// The pair at a place as a length, at most what there is.
+pub fn room(s: &[u8], at: usize, most: usize) -> usize
+    ensures { λ r. ⌜ r ≤ most ⌝ }
+{
+    least(size16(pair(s, at)), most)
+}
+
+// The n bytes from a place on, or those that there are.
+pub fn part<'a>(s: &'a [u8], at: usize, n: usize) -> &'a [u8] {
+    let from = least(at, s.len());
+    let to = from + least(n, s.len() - from);
+    &s[from..to]
+}
+
+pub fn numbers(s: &[u8], at: usize) -> Numbers {
+    Numbers {
+        locations: pair(s, at),
+        initial: pair(s, plus(at, 2)),
+        timers: byte(s, plus(at, 4)),
+        accepting: pair(s, plus(at, 5)),
+        transitions: pair(s, plus(at, 7)),
+    }
+}
+
+// Fills a list with the entries after the count that stands at a place, and answers the place after them.
+pub fn fill8(s: &[u8], at: usize, list: &mut [u8]) -> usize {
+    let n = size16(pair(s, at));
+    let mut from = plus(at, 2);
+    let mut i = 0;
+    while i < n {
+        put8(list, i, byte(s, from));
+        from = plus(from, 1);
+        i += 1;
+    }
+    from
+}
+
+pub fn fill16(s: &[u8], at: usize, list: &mut [u16]) -> usize {
+    let n = size16(pair(s, at));
+    let mut from = plus(at, 2);
+    let mut i = 0;
+    while i < n {
+        put16(list, i, pair(s, from));
+        from = plus(from, 2);
+        i += 1;
+    }
+    from
+}
+
+pub fn fill64(s: &[u8], at: usize, list: &mut [u64]) -> usize {
+    let n = size16(pair(s, at));
+    let mut from = plus(at, 2);
+    let mut i = 0;
+    while i < n {
+        put64(list, i, octet(s, from));
+        from = plus(from, 8);
+        i += 1;
+    }
+    from
+}
+
+fn put8(list: &mut [u8], i: usize, x: u8) {
+    if i < list.len() {
+        list[i] = x;
+    }
+}
+
+fn put16(list: &mut [u16], i: usize, x: u16) {
+    if i < list.len() {
+        list[i] = x;
+    }
+}
+
+fn put64(list: &mut [u64], i: usize, x: u64) {
+    if i < list.len() {
+        list[i] = x;
+    }
+}
