@@ -1,5 +1,7 @@
 // Numbers and lists of the input. Every function is total: a byte past the end counts as 0, and no place is above 1,000,000.
 ghost use Prim.Native.Nat.{_≤_};
+ghost use mathlib.Core.Path.{_≡_};
+ghost use lib.ListN.{length};
 use chart_lists::Numbers;
 
 pub fn least(a: usize, b: usize) -> usize
@@ -50,7 +52,7 @@ pub fn size32(x: u32) -> usize {
 }
 
 // The pair at a place as a length, at most what there is.
-pub fn room(s: &[u8], at: usize, most: usize) -> usize
+fn room(s: &[u8], at: usize, most: usize) -> usize
     ensures { λ r. ⌜ r ≤ most ⌝ }
 {
     least(size16(pair(s, at)), most)
@@ -63,6 +65,22 @@ pub fn part<'a>(s: &'a [u8], at: usize, n: usize) -> &'a [u8] {
     &s[from..to]
 }
 
+// The front of a list, as long as the k-th of the lengths at a place says.
+pub fn lent8<'a>(list: &'a mut [u8], s: &[u8], at: usize, k: usize) -> &'a mut [u8] {
+    let n = room(s, plus(at, plus(k, k)), list.len());
+    &mut list[0..n]
+}
+
+pub fn lent16<'a>(list: &'a mut [u16], s: &[u8], at: usize, k: usize) -> &'a mut [u16] {
+    let n = room(s, plus(at, plus(k, k)), list.len());
+    &mut list[0..n]
+}
+
+pub fn lent64<'a>(list: &'a mut [u64], s: &[u8], at: usize, k: usize) -> &'a mut [u64] {
+    let n = room(s, plus(at, plus(k, k)), list.len());
+    &mut list[0..n]
+}
+
 pub fn numbers(s: &[u8], at: usize) -> Numbers {
     Numbers {
         locations: pair(s, at),
@@ -73,8 +91,70 @@ pub fn numbers(s: &[u8], at: usize) -> Numbers {
     }
 }
 
-// Fills a list with the entries after the count that stands at a place, and answers the place after them.
-pub fn fill8(s: &[u8], at: usize, list: &mut [u8]) -> usize {
+// How many bytes the k-th list takes, its count with it.
+fn extent(k: usize, count: u16) -> usize {
+    let n = count as usize;
+    match k {
+        0 | 1 | 2 | 8 => 2 + 2 * n,
+        4 => 2 + 8 * n,
+        _ => 2 + n,
+    }
+}
+
+// The place of the k-th list of a chart whose numbers stand at a place; at 9 the place after the lists.
+pub fn place(s: &[u8], at: usize, k: usize) -> usize {
+    let mut here = plus(at, 9);
+    let mut i = 0;
+    while i < k {
+        here = plus(here, extent(i, pair(s, here)));
+        i += 1;
+    }
+    here
+}
+
+// The k-th list of a chart whose numbers stand at a place, and zeros after it.
+pub fn list8(s: &[u8], at: usize, k: usize) -> [u8; 4096]
+    ensures { λ r. ⌜ 4096 ≡ length r ⌝ }
+{
+    let mut list = [0u8; 4096];
+    fill8(s, place(s, at, k), &mut list);
+    list
+}
+
+pub fn list16(s: &[u8], at: usize, k: usize) -> [u16; 4096]
+    ensures { λ r. ⌜ 4096 ≡ length r ⌝ }
+{
+    let mut list = [0u16; 4096];
+    fill16(s, place(s, at, k), &mut list);
+    list
+}
+
+pub fn list64(s: &[u8], at: usize, k: usize) -> [u64; 4096]
+    ensures { λ r. ⌜ 4096 ≡ length r ⌝ }
+{
+    let mut list = [0u64; 4096];
+    fill64(s, place(s, at, k), &mut list);
+    list
+}
+
+// The front of that list, as long as its count says.
+pub fn front8<'a>(list: &'a [u8], s: &[u8], at: usize, k: usize) -> &'a [u8] {
+    let n = room(s, place(s, at, k), list.len());
+    &list[0..n]
+}
+
+pub fn front16<'a>(list: &'a [u16], s: &[u8], at: usize, k: usize) -> &'a [u16] {
+    let n = room(s, place(s, at, k), list.len());
+    &list[0..n]
+}
+
+pub fn front64<'a>(list: &'a [u64], s: &[u8], at: usize, k: usize) -> &'a [u64] {
+    let n = room(s, place(s, at, k), list.len());
+    &list[0..n]
+}
+
+// Fills a list with the entries after the count that stands at a place.
+fn fill8(s: &[u8], at: usize, list: &mut [u8]) {
     let n = size16(pair(s, at));
     let mut from = plus(at, 2);
     let mut i = 0;
@@ -83,10 +163,9 @@ pub fn fill8(s: &[u8], at: usize, list: &mut [u8]) -> usize {
         from = plus(from, 1);
         i += 1;
     }
-    from
 }
 
-pub fn fill16(s: &[u8], at: usize, list: &mut [u16]) -> usize {
+fn fill16(s: &[u8], at: usize, list: &mut [u16]) {
     let n = size16(pair(s, at));
     let mut from = plus(at, 2);
     let mut i = 0;
@@ -95,10 +174,9 @@ pub fn fill16(s: &[u8], at: usize, list: &mut [u16]) -> usize {
         from = plus(from, 2);
         i += 1;
     }
-    from
 }
 
-pub fn fill64(s: &[u8], at: usize, list: &mut [u64]) -> usize {
+fn fill64(s: &[u8], at: usize, list: &mut [u64]) {
     let n = size16(pair(s, at));
     let mut from = plus(at, 2);
     let mut i = 0;
@@ -107,7 +185,6 @@ pub fn fill64(s: &[u8], at: usize, list: &mut [u64]) -> usize {
         from = plus(from, 8);
         i += 1;
     }
-    from
 }
 
 fn put8(list: &mut [u8], i: usize, x: u8) {

@@ -1,12 +1,12 @@
 // The lines that are printed. Of long lists only the entries 0 to 3 and the last are shown, of long files the last 8 bytes.
-use chart_lists::Numbers;
-use chart_lists::Refusal;
 use crate::input::byte;
 use crate::input::plus;
 use crate::input::size16;
+use crate::lent::entry8;
 use crate::lent::entry16;
 use crate::lent::entry64;
-use crate::lent::entry8;
+use chart_lists::Numbers;
+use chart_lists::Refusal;
 
 pub fn text(s: &[u8]) {
     io::write_all(1, s);
@@ -52,7 +52,17 @@ fn entry(list: &[u16], i: usize, shown: bool) {
 }
 
 // The lines of the transitions. The tests of each begin where those of the one before it end.
-pub fn transitions(n: usize, sources: &[u16], targets: &[u16], events: &[u8], starts: &[u64], counts: &[u8], timers: &[u8], codes: &[u8], constants: &[u16]) {
+pub fn transitions(
+    n: usize,
+    sources: &[u16],
+    targets: &[u16],
+    events: &[u8],
+    starts: &[u64],
+    counts: &[u8],
+    timers: &[u8],
+    codes: &[u8],
+    constants: &[u16],
+) {
     let mut at = 0;
     let mut i = 0;
     while i < n {
