@@ -40,7 +40,7 @@ fn run_vector(input: &[u8], at: usize) -> usize {
     at
 }
 
-// Reads a file into lent lists, as long as the nine lengths at a place say, and answers the place after the file.
+// Reads the file of a vector into lists as long as its nine lengths say, and answers the place after the vector.
 fn run_read(input: &[u8], at: usize) -> usize {
     let mut accepting = [43690u16; 4096];
     let a = input::lent16(&mut accepting, input, at, 0);
@@ -186,7 +186,7 @@ fn show_chart(
     );
 }
 
-// Takes the nine lists apart, hands them to the writer and answers the place after them and the length of the buffer.
+// Hands the nine lists of a vector to the writer, and answers the place after the vector.
 fn run_write(input: &[u8], at: usize) -> usize {
     let accepting = input::list16(input, at, 0);
     let a = input::front16(&accepting, input, at, 0);
