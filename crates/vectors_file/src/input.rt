@@ -1,4 +1,4 @@
-// Numbers and lists of the input. Every function is total: a byte past the end counts as 0, and no place is above 1,000,000.
+// Numbers and lists of the input. Every function is total: a byte past the end counts as 0, and no position is above 1,000,000.
 ghost use Prim.Native.Nat.{_≤_};
 ghost use mathlib.Core.Path.{_≡_};
 ghost use lib.ListN.{length};
@@ -10,7 +10,7 @@ pub fn least(a: usize, b: usize) -> usize
     if a < b { a } else { b }
 }
 
-// The place n bytes on, or the sum of two counts.
+// The position n bytes on, or the sum of two counts.
 pub fn plus(at: usize, n: usize) -> usize {
     least(least(at, 1000000) + least(n, 1000000), 1000000)
 }
@@ -51,21 +51,21 @@ pub fn size32(x: u32) -> usize {
     x as usize
 }
 
-// The pair at a place as a length, at most what there is.
+// The pair at a position as a length, at most what there is.
 fn room(s: &[u8], at: usize, most: usize) -> usize
     ensures { λ r. ⌜ r ≤ most ⌝ }
 {
     least(size16(pair(s, at)), most)
 }
 
-// The n bytes from a place on, or those that there are.
+// The n bytes from a position on, or those that there are.
 pub fn part<'a>(s: &'a [u8], at: usize, n: usize) -> &'a [u8] {
     let from = least(at, s.len());
     let to = from + least(n, s.len() - from);
     &s[from..to]
 }
 
-// The front of a list, as long as the k-th of the lengths at a place says.
+// The front of a list, as long as the k-th of the lengths at a position says.
 pub fn lent8<'a>(list: &'a mut [u8], s: &[u8], at: usize, k: usize) -> &'a mut [u8] {
     let n = room(s, plus(at, plus(k, k)), list.len());
     &mut list[0..n]
@@ -101,8 +101,8 @@ fn extent(k: usize, count: u16) -> usize {
     }
 }
 
-// The place of the k-th list of a chart whose numbers stand at a place; at 9 the place after the lists.
-pub fn place(s: &[u8], at: usize, k: usize) -> usize {
+// The position of the k-th list of a chart whose numbers stand at a position; at 9 the position after the lists.
+pub fn position(s: &[u8], at: usize, k: usize) -> usize {
     let mut here = plus(at, 9);
     let mut i = 0;
     while i < k {
@@ -112,12 +112,12 @@ pub fn place(s: &[u8], at: usize, k: usize) -> usize {
     here
 }
 
-// The k-th list of a chart whose numbers stand at a place, and zeros after it.
+// The k-th list of a chart whose numbers stand at a position, and zeros after it.
 pub fn list8(s: &[u8], at: usize, k: usize) -> [u8; 4096]
     ensures { λ r. ⌜ 4096 ≡ length r ⌝ }
 {
     let mut list = [0u8; 4096];
-    fill8(s, place(s, at, k), &mut list);
+    fill8(s, position(s, at, k), &mut list);
     list
 }
 
@@ -125,7 +125,7 @@ pub fn list16(s: &[u8], at: usize, k: usize) -> [u16; 4096]
     ensures { λ r. ⌜ 4096 ≡ length r ⌝ }
 {
     let mut list = [0u16; 4096];
-    fill16(s, place(s, at, k), &mut list);
+    fill16(s, position(s, at, k), &mut list);
     list
 }
 
@@ -133,27 +133,27 @@ pub fn list64(s: &[u8], at: usize, k: usize) -> [u64; 4096]
     ensures { λ r. ⌜ 4096 ≡ length r ⌝ }
 {
     let mut list = [0u64; 4096];
-    fill64(s, place(s, at, k), &mut list);
+    fill64(s, position(s, at, k), &mut list);
     list
 }
 
 // The front of that list, as long as its count says.
 pub fn front8<'a>(list: &'a [u8], s: &[u8], at: usize, k: usize) -> &'a [u8] {
-    let n = room(s, place(s, at, k), list.len());
+    let n = room(s, position(s, at, k), list.len());
     &list[0..n]
 }
 
 pub fn front16<'a>(list: &'a [u16], s: &[u8], at: usize, k: usize) -> &'a [u16] {
-    let n = room(s, place(s, at, k), list.len());
+    let n = room(s, position(s, at, k), list.len());
     &list[0..n]
 }
 
 pub fn front64<'a>(list: &'a [u64], s: &[u8], at: usize, k: usize) -> &'a [u64] {
-    let n = room(s, place(s, at, k), list.len());
+    let n = room(s, position(s, at, k), list.len());
     &list[0..n]
 }
 
-// Fills a list with the entries after the count that stands at a place.
+// Fills a list with the entries after the count that stands at a position.
 fn fill8(s: &[u8], at: usize, list: &mut [u8]) {
     let n = size16(pair(s, at));
     let mut from = plus(at, 2);

@@ -65,7 +65,7 @@ fn unlike(x: u64, was: u64) -> usize {
     if x == was { 0 } else { 1 }
 }
 
-// How many entries from a place on are not as they were.
+// How many entries from a position on are not as they were.
 pub fn changed8(list: &[u8], from: usize) -> usize {
     let mut sum = 0;
     let mut i = from;

@@ -27,7 +27,7 @@ fn run(input: &[u8]) {
     }
 }
 
-// Runs the vector at a place, and answers the place after it.
+// Runs the vector at a position, and answers the position after it.
 fn run_vector(input: &[u8], at: usize) -> usize {
     let kind = input::byte(input, at);
     let from = input::plus(at, 1);
@@ -40,7 +40,7 @@ fn run_vector(input: &[u8], at: usize) -> usize {
     at
 }
 
-// Reads the file of a vector into lists as long as its nine lengths say, and answers the place after the vector.
+// Reads the file of a vector into lists as long as its nine lengths say, and answers the position after the vector.
 fn run_read(input: &[u8], at: usize) -> usize {
     let mut accepting = [43690u16; 4096];
     let a = input::lent16(&mut accepting, input, at, 0);
@@ -186,7 +186,7 @@ fn show_chart(
     );
 }
 
-// Hands the nine lists of a vector to the writer, and answers the place after the vector.
+// Hands the nine lists of a vector to the writer, and answers the position after the vector.
 fn run_write(input: &[u8], at: usize) -> usize {
     let accepting = input::list16(input, at, 0);
     let a = input::front16(&accepting, input, at, 0);
@@ -206,7 +206,7 @@ fn run_write(input: &[u8], at: usize) -> usize {
     let h = input::front8(&codes, input, at, 7);
     let constants = input::list16(input, at, 8);
     let i = input::front16(&constants, input, at, 8);
-    let end = input::place(input, at, 9);
+    let end = input::position(input, at, 9);
     write_to(
         input::size32(input::quad(input, end)),
         input::numbers(input, at),

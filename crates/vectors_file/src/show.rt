@@ -83,7 +83,7 @@ fn head(i: usize, sources: &[u16], targets: &[u16], events: &[u8], starts: &[u64
     item(b" starts ", entry64(starts, i));
 }
 
-// The g tests from a place on, and the end of the line.
+// The g tests from a position on, and the end of the line.
 fn tests(at: usize, g: usize, timers: &[u8], codes: &[u8], constants: &[u16]) {
     item(b" tests ", g as u64);
     let mut k = 0;

@@ -1,8 +1,8 @@
--- `place` is safe and ends. The measure is the number of lists that are left. Assumes nothing.
+-- `position` is safe and ends. The measure is the number of lists that are left. Assumes nothing.
 use Prim.Native.Nat.{_-_}
 use borrow.Author.Needs.{needs}
-use Rattle.vectors_file.proofs.input.place.Statement.{statement}
-use Rattle.vectors_file.proofs.input.place.Tie as tie
+use Rattle.vectors_file.proofs.input.position.Statement.{statement}
+use Rattle.vectors_file.proofs.input.position.Tie as tie
 
 abbrev Inv-loop : tie.InvT-loop
 Inv-loop s at k here₀ i₀ here i = Unit {0}
@@ -37,8 +37,8 @@ loop-again c = search needs
 returns : tie.Need-returns Inv-loop μ-loop
 returns c = search needs
 
-pub place-spec : {M : Type 1} → statement M
-place-spec =
+pub position-spec : {M : Type 1} → statement M
+position-spec =
     tie.close
     (tie.spec
     Inv-loop
