@@ -13,6 +13,7 @@ use Rattle.comparison.specs.declared.Comparison.{Comparison}
 use Rattle.comparison.specs.declared.Comparison.the-variants.{AtMost, Below, AtLeast, Above, Equal}
 use Rattle.comparison.specs.Comparison.{comparisonOf, codeOf}
 use Rattle.lists.specs.Rising.{Rising}
+use Rattle.lists.proofs.Gather.{rising-length}
 use Rattle.file_format.specs.Parse.{Parsed, value, refusal, bind, byte, number, below, entry, rising, digits, writeAll}
 use Rattle.file_format.specs.Body.{known, readComparison}
 use Rattle.file_format.proofs.Parsed.{value-refused, same-value, same-rest, bind-value}
@@ -63,6 +64,10 @@ unfolding rising
 rising-trip w limit n p k h =
     items (λ (lo x : ℕ). suc x) (λ lo x. (lo ≤ x) × (x < limit)) (Rising limit) (λ lo. tt) (λ lo x xs p r. (p, r)) (λ lo x xs r. r)
     (digits w) (entry w limit n p) (entry-trip w limit n p h) 0 k
+
+-- such a list has no more entries than the limit, or anything above it
+pub rising-most : (limit most : ℕ) (xs : List ℕ) → limit ≤ most → Rising limit 0 xs → length xs ≤ most
+rising-most limit most xs h r = omega (arith, rising-length limit 0 xs r (omega arith))
 
 -- ---- comparisons
 

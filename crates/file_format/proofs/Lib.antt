@@ -5,3 +5,6 @@ pub mod Frame
 pub mod RoundTrip
 pub mod Fields
 pub mod Transitions
+pub mod Body
+pub mod Lengths
+pub mod File

@@ -11,14 +11,13 @@ use borrow.Author.Tests.{leb-true, le-leb, eqb-true}
 use Rattle.comparison.specs.Comparison.{codeOf}
 use Rattle.lists.specs.Rising.{Rising, All}
 use Rattle.lists.proofs.Bools.{eqb-self}
-use Rattle.lists.proofs.Gather.{rising-length}
 use Rattle.model.specs.Answer.{nowhere}
 use Rattle.model.specs.Chart.{Test, Transition}
 use Rattle.model.specs.Valid.{ValidTest, ValidTransition}
 use Rattle.file_format.specs.Parse.{Parsed, value, bind, number, below, rising, digits, writeAll}
 use Rattle.file_format.specs.Body.{readTest, readTests, recordLength, readTransition, readTransitions, writeTest, writeTransition}
 use Rattle.file_format.proofs.RoundTrip.{RoundTrip, restated, field, field-as, condition, end, items}
-use Rattle.file_format.proofs.Fields.{number-trip, below-trip, rising-trip, comparison-trip}
+use Rattle.file_format.proofs.Fields.{number-trip, below-trip, rising-trip, rising-most, comparison-trip}
 
 module _ (W timers : ℕ) (few-timers : timers ≤ 64) where
   pub test-trip : (i : ℕ) → RoundTrip (ValidTest W timers) (writeTest W) (readTest W timers i)
@@ -43,7 +42,7 @@ lengthOf W r = recordLength W (length (r .starts)) (length (r .tests))
 
 module _ (W locations timers : ℕ) (narrow : W ≤ 8) (few-locations : locations ≤ 256) (few-timers : timers ≤ 64) where
   few-starts : (r : Transition) → ValidTransition W locations timers r → length (r .starts) ≤ 64
-  few-starts r v = omega (arith, rising-length timers 0 (r .starts) (v .starts) (omega arith))
+  few-starts r v = rising-most timers 64 (r .starts) few-timers (v .starts)
 
   length-fits : (r : Transition) → ValidTransition W locations timers r → lengthOf W r < 256 ^ 2
   unfolding recordLength
