@@ -1,7 +1,7 @@
 // The fields of a chart file and the parts of a transition's record, each read at a place and answered by its value with the next place, or by
 // its refusal. Nothing is asked of a place: past the end of the file a field is cut, and that is 3.
 ghost use mathlib.Core.Path.{_≡_};
-ghost use Prim.Native.Nat.{_≤_};
+ghost use Prim.Native.Nat.{_≤_, _<_};
 ghost use lib.ListN.{drop};
 ghost use Rattle.file_format.specs.Parse.{below};
 ghost use Rattle.file_format.specs.Body.{readTest};
@@ -32,7 +32,7 @@ pub fn refusal_of(a: Field) -> Refusal
 }
 
 fn wide(x: u8) -> u64
-    ensures { λ r. ⌜ r ≡ x ⌝ }
+    ensures { λ r. ⌜ (r ≡ x) × (r < 256) ⌝ }
 {
     x as u64
 }
