@@ -103,28 +103,32 @@ module _ (s bs : List ℕ) where
   pub header₀ : {f : Refusal} → readLimits bs ≡ refusalAs f → HeaderAt s bs (headers.Refused f)
   header₀ e = header-refused (sym (header-parts bs) ∙ rw e)
 
-  module _ {l : Limits} (entries : ℕ) (e₀ : readLimits bs ≡ value l (drop entries s)) where
-    pub header₁ : {f : Refusal} → passAccepting (l .locations) (l .accepting) (drop entries s) ≡ refusalAs f → HeaderAt s bs (headers.Refused f)
-    unfolding passAccepting
-    header₁ e = let h = kept-refused length (rising 2 (l .locations) 5 nowhere (l .accepting) (drop entries s)) e in
-        header-refused (sym (header-parts bs) ∙ rw (e₀, h))
+  module _ {l : Limits} {b₁ : List ℕ} (e₀ : readLimits bs ≡ value l b₁) where
+    abbrev entries-read : Parsed (List ℕ)
+    entries-read = rising 2 (l .locations) 5 nowhere (l .accepting) b₁
 
-    module _ {x : ℕ} {b₂ : List ℕ} (e₁ : passAccepting (l .locations) (l .accepting) (drop entries s) ≡ value x b₂) where
-      accepting-found : (xs : List ℕ) × (rising 2 (l .locations) 5 nowhere (l .accepting) (drop entries s) ≡ value xs b₂) × (length xs ≡ x)
+    pub header₁ : {f : Refusal} → passAccepting (l .locations) (l .accepting) b₁ ≡ refusalAs f → HeaderAt s bs (headers.Refused f)
+    unfolding passAccepting
+    header₁ e = let h = kept-refused length entries-read e in header-refused (sym (header-parts bs) ∙ rw (e₀, h))
+
+    module _ {x : ℕ} {b₂ : List ℕ} (e₁ : passAccepting (l .locations) (l .accepting) b₁ ≡ value x b₂) where
+      accepting-found : (xs : List ℕ) × (entries-read ≡ value xs b₂) × (length xs ≡ x)
       unfolding passAccepting
-      accepting-found = kept-value length (rising 2 (l .locations) 5 nowhere (l .accepting) (drop entries s)) e₁
+      accepting-found = kept-value length entries-read e₁
 
       pub header₂ : {f : Refusal} → below 2 513 4 nowhere b₂ ≡ refusalAs f → HeaderAt s bs (headers.Refused f)
       header₂ e = let h = accepting-found .1 in header-refused (sym (header-parts bs) ∙ rw (e₀, h, e))
 
-      pub header₃ : {n : ℕ} (transitions : ℕ) → below 2 513 4 nowhere b₂ ≡ value n (drop transitions s)
+      pub header₃ : {n : ℕ} (entries transitions : ℕ) → b₁ ≡ drop entries s → below 2 513 4 nowhere b₂ ≡ value n (drop transitions s)
           → HeaderAt s bs (headers.Found (record { locations = l .locations; initial = l .initial; timers = l .timers; accepting = l .accepting; transitions = n }) entries transitions)
       unfolding headerNumbers
-      header₃ {n} transitions e = let h = accepting-found in let q = accepting-length _ _ _ (h .1) in
+      header₃ {n} entries transitions here e =
+          let h = accepting-found in
+          let q = accepting-length _ _ _ (h .1) in
           header-known record {
             header = record { locations = l .locations; initial = l .initial; timers = l .timers; accepting = h .0; count = n };
             is = sym (header-parts bs) ∙ rw (e₀, h .1, e);
             numbers = rw q;
             end = b₂;
-            accepting = h .1;
+            accepting = rw (← here) (h .1);
           }
