@@ -12,7 +12,7 @@ use Rattle.chart_lists.specs.declared.Numbers.{Numbers}
 use Rattle.chart_lists.specs.declared.Refusal.{Refusal}
 use Rattle.file_format.specs.Parse.{Parsed, value, refusal, bind, guard, number, below, rising, many, entry}
 use Rattle.file_format.specs.Body.{Header, readHeader}
-use Rattle.file_format.proofs.Parsed.{kept-value, kept-refused}
+use Rattle.file_format.proofs.Parsed.{bind-value, guard-value, same-value, below-limit, kept-value, kept-refused}
 use Rattle.file_format.proofs.Items.{many-length}
 use Rattle.fields.specs.Meaning.{refusalAs}
 use Rattle.reader.specs.declared.HeaderField.{HeaderField}
@@ -50,6 +50,17 @@ module _ (bs : List ℕ) where
           pub limits₅ : {a : ℕ} {b₄ : List ℕ} → number 2 b₃ ≡ value a b₄ → value (record { locations = l; initial = q; timers = k; accepting = a }) b₄ ≡ readLimits bs
           unfolding readLimits
           limits₅ e = rw (e₀, le-leb 1 l some, e₁, e₂, e)
+
+pub few-timers : (bs : List ℕ) {l : Limits} {t : List ℕ} → readLimits bs ≡ value l t → l .timers ≤ 64
+unfolding readLimits
+few-timers bs {l} {t} e =
+    let i₀ = bind-value (below 2 257 4 nowhere bs) _ l t e in
+    let g = guard-value (leb 1 (i₀ .0)) 4 nowhere _ (i₀ .3) in
+    let i₁ = bind-value (below 2 (i₀ .0) 5 nowhere (i₀ .1)) _ l t (g .1) in
+    let i₂ = bind-value (below 1 65 4 nowhere (i₁ .1)) _ l t (i₁ .3) in
+    let i₃ = bind-value (number 2 (i₂ .1)) _ l t (i₂ .3) in
+    let q : i₂ .0 ≡ l .timers = ap (λ (x : Limits). x .timers) (same-value (i₃ .3)) in
+    omega (arith, below-limit 1 65 4 nowhere (i₁ .1) (i₂ .2))
 
 -- ---- the parts make up the header
 
@@ -129,6 +140,7 @@ module _ (s bs : List ℕ) where
             header = record { locations = l .locations; initial = l .initial; timers = l .timers; accepting = h .0; count = n };
             is = sym (header-parts bs) ∙ rw (e₀, h .1, e);
             numbers = rw q;
+            few-timers = few-timers bs e₀;
             end = b₂;
             accepting = rw (← here) (h .1);
           }

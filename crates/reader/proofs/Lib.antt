@@ -6,3 +6,4 @@ pub mod Lengths
 pub mod Store
 pub mod FillingTests
 pub mod RecordParts
+pub mod JudgeParts

@@ -1,3 +1,10 @@
+use mathlib.Core.Path.{sym, ap, _∙_}
+use denote.Ref.{now}
+use Rattle.file_format.proofs.Frame.{end-at, more-at}
+use Rattle.fields.specs.Meaning.{meant}
+use Rattle.fields.proofs.Answers.{told}
+use Rattle.reader.specs.Meaning.{meantFrame}
+use Rattle.reader.proofs.JudgeParts.{judge₀, judge₁, judge₂, judge₃, judge₄}
 use borrow.Author.Needs.{needs}
 use Rattle.reader.proofs.judge_file.Statement.{statement}
 use Rattle.reader.proofs.judge_file.Tie as tie
@@ -27,7 +34,8 @@ refusal-of-requires c κs = search needs
 
 -- src/lib.rt:271:9
 returns : tie.Need-returns
-returns c = ?
+returns c = let s = now (c .before .before .before .before .before .args .s) in
+    rw (c .refusal-of .ensures, c .before .enum-told .given .1) (judge₀ s (sym (c .before .before .before .frame .ensures) ∙ ap (meantFrame s) (c .before .enum-told .given .1)))
 
 -- src/lib.rt:273:9
 header-at-requires : tie.Need-header-at-requires
@@ -47,11 +55,13 @@ header-refusal-requires c κs = search needs
 
 -- src/lib.rt:280:9
 returns-2 : tie.Need-returns-2
-returns-2 c = ?
+returns-2 c = let s = now (c .before .before .before .before .before .before .before .before .before .args .s) in
+    let e₀ = sym (c .before .before .before .before .before .before .before .frame .ensures) ∙ ap (meantFrame s) (c .before .before .before .before .before .a .given .1) in
+    rw (c .header-refusal .ensures, c .before .enum-told2 .given .1) (judge₁ s e₀ (c .before .before .before .header-at .ensures .refused _ (c .before .enum-told2 .given .1)))
 
 -- src/lib.rt:282:9
 judge-records-requires : tie.Need-judge-records-requires
-judge-records-requires c κs = ?
+judge-records-requires c κs = c .before .before .before .header-at .ensures .found _ _ _ (c .before .b .given .1) .few-timers
 
 -- src/lib.rt:283:22
 enum-known-d : tie.Need-enum-known-d
@@ -67,15 +77,24 @@ refusal-of-requires-2 c κs = search needs
 
 -- src/lib.rt:284:9
 returns-3 : tie.Need-returns-3
-returns-3 c = ?
+returns-3 c = let s = now (c .before .before .before .before .before .before .before .before .before .before .before .before .before .args .s) in
+    let e₀ = sym (c .before .before .before .before .before .before .before .before .before .before .before .frame .ensures) ∙ ap (meantFrame s) (c .before .before .before .before .before .before .before .before .before .a .given .1) in
+    let h = c .before .before .before .before .before .before .before .header-at .ensures .found _ _ _ (c .before .before .before .before .before .b .given .1) in
+    rw (c .refusal-of2 .ensures, c .before .enum-told3 .given .1) (judge₂ s e₀ h (told (meant s) (c .before .enum-told3 .given .1) (c .before .before .before .judge-records .ensures)))
 
 -- src/lib.rt:287:9
 returns-4 : tie.Need-returns-4
-returns-4 c = ?
+returns-4 c = let s = now (c .before .before .before .before .before .before .before .before .before .before .before .before .before .before .args .s) in
+    let e₀ = sym (c .before .before .before .before .before .before .before .before .before .before .before .before .frame .ensures) ∙ ap (meantFrame s) (c .before .before .before .before .before .before .before .before .before .before .a .given .1) in
+    let h = c .before .before .before .before .before .before .before .before .header-at .ensures .found _ _ _ (c .before .before .before .before .before .before .b .given .1) in
+    judge₃ s e₀ h (told (meant s) (c .before .before .d .given .1) (c .before .before .before .before .judge-records .ensures)) (more-at s _ (c .if1 .taken))
 
 -- src/lib.rt:266:1
 returns-5 : tie.Need-returns-5
-returns-5 c = ?
+returns-5 c = let s = now (c .before .before .before .before .before .before .before .before .before .before .before .before .before .before .args .s) in
+    let e₀ = sym (c .before .before .before .before .before .before .before .before .before .before .before .before .frame .ensures) ∙ ap (meantFrame s) (c .before .before .before .before .before .before .before .before .before .before .a .given .1) in
+    let h = c .before .before .before .before .before .before .before .before .header-at .ensures .found _ _ _ (c .before .before .before .before .before .before .b .given .1) in
+    judge₄ s e₀ h (told (meant s) (c .before .before .d .given .1) (c .before .before .before .before .judge-records .ensures)) (end-at s _ (c .if1 .left))
 
 pub judge-file-spec : {M : Type 1} → statement M
 judge-file-spec =
