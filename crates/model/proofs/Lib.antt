@@ -1,1 +1,11 @@
 pub mod Starred
+pub mod Transitions
+pub mod TransitionSets
+pub mod Paths
+pub mod Edges
+pub mod Flow
+pub mod Rounds
+pub mod Settled
+pub mod LivePaths
+pub mod Forward
+pub mod Judgement
