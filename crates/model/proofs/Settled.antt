@@ -64,6 +64,11 @@ same-sets-equal (x ∷ xs) (y ∷ ys) h =
 abbrev pub Changes : Flow → ℕ → Type 0
 Changes f k = (i : ℕ) → i < k → roundsOf f i ≡ roundsOf f (suc i) → ⊥
 
+-- the rounds end with the round after k
+pub record Ends (f : Flow) (k : ℕ) : Type 0 where
+  pub settled-is : settled f ≡ roundsOf f k
+  pub rounds-are : rounds f ≡ suc k
+
 module _ (f : Flow) where
   -- round number k changes nothing
   abbrev still : ℕ → Bool
@@ -105,11 +110,7 @@ module _ (f : Flow) where
     few-changes k m = omega (arith, counted k m, room k)
 
     -- the first round that changes nothing ends them
-    pub record Ends (k : ℕ) : Type 0 where
-      pub settled-is : settled f ≡ roundsOf f k
-      pub rounds-are : rounds f ≡ suc k
-
-    pub ends : (k : ℕ) → roundsOf f (suc k) ≡ roundsOf f k → Changes f k → Ends k
+    pub ends : (k : ℕ) → roundsOf f (suc k) ≡ roundsOf f k → Changes f k → Ends f k
     unfolding settled rounds changing
     ends k e m = record { settled-is = ap (roundsOf f) is; rounds-are = ap suc is }
       where
