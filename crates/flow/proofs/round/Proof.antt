@@ -1,3 +1,13 @@
+-- `round` starts from the locations' own sets and joins to them what each edge brings, one edge a turn. Assumes nothing.
+use mathlib.Core.Path.{_≡_, refl, ap, _∙_}
+use Prim.Native.Nat.{ℕ, _-_, _≤_, _<_}
+use native.Mathlib.Numerals.{add-one}
+use native.Mathlib.Omega.{arith}
+use lib.ListN.{length, getD, length-set}
+use borrow.Author.Needs.{needs}
+use Rattle.model.proofs.Edges.{roundTo}
+use Rattle.flow.specs.Edges.{flowOf, Matching}
+use Rattle.flow.proofs.Lists.{round-start, round-step, round-end}
 use Rattle.flow.proofs.round.Statement.{statement}
 use Rattle.flow.proofs.round.Tie as tie
 use Rattle.flow.proofs.round.Reads as reads
@@ -6,106 +16,97 @@ use Rattle.flow.proofs.copy.Reads as copy-reads
 use Rattle.flow.proofs.with_edge.Reads as with-edge-reads
 
 abbrev Inv-loop : tie.InvT-loop
-Inv-loop into from cut gain own before after₀ n i₀ after i = ?
+Inv-loop into from cut gain own before after₀ n i₀ after i =
+    Matching into from cut gain own × (n ≡ length into) × (i ≤ n) × (length before ≡ length own) × (length after ≡ length own)
+    × (after ≡ roundTo (flowOf into from cut gain own) before i)
 
 abbrev μ-loop : tie.MeasureT-loop
-μ-loop into from cut gain own before after₀ n i₀ after i = ?
+μ-loop into from cut gain own before after₀ n i₀ after i = n - i
 
--- src/lib.rt:50:5
+abbrev start : tie.At-loop Inv-loop μ-loop → tie.Start Inv-loop μ-loop
+start a = a .before .before .before .before .before .before .before .before .before .before .before .before
+
+-- an edge that the loop is at leads between two locations
+into-small : (a : tie.At-loop Inv-loop μ-loop) → a .loop .i < length (start a .args .into .now) → getD (start a .args .into .now) (a .loop .i) 0 < length (start a .args .own .now)
+into-small a h = a .loop .inv .0 .into-below (a .loop .i) h
+
+from-small : (a : tie.At-loop Inv-loop μ-loop) → a .loop .i < length (start a .args .into .now) → getD (start a .args .from .now) (a .loop .i) 0 < length (start a .args .own .now)
+from-small a h = a .loop .inv .0 .from-below (a .loop .i) h
+
 copy-requires : tie.Need-copy-requires Inv-loop μ-loop
-copy-requires c κs = ?
+copy-requires c κs = search needs
 
--- src/lib.rt:53:5
 loop-holds : tie.Need-loop-holds Inv-loop μ-loop
-loop-holds c = ?
+loop-holds c = let p = c .before .before .before .before .before .before .before .before .before .before .before .pre in let e = c .before .before .copy .ensures in
+    (p .0, refl, search needs, p .1 .0, ap length e, e ∙ round-start _ _ _ _ _ _)
 
--- src/lib.rt:54:17
 mul-q : tie.Need-mul-q Inv-loop μ-loop
-mul-q c = ?
+mul-q c = search needs
 
--- src/lib.rt:54:17
 shared-slice-read-q : tie.Need-shared-slice-read-q Inv-loop μ-loop
-shared-slice-read-q c = ?
+shared-slice-read-q c = search needs
 
--- src/lib.rt:54:17
 cast-q : tie.Need-cast-q Inv-loop μ-loop
-cast-q c = ?
+cast-q c = omega (arith, into-small (c .before .before) (omega arith))
 
--- src/lib.rt:55:17
 mul-s : tie.Need-mul-s Inv-loop μ-loop
-mul-s c = ?
+mul-s c = search needs
 
--- src/lib.rt:55:17
 shared-slice-read-s : tie.Need-shared-slice-read-s Inv-loop μ-loop
-shared-slice-read-s c = ?
+shared-slice-read-s c = search needs
 
--- src/lib.rt:55:17
 cast-s : tie.Need-cast-s Inv-loop μ-loop
-cast-s c = ?
+cast-s c = omega (arith, from-small (c .before .before .before) (omega arith))
 
--- src/lib.rt:56:30
 mul-with-edge : tie.Need-mul-with-edge Inv-loop μ-loop
-mul-with-edge c = ?
+mul-with-edge c = omega (arith, into-small (c .before .before .before) (omega arith))
 
--- src/lib.rt:56:30
 slice-read-with-edge : tie.Need-slice-read-with-edge Inv-loop μ-loop
-slice-read-with-edge c = ?
+slice-read-with-edge c = omega (arith, into-small (c .before .before .before .before) (omega arith))
 
--- src/lib.rt:56:40
 mul-with-edge-2 : tie.Need-mul-with-edge-2 Inv-loop μ-loop
-mul-with-edge-2 c = ?
+mul-with-edge-2 c = omega (arith, from-small (c .before .before .before .before) (omega arith))
 
--- src/lib.rt:56:40
 shared-slice-read-with-edge : tie.Need-shared-slice-read-with-edge Inv-loop μ-loop
-shared-slice-read-with-edge c = ?
+shared-slice-read-with-edge c = omega (arith, from-small (c .before .before .before .before .before) (omega arith))
 
--- src/lib.rt:56:51
 mul-with-edge-3 : tie.Need-mul-with-edge-3 Inv-loop μ-loop
-mul-with-edge-3 c = ?
+mul-with-edge-3 c = search needs
 
--- src/lib.rt:56:51
 shared-slice-read-with-edge-2 : tie.Need-shared-slice-read-with-edge-2 Inv-loop μ-loop
-shared-slice-read-with-edge-2 c = ?
+shared-slice-read-with-edge-2 c = search needs
 
--- src/lib.rt:56:59
 mul-with-edge-4 : tie.Need-mul-with-edge-4 Inv-loop μ-loop
-mul-with-edge-4 c = ?
+mul-with-edge-4 c = search needs
 
--- src/lib.rt:56:59
 shared-slice-read-with-edge-3 : tie.Need-shared-slice-read-with-edge-3 Inv-loop μ-loop
-shared-slice-read-with-edge-3 c = ?
+shared-slice-read-with-edge-3 c = search needs
 
--- src/lib.rt:56:20
 with-edge-requires : tie.Need-with-edge-requires Inv-loop μ-loop
-with-edge-requires c κs = ?
+with-edge-requires c κs = search needs
 
--- src/lib.rt:56:9
 mul-after : tie.Need-mul-after Inv-loop μ-loop
-mul-after c = ?
+mul-after c = omega (arith, into-small (c .before .before .before .before .before .before .before .before) (omega arith))
 
--- src/lib.rt:56:9
 slice-write-after : tie.Need-slice-write-after Inv-loop μ-loop
-slice-write-after c = ?
+slice-write-after c = omega (arith, into-small (c .before .before .before .before .before .before .before .before) (omega arith))
 
--- src/lib.rt:57:9
 add-i : tie.Need-add-i Inv-loop μ-loop
-add-i c = ?
+add-i c = search needs
 
--- src/lib.rt:53:5
 loop-less : tie.Need-loop-less Inv-loop μ-loop
-loop-less c = ?
+loop-less c = search needs
 
--- src/lib.rt:53:5
 loop-again : tie.Need-loop-again Inv-loop μ-loop
-loop-again c = ?
+loop-again c = let l = c .before .before .before .before .before .before .before .before .loop in
+    (l .inv .0, l .inv .1, omega arith, l .inv .3, simp length-set (l .inv .4),
+      rw add-one (round-step _ _ _ _ _ _ (l .i) (l .after) _ (omega arith) (l .inv .5) (c .with-edge .ensures)))
 
--- src/lib.rt:45:1
 same-length : tie.Need-same-length Inv-loop μ-loop
-same-length c = ?
+same-length c = search needs
 
--- src/lib.rt:45:1
 returns : tie.Need-returns Inv-loop μ-loop
-returns c = ?
+returns c = let l = c .before .loop in round-end _ _ _ _ _ _ (l .i) _ (omega arith) (l .inv .5)
 
 pub round-spec : {M : Type 1} → statement M
 round-spec =
