@@ -66,6 +66,7 @@ module _ (into from cut gain own : List ℕ) where
     where
       below : (i : ℕ) {e : Edge} → getElem? (flowOf into from cut gain own .edges) i ≡ some e → i < length into
       below i n = omega (arith, below-nth (flowOf into from cut gain own .edges) i n, length-edges)
+
       is : (i : ℕ) {e : Edge} → getElem? (flowOf into from cut gain own .edges) i ≡ some e → e ≡ edgeAt into from cut gain i
       is i n = Option·some-injective _ _ (sym n ∙ nth-edge i (below i n))
 

@@ -7,6 +7,7 @@ ghost use Rattle.model.specs.Flow.{round as Flow·round, sameSets, settled, rou
 ghost use Rattle.flow.specs.Edges.{flowOf, Matching};
 use timer_set::TimerSet;
 
+// `to` becomes `from`.
 fn copy(from: &[u64], to: &mut [u64])
     requires { ⌜ length (now to) ≡ length (now from) ⌝ }
     ensures { λ _. ⌜ now (to .exit) ≡ now (from .entry) ⌝ }
@@ -18,6 +19,7 @@ fn copy(from: &[u64], to: &mut [u64])
     }
 }
 
+// Whether no set differs.
 fn same(a: &[u64], b: &[u64]) -> bool
     requires { ⌜ length (now b) ≡ length (now a) ⌝ }
     ensures { λ r. ⌜ r ≡ sameSets (now (a .entry)) (now (b .entry)) ⌝ }
@@ -42,7 +44,15 @@ fn with_edge(set: u64, before: u64, cut: u64, gain: u64) -> u64
 }
 
 // One round over all edges: the sets of the round before stand in `before`, and `after` is overwritten.
-fn round<'a>(into: &'a [u16], from: &'a [u16], cut: &'a [u64], gain: &'a [u64], own: &'a [u64], before: &'a [u64], after: &mut [u64])
+fn round<'a>(
+    into: &'a [u16],
+    from: &'a [u16],
+    cut: &'a [u64],
+    gain: &'a [u64],
+    own: &'a [u64],
+    before: &'a [u64],
+    after: &mut [u64],
+)
     requires { ⌜ Matching (now into) (now from) (now cut) (now gain) (now own) ⌝ }
     requires { ⌜ (length (now before) ≡ length (now own)) × (length (now after) ≡ length (now own)) ⌝ }
     ensures { λ _. ⌜ now (after .exit) ≡ Flow·round (flowOf (now (into .entry)) (now (from .entry)) (now (cut .entry)) (now (gain .entry)) (now (own .entry))) (now (before .entry)) ⌝ }
@@ -59,11 +69,18 @@ fn round<'a>(into: &'a [u16], from: &'a [u16], cut: &'a [u64], gain: &'a [u64], 
 }
 
 // The sets that the rounds leave go into `sets`, whatever it held; the number of rounds, the last one counted, is the result.
-pub fn settle<'a>(into: &'a [u16], from: &'a [u16], cut: &'a [u64], gain: &'a [u64], own: &'a [u64], sets: &mut [u64]) -> u32
+pub fn settle<'a>(
+    into: &'a [u16],
+    from: &'a [u16],
+    cut: &'a [u64],
+    gain: &'a [u64],
+    own: &'a [u64],
+    sets: &mut [u64],
+) -> u32
     requires { ⌜ Matching (now into) (now from) (now cut) (now gain) (now own) ⌝ }
     requires { ⌜ length (now sets) ≡ length (now own) ⌝ }
-    ensures { λ _. ⌜ now (sets .exit) ≡ settled (flowOf (now (into .entry)) (now (from .entry)) (now (cut .entry)) (now (gain .entry)) (now (own .entry))) ⌝ }
-    ensures { λ r. ⌜ r ≡ rounds (flowOf (now (into .entry)) (now (from .entry)) (now (cut .entry)) (now (gain .entry)) (now (own .entry))) ⌝ }
+    ensures sets { λ _. ⌜ now (sets .exit) ≡ settled (flowOf (now (into .entry)) (now (from .entry)) (now (cut .entry)) (now (gain .entry)) (now (own .entry))) ⌝ }
+    ensures count { λ r. ⌜ r ≡ rounds (flowOf (now (into .entry)) (now (from .entry)) (now (cut .entry)) (now (gain .entry)) (now (own .entry))) ⌝ }
 {
     let n = own.len();
     let mut next = [0u64; 256];

@@ -94,9 +94,14 @@ loop-less : tie.Need-loop-less Inv-loop μ-loop
 loop-less c = search needs
 
 loop-again : tie.Need-loop-again Inv-loop μ-loop
-loop-again c = let l = c .before .before .before .before .before .before .before .before .loop in
-    (l .inv .0, l .inv .1, omega arith, l .inv .3, simp length-set (l .inv .4),
-      rw add-one (round-step _ _ _ _ _ _ (l .i) (l .after) _ (omega arith) (l .inv .5) (c .with-edge .ensures)))
+loop-again c = let l = c .before .before .before .before .before .before .before .before .loop in (
+  l .inv .0,
+  l .inv .1,
+  omega arith,
+  l .inv .3,
+  simp length-set (l .inv .4),
+  rw add-one (round-step _ _ _ _ _ _ (l .i) (l .after) _ (omega arith) (l .inv .5) (c .with-edge .ensures)),
+)
 
 same-length : tie.Need-same-length Inv-loop μ-loop
 same-length c = search needs

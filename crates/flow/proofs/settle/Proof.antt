@@ -26,9 +26,15 @@ abbrev μ-loop : tie.MeasureT-loop
 
 loop-holds : tie.Need-loop-holds Inv-loop μ-loop
 unfolding roundsOf flowOf
-loop-holds c = let p = c .before .before .before .before .before .before .pre in
-    (p .0, shaped-lists _ _ _ _ _ (p .0) (λ i. c .before .before .shared-slice-known4 .given i .fits) (λ i. c .before .shared-slice-known5 .given i .fits),
-      refl, p .1, refl, take-empty _ 256 (p .0 .locations), below-none _)
+loop-holds c = let p = c .before .before .before .before .before .before .pre in (
+  p .0,
+  shaped-lists _ _ _ _ _ (p .0) (λ i. c .before .before .shared-slice-known4 .given i .fits) (λ i. c .before .shared-slice-known5 .given i .fits),
+  refl,
+  p .1,
+  refl,
+  take-empty _ 256 (p .0 .locations),
+  below-none _,
+)
 
 -- ---- at the head of the loop
 
