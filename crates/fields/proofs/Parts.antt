@@ -3,16 +3,17 @@ use mathlib.Core.Path.{_≡_, refl, sym, ap, _∙_, subst}
 use mathlib.Core.Logic.{_⊎_, inl, inr}
 use mathlib.Core.Bool.{Bool, true, false}
 use mathlib.Core.List.{List}
-use Prim.Native.Nat.{ℕ}
+use Prim.Native.Nat.{ℕ, _≤_}
 use lib.ListN.{length}
 use lib.Dec.{leb, eqb}
+use borrow.Author.Tests.{leb-true}
 use Rattle.timer_set.specs.Members.{setOf}
 use Rattle.model.specs.Answer.{nowhere}
 use Rattle.model.specs.Chart.{Test, Transition}
 use Rattle.model.specs.Live.{startsSet}
 use Rattle.file_format.specs.Parse.{Parsed, value, refusal, bind, guard, number, below, rising}
 use Rattle.file_format.specs.Body.{readTest, readTests, readTransition, recordLength}
-use Rattle.file_format.proofs.Parsed.{value-refused, bind-value, same-value, same-rest, kept-value, kept-refused}
+use Rattle.file_format.proofs.Parsed.{value-refused, bind-value, guard-value, same-value, kept-value, kept-refused}
 use Rattle.file_format.proofs.Items.{many-length}
 use Rattle.fields.specs.Parts.{Ends, readEnds, readStarts, Head, headOf, readHead, passTests, passTransition}
 
@@ -165,3 +166,24 @@ module _ (W locations timers i : ℕ) (bs : List ℕ) where
           ⊎ ((h : Head) × (b : List ℕ) × (readHead W locations timers i bs ≡ value h b) × (readTests W timers i (h .tests) b ≡ refusal n p))
       go (value h b) k = inr (h, b, k, tests-refused h b k (readTests W timers i (h .tests) b) refl)
       go (refusal m q) k = inl (k ∙ same-refusal (sym (transition-head-refused k) ∙ e))
+
+-- ---- a record has at most 8 tests
+
+pub head-at-most : (W locations timers i : ℕ) (bs : List ℕ) {h : Head} {b : List ℕ} → readHead W locations timers i bs ≡ value h b → h .tests ≤ 8
+unfolding readHead
+head-at-most W locations timers i bs {h} {b} e =
+    let i₁ = bind-value (readEnds locations i bs) _ h b e in
+    let i₂ = bind-value (below 1 65 4 i (i₁ .1)) _ h b (i₁ .3) in
+    let i₃ = bind-value (readStarts timers i (i₂ .0) (i₂ .1)) _ h b (i₂ .3) in
+    let i₄ = bind-value (number 1 (i₃ .1)) _ h b (i₃ .3) in
+    let g₁ = guard-value (eqb (i₁ .0 .length) (recordLength W (i₂ .0) (i₄ .0))) 3 nowhere _ (i₄ .3) in
+    let g₂ = guard-value (leb (i₄ .0) 8) 4 i _ (g₁ .1) in
+    let q : i₄ .0 ≡ h .tests = ap (λ (x : Head). x .tests) (same-value (g₂ .1)) in
+    subst (λ (g : ℕ). g ≤ 8) q (leb-true (i₄ .0) 8 (g₂ .0))
+
+pub pass-at-most : (W locations timers i : ℕ) (bs : List ℕ) {n : ℕ} {u : List ℕ} → passTransition W locations timers i bs ≡ value n u → n ≤ 8
+unfolding passTransition headOf
+pass-at-most W locations timers i bs {n} {u} e =
+    let k = kept-value (λ (r : Transition). length (r .tests)) (readTransition W locations timers i bs) e in
+    let p = transition-parts W locations timers i bs (k .0) u (k .1) in
+    subst (λ (g : ℕ). g ≤ 8) (k .2) (head-at-most W locations timers i bs (p .head))
