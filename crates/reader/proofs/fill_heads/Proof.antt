@@ -1,8 +1,9 @@
 use borrow.Author.Needs.{needs}
 use Prim.Native.Nat.{_-_}
-use mathlib.Core.Path.{_≡_, refl, sym, _∙_}
+use mathlib.Core.Path.{_≡_, refl, subst}
 use denote.Ref.{now}
 use lib.ListN.{length, drop, length-set}
+use Rattle.reader.specs.Meaning.{RecordAt}
 use Rattle.reader.proofs.Filling.{HeadsFilled, heads-first, heads-done, heads-never, heads-again}
 use Rattle.reader.proofs.fill_heads.Statement.{statement}
 use Rattle.reader.proofs.fill_heads.Tie as tie
@@ -56,7 +57,7 @@ same-length-5 c = c .before .before .before .before .loop .inv .4
 
 -- src/lib.rt:417:13
 returns : tie.Need-returns Inv-loop μ-loop
-returns c = λ rs t e. absurd (heads-never (c .before .before .before .before .loop .inv .5) (c .before .before .before .loop-test .taken) (c .before .before .record-at .ensures .refused _ (c .enum-told .given .1)) rs t e)
+returns c = λ rs t e. absurd (heads-never (c .before .before .before .before .loop .inv .5) (c .before .before .before .loop-test .taken) (subst (RecordAt _ _ _ _ _) (c .enum-told .given .1) (c .before .before .record-at .ensures)) rs t e)
 
 -- src/lib.rt:419:9
 mul-sources : tie.Need-mul-sources Inv-loop μ-loop
@@ -107,7 +108,7 @@ loop-again c = let l = c .before .before .before .before .before .loop .inv in
       simp length-set (l .2),
       simp length-set (l .3),
       simp length-set (l .4),
-      heads-again (l .5) (c .before .before .before .before .loop-test .taken) (p .1) (p .2) (p .3) (p .4) (p .5) (c .before .before .before .record-at .ensures .found _ _ _ _ _ _ _ (c .before .a .given .1)),
+      heads-again (l .5) (c .before .before .before .before .loop-test .taken) (p .1) (p .2) (p .3) (p .4) (p .5) (subst (RecordAt _ _ _ _ _) (c .before .a .given .1) (c .before .before .before .record-at .ensures)),
     )
 
 -- src/lib.rt:397:1

@@ -1,9 +1,10 @@
 use native.Mathlib.Omega.{arith}
 use borrow.Author.Needs.{needs}
 use Prim.Native.Nat.{ℕ, _-_, _≤_}
-use mathlib.Core.Path.{_≡_, refl, sym, _∙_}
+use mathlib.Core.Path.{_≡_, refl, subst}
 use denote.Ref.{now}
 use lib.ListN.{length, drop, length-set}
+use Rattle.reader.specs.Meaning.{RecordAt}
 use Rattle.reader.proofs.FillingTests.{AllFilled, all-first, all-done, all-never, room-next, all-again}
 use Rattle.reader.proofs.fill_tests.Statement.{statement}
 use Rattle.reader.proofs.fill_tests.Tie as tie
@@ -58,7 +59,7 @@ same-length-3 c = c .before .before .before .before .loop .inv .2
 
 -- src/lib.rt:478:13
 returns : tie.Need-returns Inv-loop μ-loop
-returns c = λ rs t e. absurd (all-never (c .before .before .before .before .loop .inv .3) (c .before .before .before .loop-test .taken) (c .before .before .record-at .ensures .refused _ (c .enum-told .given .1)) rs t e)
+returns c = λ rs t e. absurd (all-never (c .before .before .before .before .loop .inv .3) (c .before .before .before .loop-test .taken) (subst (RecordAt _ _ _ _ _) (c .enum-told .given .1) (c .before .before .record-at .ensures)) rs t e)
 
 -- src/lib.rt:480:53
 cast-fill-record-tests : tie.Need-cast-fill-record-tests Inv-loop μ-loop
@@ -66,7 +67,7 @@ cast-fill-record-tests c = search needs
 
 -- src/lib.rt:480:9
 fill-record-tests-requires : tie.Need-fill-record-tests-requires Inv-loop μ-loop
-fill-record-tests-requires c κs = let x = c .before .before .before .before .before .before .record-at .ensures .found _ _ _ _ _ _ _ (c .before .before .before .before .a .given .1) in
+fill-record-tests-requires c κs = let x = subst (RecordAt _ _ _ _ _) (c .before .before .before .before .a .given .1) (c .before .before .before .before .before .before .record-at .ensures) in
     let f = c .before .before .before .before .before .before .before .before .before .before .before .before .before .pre .1 in
     let l = c .before .before .before .before .before .before .before .before .loop in
     let r = room-next (l .inv .3) (c .before .before .before .before .before .before .before .loop-test .taken) x (f .is) in
@@ -78,7 +79,7 @@ cast-base c = search needs
 
 -- src/lib.rt:481:9
 add-base : tie.Need-add-base Inv-loop μ-loop
-add-base c = let x = c .before .before .before .before .before .before .before .before .before .before .before .before .before .record-at .ensures .found _ _ _ _ _ _ _ (c .before .before .before .before .before .before .before .before .before .before .before .a .given .1) in
+add-base c = let x = subst (RecordAt _ _ _ _ _) (c .before .before .before .before .before .before .before .before .before .before .before .a .given .1) (c .before .before .before .before .before .before .before .before .before .before .before .before .before .record-at .ensures) in
     let f = c .before .before .before .before .before .before .before .before .before .before .before .before .before .before .before .before .before .before .before .before .pre .1 in
     let r = room-next (c .before .before .before .before .before .before .before .before .before .before .before .before .before .before .before .loop .inv .3) (c .before .before .before .before .before .before .before .before .before .before .before .before .before .before .loop-test .taken) x (f .is) in
     omega (arith, f .timers-fit, c .before .before .before .before .before .before .before .before .before .before .before .before .before .before .before .before .before .before .before .before .good .1 .1 .1 .1 .1 .0 .0)
@@ -93,7 +94,7 @@ loop-less c = search needs
 
 -- src/lib.rt:466:5
 loop-again : tie.Need-loop-again Inv-loop μ-loop
-loop-again c = let x = c .before .before .before .before .before .before .before .before .before .before .before .before .before .record-at .ensures .found _ _ _ _ _ _ _ (c .before .before .before .before .before .before .before .before .before .before .before .a .given .1) in
+loop-again c = let x = subst (RecordAt _ _ _ _ _) (c .before .before .before .before .before .before .before .before .before .before .before .a .given .1) (c .before .before .before .before .before .before .before .before .before .before .before .before .before .record-at .ensures) in
     let l = c .before .before .before .before .before .before .before .before .before .before .before .before .before .before .before .loop .inv in (
       omega (arith, l .0, c .before .before .before .before .before .tested .given),
       omega (arith, l .1, c .before .before .before .codes .given),

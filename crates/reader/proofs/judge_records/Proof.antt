@@ -6,7 +6,7 @@ use denote.Ref.{now}
 use lib.ListN.{drop}
 use Rattle.fields.specs.Meaning.{meant}
 use Rattle.fields.proofs.Answers.{told}
-use Rattle.reader.proofs.RecordParts.{few-tests}
+use Rattle.fields.proofs.Parts.{pass-at-most}
 use Rattle.reader.proofs.Passing.{TestsCounted, counted-first, counted-done, counted-refused, counted-again}
 use Rattle.reader.proofs.judge_records.Statement.{statement}
 use Rattle.reader.proofs.judge_records.Tie as tie
@@ -50,7 +50,7 @@ returns c = let a = c .before .before .before .before .before .before .args in
 -- src/lib.rt:231:9
 add-tests : tie.Need-add-tests Inv-loop μ-loop
 add-tests c = let a = c .before .before .before .before .before .before .before .args in
-    let h = few-tests _ _ _ _ _ (told (meant (now (a .s))) (c .before .a .given .1) (c .before .before .before .pass-record .ensures)) in
+    let h = pass-at-most _ _ _ _ _ (told (meant (now (a .s))) (c .before .a .given .1) (c .before .before .before .pass-record .ensures)) in
     omega (arith, c .before .before .before .before .before .loop .inv .few)
 
 -- src/lib.rt:233:9
