@@ -1,5 +1,5 @@
 -- The header, read as the code reads it: its first numbers, the accepting locations, the number of transitions. Assumes nothing.
-use mathlib.Core.Path.{_≡_, refl, sym, ap, _∙_, subst}
+use mathlib.Core.Path.{_≡_, refl, sym, ap, _∙_}
 use mathlib.Core.Bool.{Bool, true, false}
 use mathlib.Core.List.{List}
 use Prim.Native.Nat.{ℕ, suc, _≤_, _<_}
@@ -8,17 +8,12 @@ use lib.Dec.{leb}
 use lib.ListN.{length, drop}
 use borrow.Author.Tests.{le-leb, lt-leb}
 use Rattle.model.specs.Answer.{nowhere}
-use Rattle.chart_lists.specs.declared.Numbers.{Numbers}
-use Rattle.chart_lists.specs.declared.Refusal.{Refusal}
-use Rattle.file_format.specs.Parse.{Parsed, value, refusal, bind, guard, number, below, rising, many, entry}
+use Rattle.file_format.specs.Parse.{Parsed, value, refusal, bind, guard, number, below, rising, entry}
 use Rattle.file_format.specs.Body.{Header, readHeader}
 use Rattle.file_format.proofs.Parsed.{bind-value, guard-value, same-value, below-limit, kept-value, kept-refused}
 use Rattle.file_format.proofs.Items.{many-length}
-use Rattle.fields.specs.Meaning.{refusalAs}
-use Rattle.reader.specs.declared.HeaderField.{HeaderField}
-use Rattle.reader.specs.declared.HeaderField.the-variants as headers
 use Rattle.reader.specs.Parts.{Limits, readLimits, passAccepting}
-use Rattle.reader.specs.Meaning.{HeaderIs, HeaderAt, headerNumbers}
+use Rattle.reader.specs.Meaning.{HeaderIs, headerNumbers}
 
 -- ---- the first numbers
 

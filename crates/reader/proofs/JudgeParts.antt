@@ -1,26 +1,21 @@
 -- The whole file, judged as the code judges it: frame, header, transitions, and no byte left. Assumes nothing.
-use mathlib.Core.Path.{_≡_, refl, sym, ap, _∙_, subst}
+use mathlib.Core.Path.{_≡_, sym, _∙_, subst}
 use mathlib.Core.Bool.{true, false}
 use mathlib.Core.List.{List}
-use Prim.Native.Nat.{ℕ, suc, _≤_, _<_}
-use native.Mathlib.Omega.{arith}
+use Prim.Native.Nat.{ℕ, suc}
 use lib.ListN.{length, drop}
-use Rattle.model.specs.Answer.{Answer, result, refused, then, nowhere}
-use Rattle.model.specs.Chart.{Transition, Chart}
+use Rattle.model.specs.Answer.{result, refused, nowhere}
+use Rattle.model.specs.Chart.{Transition}
 use Rattle.chart_lists.specs.declared.Numbers.{Numbers}
-use Rattle.chart_lists.specs.declared.Refusal.{Refusal}
-use Rattle.chart_lists.specs.Numbers.{numbersOf, refusedAs}
+use Rattle.chart_lists.specs.Numbers.{numbersOf}
 use Rattle.chart_lists.specs.Lists.{allTests}
-use Rattle.file_format.specs.Parse.{Parsed, value, refusal, bind, guard}
-use Rattle.file_format.specs.Body.{Header, readHeader, readTransition, readTransitions, isEnd, chartOf, readBody}
-use Rattle.file_format.specs.File.{readFrame, judgeFrame, answered, readFile, chartIn}
+use Rattle.file_format.specs.Parse.{Parsed, value, refusal}
+use Rattle.file_format.specs.Body.{readHeader, readTransition, readTransitions, isEnd, chartOf, readBody}
+use Rattle.file_format.specs.File.{readFrame, judgeFrame, readFile, chartIn}
 use Rattle.file_format.proofs.Parsed.{kept-value, kept-refused}
 use Rattle.file_format.proofs.Items.{many-length}
-use Rattle.fields.specs.Meaning.{refusalAs}
-use Rattle.reader.specs.declared.Judged.{Judged}
-use Rattle.reader.specs.declared.Judged.the-variants as judged
 use Rattle.reader.specs.Parts.{passTransitions}
-use Rattle.reader.specs.Meaning.{headerNumbers, HeaderIs, ChartIs, FileJudged}
+use Rattle.reader.specs.Meaning.{headerNumbers, HeaderIs, ChartIs}
 
 transitions-length : (locations timers n : ℕ) (bs : List ℕ) {rs : List Transition} {t : List ℕ} → readTransitions 2 locations timers n bs ≡ value rs t → length rs ≡ n
 unfolding readTransitions

@@ -1,6 +1,6 @@
 -- The loops that judge the accepting locations and the transitions, on plain values: what is read so far, and the number that they answer.
 -- Assumes nothing.
-use mathlib.Core.Path.{_≡_, refl, sym, ap, _∙_}
+use mathlib.Core.Path.{_≡_, refl}
 use mathlib.Core.List.{List, [], _∷_, _++_}
 use Prim.Native.Nat.{ℕ, suc, _+_, _*_, _≤_, _<_}
 use native.Mathlib.Numerals.{add-one}
@@ -11,7 +11,7 @@ use Rattle.model.specs.Answer.{nowhere}
 use Rattle.model.specs.Chart.{Transition}
 use Rattle.chart_lists.specs.Lists.{allTests}
 use Rattle.chart_lists.proofs.Tests.{tests-more}
-use Rattle.file_format.specs.Parse.{Parsed, value, refusal, bind, guard, below, entry, rising}
+use Rattle.file_format.specs.Parse.{value, refusal, below, entry, rising}
 use Rattle.file_format.specs.Body.{readTransition, readTransitions}
 use Rattle.file_format.proofs.Parsed.{bind-value, guard-value, same-value, below-limit, kept-value, kept-refused}
 use Rattle.file_format.proofs.Items.{Turn, rising-first, transitions-first, turn-done, turn-refused, turn-again}
