@@ -1,1 +1,3 @@
 pub mod Comparison
+pub mod Order
+pub mod Decoding

@@ -9,7 +9,7 @@ use native.Mathlib.Omega.{arith}
 use lib.Dec.{eqb, eqb·suc-suc, eqb·suc-zero, eqb·zero-suc}
 use lib.Bits.{bitAnd, and-le-l, or-lt, xor-lt}
 use lib.Pow.{pow-lt, pow-mono, pow-pos}
-use Rattle.lists.specs.Lists.{memb, lowest, pick}
+use Rattle.lists.specs.Lists.{memb, lowest}
 use Rattle.lists.specs.Rising.{Rising}
 use Rattle.lists.proofs.Bools.{lt-or-le, same-bool, not-both}
 use Rattle.lists.proofs.Membership.{memb-head, memb-tail}
