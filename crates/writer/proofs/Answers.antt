@@ -12,7 +12,7 @@ use Rattle.writer.specs.declared.Entry.the-variants as entry
 use Rattle.writer.specs.declared.Record.{Record}
 use Rattle.writer.specs.declared.Record.the-variants as recorded
 use Rattle.writer.specs.Parts.{Sizes}
-use Rattle.writer.specs.Meaning.{meant, meantRecord}
+use Rattle.writer.specs.Meaning.{meant, meantRecord, refusalOf, recordRefusal}
 
 pub then-id : {A : Type 0} (x : Answer A) → then x (λ a. result a) ≡ x
 then-id (result a) = refl
@@ -52,3 +52,10 @@ found-record e h = sym h ∙ ap meantRecord e
 
 pub turned-record : {a : Record} {f : Refusal} {x : Answer Sizes} → a ≡ recorded.Refused f → meantRecord a ≡ x → x ≡ refusedAs f
 turned-record e h = sym h ∙ ap meantRecord e
+
+-- the refusal that is handed on
+pub refused-of : {A : Type 0} {a : Entry} {f g : Refusal} → a ≡ entry.Refused f → g ≡ refusalOf a → refusedAs {A = A} g ≡ refusedAs f
+refused-of e h = ap refusedAs (h ∙ ap refusalOf e)
+
+pub refused-record : {A : Type 0} {a : Record} {f g : Refusal} → a ≡ recorded.Refused f → g ≡ recordRefusal a → refusedAs {A = A} g ≡ refusedAs f
+refused-record e h = ap refusedAs (h ∙ ap recordRefusal e)

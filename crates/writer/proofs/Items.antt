@@ -68,6 +68,13 @@ module _ {A : Type 0} (item : (i s : ℕ) → Answer A) (next : ℕ → A → �
     unfolding summed
     turn-first i s n = record { most = omega arith; left = simp (sub-zero, zero-add) }
 
+-- the same items one by one, the same all together
+pub items-same : {A : Type 0} (item item′ : (i s : ℕ) → Answer A) (next : ℕ → A → ℕ) → ((i s : ℕ) → item i s ≡ item′ i s)
+    → (i s n : ℕ) → items item next i s n ≡ items item′ next i s n
+unfolding items
+items-same item item′ next e i s zero = refl
+items-same item item′ next e i s (suc n) = rw (e i s) (then-same (item′ i s) _ _ (λ a. rw (items-same item item′ next e (suc i) (next s a) n)))
+
 module _ {A : Type 0} {item : (i s : ℕ) → Answer A} {next : ℕ → A → ℕ} {f : A → ℕ} {whole : Answer ℕ} {n k i s sum : ℕ} (h : Turn item next f whole n k i s sum) where
   pub turn-done : n ≤ k → whole ≡ result sum
   unfolding items total

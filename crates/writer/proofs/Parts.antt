@@ -13,12 +13,12 @@ use Rattle.model.specs.Chart.{Test, Transition, Chart}
 use Rattle.file_format.specs.File.{fileOf}
 use Rattle.file_format.specs.Lengths.{total, transitionLength, bodyLength, fileLength}
 use Rattle.file_format.proofs.Lengths.{length-file}
-use Rattle.chart_lists.specs.Lists.{Lists}
+use Rattle.chart_lists.specs.Lists.{Lists, lists}
 use Rattle.chart_lists.specs.declared.Numbers.{Numbers}
 use Rattle.writer.specs.Handing.{entryAt, entryBelow, handedAccepting, known, handedTest, handedTests, handedTransition, handedTransitions, handed}
 use Rattle.writer.specs.Parts.{passNumbers, passAccepting, passCode, testLists, passTest, passTests, passCount, passEnds, passStarts, Sizes, sizesOf, passTransition, passTransitions, passChart}
 use Rattle.writer.proofs.Answers.{then-id, then-then, then-unless, then-same}
-use Rattle.writer.proofs.Items.{items}
+use Rattle.writer.proofs.Items.{items, items-same}
 
 -- ---- items
 
@@ -56,6 +56,23 @@ transitions-items l locations timers i k zero = refl
 transitions-items l locations timers i k (suc n) =
     then-same (handedTransition l locations timers i k) _ _ (λ r. rw (transitions-items l locations timers (suc i) (k + length (r .tests)) n))
 
+-- transitions stand in all lists but that of the accepting locations
+abbrev pub transitionLists : Lists → Lists
+transitionLists l = lists [] (l .sources) (l .targets) (l .events) (l .starts) (l .counts) (l .timers) (l .codes) (l .constants)
+
+transition-only : (l : Lists) (locations timers i k : ℕ) → handedTransition l locations timers i k ≡ handedTransition (transitionLists l) locations timers i k
+unfolding handedTransition
+transition-only l locations timers i k = simp (tests-only l, tests-only (transitionLists l))
+
+pub transitions-only : (l : Lists) (locations timers n : ℕ) → passTransitions l locations timers n ≡ passTransitions (transitionLists l) locations timers n
+unfolding passTransitions
+transitions-only l locations timers n =
+    rw (
+      transitions-items l locations timers 0 0 n,
+      transitions-items (transitionLists l) locations timers 0 0 n,
+      items-same (handedTransition l locations timers) (handedTransition (transitionLists l) locations timers) (λ k r. k + length (r .tests)) (transition-only l locations timers) 0 0 n,
+    )
+
 -- ---- parts one after another
 
 pub pass-test : (l : Lists) (timers i k : ℕ)
@@ -81,7 +98,7 @@ pub pass-chart : (m : Numbers) (l : Lists)
     ≡ then (passNumbers m) (λ z.
     then (passAccepting (m .locations) (l .accepting) (m .accepting)) (λ a.
     unless (ltb (m .transitions) 513) 4 nowhere (
-    then (passTransitions l (m .locations) (m .timers) (m .transitions)) (λ b.
+    then (passTransitions (transitionLists l) (m .locations) (m .timers) (m .transitions)) (λ b.
     result (14 + 2 * a + b)))))
 unfolding passChart handed passNumbers passAccepting passTransitions
-pass-chart m l = simp (then-then, then-unless, file-length)
+pass-chart m l = rw (← transitions-only l (m .locations) (m .timers) (m .transitions)) (simp (then-then, then-unless, file-length))
