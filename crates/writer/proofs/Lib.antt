@@ -6,3 +6,5 @@ pub mod Limits
 pub mod Judging
 pub mod Turns
 pub mod Handed
+pub mod Part
+pub mod Writes
