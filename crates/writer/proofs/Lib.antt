@@ -8,3 +8,4 @@ pub mod Turns
 pub mod Handed
 pub mod Part
 pub mod Writes
+pub mod Fields

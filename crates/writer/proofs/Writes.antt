@@ -3,8 +3,8 @@ use mathlib.Core.Path.{_≡_, refl, sym, ap, _∙_}
 use mathlib.Core.Logic.{_⊎_, inl, inr}
 use mathlib.Core.Option.{Option, none, some}
 use mathlib.Core.List.{List, [], _∷_, _++_, append-assoc, append-nil}
-use Prim.Native.Nat.{ℕ, zero, suc, _+_, _-_, _≤_, _<_}
-use native.Mathlib.Nat.{le-trans}
+use Prim.Native.Nat.{ℕ, zero, suc, _+_, _-_, _*_, _≤_, _<_}
+use native.Mathlib.Nat.{mul-suc}
 use native.Mathlib.Numerals.{add-one}
 use native.Mathlib.Omega.{arith}
 use lib.ListN.{length, getElem?, length-append}
@@ -67,6 +67,16 @@ module _ {item : ℕ → List ℕ} {n : ℕ} {l out : List ℕ} {at k : ℕ} (h 
           long = same-len-mid at (length out - at) out last s ∙ h .long;
           is = rw g (put-part (gather item k) xs l out last at (h .place) (h .is) e);
         }
+
+-- items of w bytes each
+module _ (item : ℕ → List ℕ) (w : ℕ) (even : (i : ℕ) → length (item i) ≡ w) where
+  pub gather-length : (n : ℕ) → length (gather item n) ≡ w * n
+  unfolding gather
+  gather-length zero = omega arith
+  gather-length (suc n) = rw (length-append, gather-length n, even n, mul-suc) (omega arith)
+
+  pub even-room : (n : ℕ) {l out : List ℕ} {at k : ℕ} → Wrote item n l out at k → k < n → w * n ≤ length l → at + w ≤ length out
+  even-room n {k} h m r = omega (arith, wrote-room h m (rw (gather-length n) r), even k)
 
 -- ---- the items of a list
 

@@ -7,13 +7,13 @@ use lib.ListN.{length, getD}
 use Rattle.lists.specs.Lists.{gather}
 use Rattle.timer_set.specs.Members.{members}
 use Rattle.model.specs.Answer.{Answer, result, refused}
-use Rattle.model.specs.Chart.{Transition}
+use Rattle.model.specs.Chart.{Transition, Chart}
 use Rattle.file_format.specs.Parse.{digits, writeAll}
 use Rattle.file_format.specs.Body.{recordLength, writeTransition}
 use Rattle.file_format.specs.File.{fileOf}
 use Rattle.chart_lists.specs.Lists.{Lists}
 use Rattle.chart_lists.specs.declared.Numbers.{Numbers}
-use Rattle.writer.specs.Handing.{handedTransitions, handed}
+use Rattle.writer.specs.Handing.{handed}
 
 -- the first n numbers of a list, in w bytes each
 unfoldable pub numberBytes : (w : ℕ) → List ℕ → (n : ℕ) → List ℕ
@@ -65,3 +65,10 @@ bytesOf w (refused n p) = []
 -- the records of the transitions that are handed over
 unfoldable pub records : List Transition → List ℕ
 records rs = writeAll (writeTransition 2) rs
+
+-- what the writer of the file asks: the chart was judged, n is the length of its file, and there is room for it
+pub record Judged (m : Numbers) (l : Lists) (n room : ℕ) : Type 0 where
+  pub chart : Chart
+  pub is : handed m l ≡ result chart
+  pub size : n ≡ length (fileOf chart)
+  pub fits : n ≤ room

@@ -9,6 +9,7 @@ ghost use Rattle.file_format.specs.File.{fileOf};
 ghost use Rattle.chart_lists.specs.Lists.{lists, put};
 ghost use Rattle.writer.specs.Handing.{entryAt, handed, handedTransitions, writeInto, writeAnswer, bufferAfter, meantWritten};
 ghost use Rattle.writer.specs.Parts.{limited, passNumbers, passAccepting, passCode, testLists, passTest, passTests, passCount, passEnds, passStarts, passTransition, passTransitions, passChart};
+ghost use Rattle.writer.specs.Bytes.{testBytes, testsBytes, headBytes, recordBytes, Room, bytesOf, records, numberBytes, frontBytes, Judged};
 ghost use Rattle.writer.specs.Meaning.{meant, meantRecord, refusalOf, recordRefusal};
 use chart_lists::Numbers;
 use chart_lists::Refusal;
@@ -418,4 +419,280 @@ fn judge(
         return Written::Refused(refusal_of(d));
     };
     Written::File(14 + 2 * (n as usize) + bytes as usize)
+}
+
+fn put_byte(out: &mut [u8], v: u8)
+    requires { ⌜ 1 ≤ length (now out) ⌝ }
+    ensures { λ _. ⌜ now (out .exit) ≡ put (digits 1 v) (now (out .entry)) ⌝ }
+{
+    out[0] = v;
+}
+
+fn put_pair(out: &mut [u8], v: u16)
+    requires { ⌜ 2 ≤ length (now out) ⌝ }
+    ensures { λ _. ⌜ now (out .exit) ≡ put (digits 2 v) (now (out .entry)) ⌝ }
+{
+    out[0] = (v / 256) as u8;
+    out[1] = (v % 256) as u8;
+}
+
+fn put_quad(out: &mut [u8], v: u32)
+    requires { ⌜ 4 ≤ length (now out) ⌝ }
+    ensures { λ _. ⌜ now (out .exit) ≡ put (digits 4 v) (now (out .entry)) ⌝ }
+{
+    put_pair(out, (v / 65536) as u16);
+    put_pair(&mut out[2..], (v % 65536) as u16);
+}
+
+fn put_test(out: &mut [u8], timer: u8, code: u8, constant: u16)
+    requires { ⌜ 4 ≤ length (now out) ⌝ }
+    ensures { λ _. ⌜ now (out .exit) ≡ put (testBytes timer code constant) (now (out .entry)) ⌝ }
+{
+    put_byte(out, timer);
+    put_byte(&mut out[1..], code);
+    put_pair(&mut out[2..], constant);
+}
+
+// g tests from place k on.
+fn put_tests<'a>(
+    out: &mut [u8],
+    timers: &'a [u8],
+    codes: &'a [u8],
+    constants: &'a [u16],
+    k: usize,
+    g: u8,
+)
+    requires { ⌜ (k + g ≤ length (now timers)) × (k + g ≤ length (now codes)) × (k + g ≤ length (now constants)) × (4 * g ≤ length (now out)) ⌝ }
+    ensures { λ _. ⌜ now (out .exit) ≡ put (testsBytes (testLists (now (timers .entry)) (now (codes .entry)) (now (constants .entry))) k g) (now (out .entry)) ⌝ }
+{
+    let mut at: usize = 0;
+    let mut here = k;
+    let mut t: u8 = 0;
+    while t < g {
+        put_test(&mut out[at..], timers[here], codes[here], constants[here]);
+        at += 4;
+        here += 1;
+        t += 1;
+    }
+}
+
+// The timers of a set, rising.
+fn put_starts(out: &mut [u8], set: TimerSet)
+    requires { ⌜ length (members (set .bits)) ≤ length (now out) ⌝ }
+    ensures { λ _. ⌜ now (out .exit) ≡ put (writeAll (digits 1) (members (set .bits))) (now (out .entry)) ⌝ }
+{
+    let mut at: usize = 0;
+    let mut j: u8 = 0;
+    while j < 64 {
+        let here = j;
+        j += 1;
+        if set.has(here) {
+            put_byte(&mut out[at..], here);
+            at += 1;
+        }
+    }
+}
+
+// The first eight bytes of a record.
+fn put_head(out: &mut [u8], size: u16, source: u16, target: u16, event: u8, s: u8)
+    requires { ⌜ 8 ≤ length (now out) ⌝ }
+    ensures { λ _. ⌜ now (out .exit) ≡ put (headBytes size source target event s) (now (out .entry)) ⌝ }
+{
+    put_pair(out, size);
+    put_pair(&mut out[2..], source);
+    put_pair(&mut out[4..], target);
+    put_byte(&mut out[6..], event);
+    put_byte(&mut out[7..], s);
+}
+
+// The record of one transition, and how many bytes it has.
+fn write_record<'a>(
+    out: &mut [u8],
+    source: u16,
+    target: u16,
+    event: u8,
+    set: TimerSet,
+    timers: &'a [u8],
+    codes: &'a [u8],
+    constants: &'a [u16],
+    k: usize,
+    g: u8,
+) -> usize
+    requires { ⌜ (g ≤ 8) × (k + g ≤ length (now timers)) × (k + g ≤ length (now codes)) × (k + g ≤ length (now constants)) × (9 + length (members (set .bits)) + 4 * g ≤ length (now out)) ⌝ }
+    ensures size { λ r. ⌜ r ≡ 9 + length (members (set .bits)) + 4 * g ⌝ }
+    ensures written { λ _. ⌜ now (out .exit) ≡ put (recordBytes source target event (set .bits) (testLists (now (timers .entry)) (now (codes .entry)) (now (constants .entry))) k g) (now (out .entry)) ⌝ }
+{
+    let s = set.count();
+    put_head(
+        out,
+        (7 + s + 4 * (g as u32)) as u16,
+        source,
+        target,
+        event,
+        s as u8,
+    );
+    put_starts(&mut out[8..], set);
+    let at = 8 + s as usize;
+    put_byte(&mut out[at..], g);
+    let after = at + 1;
+    put_tests(&mut out[after..], timers, codes, constants, k, g);
+    after + 4 * (g as usize)
+}
+
+// The records of all transitions, each in its own stretch of the buffer.
+fn write_records<'a>(
+    out: &mut [u8],
+    m: Numbers,
+    sources: &'a [u16],
+    targets: &'a [u16],
+    events: &'a [u8],
+    starts: &'a [u64],
+    counts: &'a [u8],
+    timers: &'a [u8],
+    codes: &'a [u8],
+    constants: &'a [u16],
+)
+    requires { ⌜ Room records (handedTransitions (lists [] (now sources) (now targets) (now events) (now starts) (now counts) (now timers) (now codes) (now constants)) (m .locations) (m .timers) 0 0 (m .transitions)) (length (now out)) ⌝ }
+    ensures { λ _. ⌜ now (out .exit) ≡ put (bytesOf records (handedTransitions (lists [] (now (sources .entry)) (now (targets .entry)) (now (events .entry)) (now (starts .entry)) (now (counts .entry)) (now (timers .entry)) (now (codes .entry)) (now (constants .entry))) (m .locations) (m .timers) 0 0 (m .transitions))) (now (out .entry)) ⌝ }
+{
+    let n = m.transitions as usize;
+    let mut at: usize = 0;
+    let mut k: usize = 0;
+    let mut i: usize = 0;
+    while i < n {
+        let g = counts[i];
+        let set = TimerSet { bits: starts[i] };
+        at += write_record(
+            &mut out[at..],
+            sources[i],
+            targets[i],
+            events[i],
+            set,
+            timers,
+            codes,
+            constants,
+            k,
+            g,
+        );
+        k += g as usize;
+        i += 1;
+    }
+}
+
+fn put_accepting(out: &mut [u8], accepting: &[u16], n: u16)
+    requires { ⌜ (n ≤ length (now accepting)) × (2 * n ≤ length (now out)) ⌝ }
+    ensures { λ _. ⌜ now (out .exit) ≡ put (numberBytes 2 (now (accepting .entry)) n) (now (out .entry)) ⌝ }
+{
+    let mut at: usize = 0;
+    let mut i: u16 = 0;
+    while i < n {
+        put_pair(&mut out[at..], accepting[i as usize]);
+        at += 2;
+        i += 1;
+    }
+}
+
+// Version, length of what follows, and the header up to the accepting locations.
+fn put_front(out: &mut [u8], size: u32, m: Numbers)
+    requires { ⌜ 12 ≤ length (now out) ⌝ }
+    ensures { λ _. ⌜ now (out .exit) ≡ put (frontBytes size m) (now (out .entry)) ⌝ }
+{
+    put_byte(out, 1);
+    put_quad(&mut out[1..], size);
+    put_pair(&mut out[5..], m.locations);
+    put_pair(&mut out[7..], m.initial);
+    put_byte(&mut out[9..], m.timers);
+    put_pair(&mut out[10..], m.accepting);
+}
+
+// The file of a chart that was judged; n is its length.
+fn write_file<'a>(
+    out: &mut [u8],
+    n: usize,
+    m: Numbers,
+    accepting: &'a [u16],
+    sources: &'a [u16],
+    targets: &'a [u16],
+    events: &'a [u8],
+    starts: &'a [u64],
+    counts: &'a [u8],
+    timers: &'a [u8],
+    codes: &'a [u8],
+    constants: &'a [u16],
+)
+    requires { ⌜ Judged m (lists (now accepting) (now sources) (now targets) (now events) (now starts) (now counts) (now timers) (now codes) (now constants)) n (length (now out)) ⌝ }
+    ensures { λ _. ⌜ now (out .exit) ≡ put (bytesOf fileOf (handed m (lists (now (accepting .entry)) (now (sources .entry)) (now (targets .entry)) (now (events .entry)) (now (starts .entry)) (now (counts .entry)) (now (timers .entry)) (now (codes .entry)) (now (constants .entry))))) (now (out .entry)) ⌝ }
+{
+    put_front(out, (n - 5) as u32, m);
+    put_accepting(&mut out[12..], accepting, m.accepting);
+    let at = 12 + 2 * (m.accepting as usize);
+    put_pair(&mut out[at..], m.transitions);
+    let after = at + 2;
+    write_records(
+        &mut out[after..],
+        m,
+        sources,
+        targets,
+        events,
+        starts,
+        counts,
+        timers,
+        codes,
+        constants,
+    );
+}
+
+// Judges all of the chart, then the room, and only then writes its file over the front of the buffer.
+pub fn write<'a>(
+    numbers: Numbers,
+    accepting: &'a [u16],
+    sources: &'a [u16],
+    targets: &'a [u16],
+    events: &'a [u8],
+    starts: &'a [u64],
+    counts: &'a [u8],
+    timers: &'a [u8],
+    codes: &'a [u8],
+    constants: &'a [u16],
+    out: &mut [u8],
+) -> Written
+    ensures answer { λ r. ⌜ meantWritten r ≡ writeAnswer (length (now (out .entry))) numbers (lists (now (accepting .entry)) (now (sources .entry)) (now (targets .entry)) (now (events .entry)) (now (starts .entry)) (now (counts .entry)) (now (timers .entry)) (now (codes .entry)) (now (constants .entry))) ⌝ }
+    ensures lent { λ _. ⌜ now (out .exit) ≡ bufferAfter (writeInto (length (now (out .entry))) numbers (lists (now (accepting .entry)) (now (sources .entry)) (now (targets .entry)) (now (events .entry)) (now (starts .entry)) (now (counts .entry)) (now (timers .entry)) (now (codes .entry)) (now (constants .entry)))) (now (out .entry)) ⌝ }
+{
+    let a = judge(
+        numbers,
+        accepting,
+        sources,
+        targets,
+        events,
+        starts,
+        counts,
+        timers,
+        codes,
+        constants,
+    );
+    let Written::File(n) = a else {
+        return a;
+    };
+    if out.len() < n {
+        return Written::Refused(Refusal {
+            number: 21,
+            place: 65535,
+        });
+    }
+    write_file(
+        out,
+        n,
+        numbers,
+        accepting,
+        sources,
+        targets,
+        events,
+        starts,
+        counts,
+        timers,
+        codes,
+        constants,
+    );
+    a
 }
