@@ -1,16 +1,17 @@
 -- The bytes of numbers, tests and started timers, item by item. Assumes nothing.
 use mathlib.Core.Path.{_≡_, refl, sym, ap, _∙_}
 use mathlib.Core.Bool.{Bool, true, false}
-use mathlib.Core.List.{List, [], _∷_, _++_, append-nil}
-use Prim.Native.Nat.{ℕ, zero, suc, _+_, _≤_}
+use mathlib.Core.List.{List, [], _∷_, _++_, append-assoc, append-nil}
+use Prim.Native.Nat.{ℕ, zero, suc, _+_, _*_, _≤_}
 use native.Mathlib.Omega.{arith}
 use lib.ListN.{length, getD, length-append}
 use Rattle.lists.specs.Lists.{gather, pick}
 use Rattle.timer_set.specs.Members.{member, members}
 use Rattle.file_format.specs.Parse.{digits, writeAll}
+use Rattle.file_format.specs.Body.{recordLength}
 use Rattle.file_format.proofs.Lengths.{length-digits, all-append, length-numbers}
 use Rattle.chart_lists.specs.Lists.{Lists}
-use Rattle.writer.specs.Bytes.{numberBytes, testBytes, testAt, testsBytes}
+use Rattle.writer.specs.Bytes.{testBytes, testAt, testsBytes, headBytes, recordBytes}
 
 pub length-test : (timer code constant : ℕ) → length (testBytes timer code constant) ≡ 4
 unfolding testBytes
@@ -45,3 +46,24 @@ starts-bytes w = sym (all-gather (digits 1) (λ i. elim (member w i) [ true ↦ 
 
 pub length-starts : (w : ℕ) → length (writeAll (digits 1) (members w)) ≡ length (members w)
 length-starts w = omega (arith, length-numbers 1 (members w))
+
+-- ---- a record
+
+pub length-head : (size source target event s : ℕ) → length (headBytes size source target event s) ≡ 8
+unfolding headBytes
+length-head size source target event s = simp (length-append, length-digits)
+
+-- its parts one after another, s being the number of started timers
+module _ (source target event w : ℕ) (l : Lists) (k g s : ℕ) (e : s ≡ length (members w)) where
+  abbrev head : List ℕ
+  head = headBytes (7 + s + 4 * g) source target event s
+
+  pub length-front : 8 + s ≡ length (head ++ writeAll (digits 1) (members w))
+  length-front = simp (length-append, length-head, length-starts) (omega arith)
+
+  pub length-counted : 8 + s + 1 ≡ length ((head ++ writeAll (digits 1) (members w)) ++ digits 1 g)
+  length-counted = simp (length-append, length-head, length-starts, length-digits) (omega arith)
+
+  pub record-parts : ((head ++ writeAll (digits 1) (members w)) ++ digits 1 g) ++ testsBytes l k g ≡ recordBytes source target event w l k g
+  unfolding recordBytes recordLength
+  record-parts = rw e (simp append-assoc)

@@ -9,3 +9,4 @@ pub mod Handed
 pub mod Part
 pub mod Writes
 pub mod Fields
+pub mod Records

@@ -1,7 +1,7 @@
 // Writes a chart that is handed over in lists as a chart file: judges all of it first, then the room, and only then writes.
 ghost use mathlib.Core.Path.{_≡_};
 ghost use mathlib.Core.List.{[]};
-ghost use Prim.Native.Nat.{_+_, _*_, _≤_, _<_};
+ghost use Prim.Native.Nat.{_+_, _-_, _*_, _≤_, _<_};
 ghost use lib.ListN.{length};
 ghost use Rattle.timer_set.specs.Members.{members};
 ghost use Rattle.file_format.specs.Parse.{digits, writeAll};
@@ -462,7 +462,7 @@ fn put_tests<'a>(
     k: usize,
     g: u8,
 )
-    requires { ⌜ (k + g ≤ length (now timers)) × (k + g ≤ length (now codes)) × (k + g ≤ length (now constants)) × (4 * g ≤ length (now out)) ⌝ }
+    requires { ⌜ (g ≤ length (now timers) - k) × (g ≤ length (now codes) - k) × (g ≤ length (now constants) - k) × (4 * g ≤ length (now out)) ⌝ }
     ensures { λ _. ⌜ now (out .exit) ≡ put (testsBytes (testLists (now (timers .entry)) (now (codes .entry)) (now (constants .entry))) k g) (now (out .entry)) ⌝ }
 {
     let mut at: usize = 0;
@@ -518,7 +518,7 @@ fn write_record<'a>(
     k: usize,
     g: u8,
 ) -> usize
-    requires { ⌜ (g ≤ 8) × (k + g ≤ length (now timers)) × (k + g ≤ length (now codes)) × (k + g ≤ length (now constants)) × (9 + length (members (set .bits)) + 4 * g ≤ length (now out)) ⌝ }
+    requires { ⌜ (g ≤ 8) × (g ≤ length (now timers) - k) × (g ≤ length (now codes) - k) × (g ≤ length (now constants) - k) × (9 + length (members (set .bits)) + 4 * g ≤ length (now out)) ⌝ }
     ensures size { λ r. ⌜ r ≡ 9 + length (members (set .bits)) + 4 * g ⌝ }
     ensures written { λ _. ⌜ now (out .exit) ≡ put (recordBytes source target event (set .bits) (testLists (now (timers .entry)) (now (codes .entry)) (now (constants .entry))) k g) (now (out .entry)) ⌝ }
 {
@@ -555,11 +555,10 @@ fn write_records<'a>(
     requires { ⌜ Room records (handedTransitions (lists [] (now sources) (now targets) (now events) (now starts) (now counts) (now timers) (now codes) (now constants)) (m .locations) (m .timers) 0 0 (m .transitions)) (length (now out)) ⌝ }
     ensures { λ _. ⌜ now (out .exit) ≡ put (bytesOf records (handedTransitions (lists [] (now (sources .entry)) (now (targets .entry)) (now (events .entry)) (now (starts .entry)) (now (counts .entry)) (now (timers .entry)) (now (codes .entry)) (now (constants .entry))) (m .locations) (m .timers) 0 0 (m .transitions))) (now (out .entry)) ⌝ }
 {
-    let n = m.transitions as usize;
     let mut at: usize = 0;
     let mut k: usize = 0;
     let mut i: usize = 0;
-    while i < n {
+    while i < m.transitions as usize {
         let g = counts[i];
         let set = TimerSet { bits: starts[i] };
         at += write_record(
