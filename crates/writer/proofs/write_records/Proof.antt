@@ -1,3 +1,12 @@
+use borrow.Author.Needs.{needs}
+use Prim.Native.Nat.{ℕ, _+_, _-_}
+use mathlib.Core.Path.{refl, sym, ap, _∙_}
+use mathlib.Core.List.{[]}
+use denote.Ref.{now}
+use native.Mathlib.Omega.{arith}
+use Rattle.chart_lists.specs.Lists.{Lists, lists}
+use Rattle.writer.proofs.Part.{mid-room}
+use Rattle.writer.proofs.Records.{Writing, writing-first, writing-done, Next, writing-next, writing-again}
 use Rattle.writer.proofs.write_records.Statement.{statement}
 use Rattle.writer.proofs.write_records.Tie as tie
 use Rattle.writer.proofs.write_records.Reads as reads
@@ -5,99 +14,90 @@ use Rattle.writer.proofs.write_records.Lts as lts
 use Rattle.writer.proofs.write_record.Reads as write-record-reads
 
 abbrev Inv-loop : tie.InvT-loop
-Inv-loop out₀ m sources targets events starts counts timers codes constants at₀ k₀ i₀ out at k i =
-    ?
+Inv-loop out₀ m sources targets events starts counts timers codes constants at₀ k₀ i₀ out at k i = Writing (lists [] sources targets events starts counts timers codes constants) (m .locations) (m .timers) (m .transitions) out₀ out at k i
 
 abbrev μ-loop : tie.MeasureT-loop
-μ-loop out₀ m sources targets events starts counts timers codes constants at₀ k₀ i₀ out at k i = ?
+μ-loop out₀ m sources targets events starts counts timers codes constants at₀ k₀ i₀ out at k i = m .transitions - i
 
--- src/lib.rt:561:5
 loop-holds : tie.Need-loop-holds Inv-loop μ-loop
-loop-holds c = ?
+loop-holds c = writing-first (lists [] (now (c .before .before .before .before .before .before .before .before .before .args .sources)) (now (c .before .before .before .before .before .before .before .before .before .args .targets)) (now (c .before .before .before .before .before .before .before .before .before .args .events)) (now (c .before .before .before .before .before .before .before .before .before .args .starts)) (now (c .before .before .before .before .before .before .before .before .before .args .counts)) (now (c .before .before .before .before .before .before .before .before .before .args .timers)) (now (c .before .before .before .before .before .before .before .before .before .args .codes)) (now (c .before .before .before .before .before .before .before .before .before .args .constants))) (c .before .before .before .before .before .before .before .before .before .args .m .locations) (c .before .before .before .before .before .before .before .before .before .args .m .timers) (c .before .before .before .before .before .before .before .before .before .args .m .transitions) (now (c .before .before .before .before .before .before .before .before .before .args .out)) (c .before .before .before .before .before .before .before .before .before .pre)
 
--- src/lib.rt:561:15
 cast-if1 : tie.Need-cast-if1 Inv-loop μ-loop
-cast-if1 c = ?
+cast-if1 c = search needs
 
--- src/lib.rt:562:17
+abbrev start : tie.Then1 Inv-loop μ-loop → tie.Start Inv-loop μ-loop
+start c = c .before .before .before .before .before .before .before .before .before .before .before .before
+
+abbrev handed-lists : tie.Then1 Inv-loop μ-loop → Lists
+handed-lists c =
+    let a = start c .args in
+    lists [] (now (a .sources)) (now (a .targets)) (now (a .events)) (now (a .starts)) (now (a .counts)) (now (a .timers)) (now (a .codes)) (now (a .constants))
+
+-- what is known of the next record
+next : (c : tie.Then1 Inv-loop μ-loop)
+    → Next (handed-lists c) (start c .args .m .locations) (start c .args .m .timers) (start c .args .m .transitions) (now (start c .args .out)) (start c .pre)
+    (c .before .before .loop .inv) (c .if1 .taken)
+next c = writing-next (handed-lists c) (start c .args .m .locations) (start c .args .m .timers) (start c .args .m .transitions) (now (start c .args .out)) (start c .pre) (c .before .before .loop .inv) (c .if1 .taken)
+
 shared-slice-read-g : tie.Need-shared-slice-read-g Inv-loop μ-loop
-shared-slice-read-g c = ?
+shared-slice-read-g c = next (c .before) .count
 
--- src/lib.rt:563:36
 mul-t16 : tie.Need-mul-t16 Inv-loop μ-loop
-mul-t16 c = ?
+mul-t16 c = search needs
 
--- src/lib.rt:563:36
 shared-slice-read-t21 : tie.Need-shared-slice-read-t21 Inv-loop μ-loop
-shared-slice-read-t21 c = ?
+shared-slice-read-t21 c = next (c .before .before) .starts
 
--- src/lib.rt:565:13
 sub-write-record : tie.Need-sub-write-record Inv-loop μ-loop
-sub-write-record c = ?
+sub-write-record c = omega (arith, next (c .before .before) .fits)
 
--- src/lib.rt:565:13
 part-write-record-start : tie.Need-part-write-record-start Inv-loop μ-loop
-part-write-record-start c = ?
+part-write-record-start c = omega (arith, next (c .before .before) .fits)
 
--- src/lib.rt:565:13
 part-write-record-end : tie.Need-part-write-record-end Inv-loop μ-loop
-part-write-record-end c = ?
+part-write-record-end c = search needs
 
--- src/lib.rt:566:13
 mul-write-record : tie.Need-mul-write-record Inv-loop μ-loop
-mul-write-record c = ?
+mul-write-record c = search needs
 
--- src/lib.rt:566:13
 shared-slice-read-write-record : tie.Need-shared-slice-read-write-record Inv-loop μ-loop
-shared-slice-read-write-record c = ?
+shared-slice-read-write-record c = next (c .before .before .before .before) .source
 
--- src/lib.rt:567:13
 mul-write-record-2 : tie.Need-mul-write-record-2 Inv-loop μ-loop
-mul-write-record-2 c = ?
+mul-write-record-2 c = search needs
 
--- src/lib.rt:567:13
 shared-slice-read-write-record-2 : tie.Need-shared-slice-read-write-record-2 Inv-loop μ-loop
-shared-slice-read-write-record-2 c = ?
+shared-slice-read-write-record-2 c = next (c .before .before .before .before .before) .target
 
--- src/lib.rt:568:13
 shared-slice-read-write-record-3 : tie.Need-shared-slice-read-write-record-3 Inv-loop μ-loop
-shared-slice-read-write-record-3 c = ?
+shared-slice-read-write-record-3 c = next (c .before .before .before .before .before .before) .event
 
--- src/lib.rt:564:15
 write-record-requires : tie.Need-write-record-requires Inv-loop μ-loop
-write-record-requires c κs = ?
+write-record-requires c κs = let n = next (c .before .before .before .before .before .before) in (n .few, n .timers-room, n .codes-room, n .constants-room, mid-room (c .before .before .before .before .before .before .before .before .loop .at) (c .before .before .before .before .before .before .before .before .loop .out) _ (n .fits))
 
--- src/lib.rt:564:9
 add-at : tie.Need-add-at Inv-loop μ-loop
-add-at c = ?
+add-at c = omega (arith, next (c .before .before .before .before .before .before .before .before .before) .fits, c .before .before .write-record .ensures .0, c .before .before .before .before .before .before .before .before .before .before .before .loop .inv .wrote .long, c .before .before .before .before .before .before .before .before .before .before .before .before .before .before .before .before .before .before .before .before .before .good)
 
--- src/lib.rt:576:14
 cast-k : tie.Need-cast-k Inv-loop μ-loop
-cast-k c = ?
+cast-k c = omega (arith, next (c .before .before .before .before .before .before .before .before .before) .few)
 
--- src/lib.rt:576:9
 add-k : tie.Need-add-k Inv-loop μ-loop
-add-k c = ?
+add-k c = omega (arith, next (c .before .before .before .before .before .before .before .before .before) .few, c .before .before .before .before .before .before .before .before .before .before .before .loop .inv .few, c .before .before .before .before .before .before .before .before .before .if1 .taken)
 
--- src/lib.rt:577:9
 add-i : tie.Need-add-i Inv-loop μ-loop
-add-i c = ?
+add-i c = search needs
 
--- src/lib.rt:561:5
 loop-less : tie.Need-loop-less Inv-loop μ-loop
-loop-less c = ?
+loop-less c = search needs
 
--- src/lib.rt:561:5
 loop-again : tie.Need-loop-again Inv-loop μ-loop
-loop-again c = ?
+loop-again c = writing-again (lists [] (now (c .before .before .before .before .before .before .before .before .before .before .before .before .before .before .before .before .before .before .before .before .before .args .sources)) (now (c .before .before .before .before .before .before .before .before .before .before .before .before .before .before .before .before .before .before .before .before .before .args .targets)) (now (c .before .before .before .before .before .before .before .before .before .before .before .before .before .before .before .before .before .before .before .before .before .args .events)) (now (c .before .before .before .before .before .before .before .before .before .before .before .before .before .before .before .before .before .before .before .before .before .args .starts)) (now (c .before .before .before .before .before .before .before .before .before .before .before .before .before .before .before .before .before .before .before .before .before .args .counts)) (now (c .before .before .before .before .before .before .before .before .before .before .before .before .before .before .before .before .before .before .before .before .before .args .timers)) (now (c .before .before .before .before .before .before .before .before .before .before .before .before .before .before .before .before .before .before .before .before .before .args .codes)) (now (c .before .before .before .before .before .before .before .before .before .before .before .before .before .before .before .before .before .before .before .before .before .args .constants))) (c .before .before .before .before .before .before .before .before .before .before .before .before .before .before .before .before .before .before .before .before .before .args .m .locations) (c .before .before .before .before .before .before .before .before .before .before .before .before .before .before .before .before .before .before .before .before .before .args .m .timers) (c .before .before .before .before .before .before .before .before .before .before .before .before .before .before .before .before .before .before .before .before .before .args .m .transitions) (now (c .before .before .before .before .before .before .before .before .before .before .before .before .before .before .before .before .before .before .before .before .before .args .out)) (c .before .before .before .before .before .before .before .before .before .before .before .before .before .before .before .before .before .before .before .before .before .pre) (c .before .before .before .before .before .before .before .before .before .before .before .loop .inv) (c .before .before .before .before .before .before .before .before .before .if1 .taken) (c .before .before .write-record .ensures .1) (c .before .before .write-record .kept .0) (ap (λ (x : ℕ). c .before .before .before .before .before .before .before .before .before .before .before .loop .at + x) (c .before .before .write-record .ensures .0))
 
--- src/lib.rt:543:1
 same-length : tie.Need-same-length Inv-loop μ-loop
-same-length c = ?
+same-length c = c .before .before .loop .inv .wrote .long
 
--- src/lib.rt:543:1
 returns : tie.Need-returns Inv-loop μ-loop
-returns c = ?
+returns c = writing-done (lists [] (now (c .before .before .before .before .before .before .before .before .before .before .before .before .args .sources)) (now (c .before .before .before .before .before .before .before .before .before .before .before .before .args .targets)) (now (c .before .before .before .before .before .before .before .before .before .before .before .before .args .events)) (now (c .before .before .before .before .before .before .before .before .before .before .before .before .args .starts)) (now (c .before .before .before .before .before .before .before .before .before .before .before .before .args .counts)) (now (c .before .before .before .before .before .before .before .before .before .before .before .before .args .timers)) (now (c .before .before .before .before .before .before .before .before .before .before .before .before .args .codes)) (now (c .before .before .before .before .before .before .before .before .before .before .before .before .args .constants))) (c .before .before .before .before .before .before .before .before .before .before .before .before .args .m .locations) (c .before .before .before .before .before .before .before .before .before .before .before .before .args .m .timers) (c .before .before .before .before .before .before .before .before .before .before .before .before .args .m .transitions) (now (c .before .before .before .before .before .before .before .before .before .before .before .before .args .out)) (c .before .before .before .before .before .before .before .before .before .before .before .before .pre) (c .before .before .loop .inv) (c .if1 .left)
 
 pub write-records-spec : {M : Type 1} → statement M
 write-records-spec =
