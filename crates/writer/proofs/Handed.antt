@@ -17,7 +17,7 @@ use Rattle.file_format.proofs.File.{result-refused, then-result, unless-result}
 use Rattle.chart_lists.specs.Lists.{Lists}
 use Rattle.writer.specs.Handing.{present, entryAt, entryBelow, known, handedTest, handedTests, beyond, handedTransition}
 use Rattle.writer.proofs.Items.{items-length}
-use Rattle.writer.proofs.Parts.{tests-items}
+use Rattle.writer.proofs.Parts.{acceptingItem, tests-items}
 
 -- ---- an entry
 
@@ -50,6 +50,22 @@ module _ (l : List ℕ) (k : ℕ) {x : ℕ} where
     pub some-below : getElem? l k ≡ some x → x < limit → entryBelow l k limit n p ≡ result x
     unfolding entryBelow
     some-below e h = rw (some-entry e, lt-ltb x limit h)
+
+-- ---- an accepting location
+
+module _ (locations : ℕ) (l : List ℕ) (k lo x : ℕ) where
+  pub accepting-of : acceptingItem locations l k lo ≡ result x → (getElem? l k ≡ some x) × (x < locations) × (lo ≤ x)
+  unfolding acceptingItem
+  accepting-of e =
+      let a = then-result (entryBelow l k locations 5 nowhere) _ e in
+      let b = unless-result (leb lo (a .0)) 7 nowhere (result (a .0)) (a .2) in
+      let q : a .0 ≡ x = cc in
+      let d = below-some l k locations 5 nowhere (subst (λ (y : ℕ). entryBelow l k locations 5 nowhere ≡ result y) q (a .1)) in
+      (d .0, d .1, subst (λ (y : ℕ). lo ≤ y) q (leb-true lo (a .0) (b .0)))
+
+  pub of-accepting : getElem? l k ≡ some x → x < locations → lo ≤ x → acceptingItem locations l k lo ≡ result x
+  unfolding acceptingItem
+  of-accepting e h m = rw (some-below l k locations 5 nowhere e h, le-leb lo x m)
 
 -- ---- a test
 

@@ -1,17 +1,19 @@
 -- Items that are handed over one after another, each by what the items before it left, and a loop over them that sums something up.
 -- Assumes nothing.
 use mathlib.Core.Path.{_≡_, refl, sym, ap, _∙_, subst}
+use mathlib.Core.Option.{some, Option·some-injective, Option·none-ne-some}
 use mathlib.Core.List.{List, [], _∷_}
 use Prim.Native.Nat.{ℕ, zero, suc, _+_, _-_, _≤_, _<_}
 use native.Mathlib.Nat.{add-assoc, add-zero, zero-add, sub-zero}
 use native.Mathlib.Numerals.{add-one}
 use native.Mathlib.Omega.{arith}
-use lib.ListN.{length}
+use lib.ListN.{length, getElem?}
 use Rattle.lists.specs.Rising.{All}
 use Rattle.model.specs.Answer.{Answer, result, refused, then}
 use Rattle.file_format.specs.Lengths.{total}
 use Rattle.file_format.proofs.File.{then-result}
 use Rattle.writer.proofs.Answers.{then-then, then-same}
+use Rattle.writer.proofs.Entries.{nth-bound}
 
 module _ {A : Type 0} (item : (i s : ℕ) → Answer A) (next : ℕ → A → ℕ) where
   -- n items from number i on; s is what the items before left
@@ -52,6 +54,19 @@ module _ {A : Type 0} (item : (i s : ℕ) → Answer A) (next : ℕ → A → �
   pub each-all : (P : A → Type 0) → ((i s : ℕ) (a : A) → item i s ≡ result a → P a) → (i s : ℕ) (xs : List A) → Each i s xs → All P xs
   each-all P f i s [] h = tt
   each-all P f i s (a ∷ xs) h = (f i s a (h .0), each-all P f (suc i) (next s a) xs (h .1))
+
+  -- what holds of an item at its number holds of each
+  pub each-nth : (P : ℕ → A → Type 0) → ((i s : ℕ) (a : A) → item i s ≡ result a → P i a)
+      → (i s : ℕ) (xs : List A) → Each i s xs → (j : ℕ) (a : A) → getElem? xs j ≡ some a → P (i + j) a
+  each-nth P f i s [] h j a e = absurd (Option·none-ne-some _ e)
+  each-nth P f i s (x ∷ xs) h zero a e = rw (add-zero i, ← Option·some-injective _ _ e) (f i s x (h .0))
+  each-nth P f i s (x ∷ xs) h (suc j) a e = let q : i + suc j ≡ suc i + j = omega arith in rw q (each-nth P f (suc i) (next s x) xs (h .1) j a e)
+
+  -- a list that has an entry for each item is long enough
+  pub each-room : (f : A → ℕ) (w : List ℕ) → ((i s : ℕ) (a : A) → item i s ≡ result a → getElem? w i ≡ some (f a))
+      → (i s : ℕ) (xs : List A) → Each i s xs → length xs ≤ length w - i
+  each-room f w e i s [] h = omega arith
+  each-room f w e i s (a ∷ xs) h = omega (arith, nth-bound w i (e i s a (h .0)), each-room f w e (suc i) (next s a) xs (h .1))
 
   -- ---- a loop that sums f up
 

@@ -10,3 +10,5 @@ pub mod Part
 pub mod Writes
 pub mod Fields
 pub mod Records
+pub mod ChartOf
+pub mod FileBytes

@@ -64,14 +64,11 @@ transition-only : (l : Lists) (locations timers i k : ℕ) → handedTransition 
 unfolding handedTransition
 transition-only l locations timers i k = simp (tests-only l, tests-only (transitionLists l))
 
-pub transitions-only : (l : Lists) (locations timers n : ℕ) → passTransitions l locations timers n ≡ passTransitions (transitionLists l) locations timers n
-unfolding passTransitions
+pub transitions-only : (l : Lists) (locations timers n : ℕ) → handedTransitions l locations timers 0 0 n ≡ handedTransitions (transitionLists l) locations timers 0 0 n
 transitions-only l locations timers n =
-    rw (
-      transitions-items l locations timers 0 0 n,
-      transitions-items (transitionLists l) locations timers 0 0 n,
-      items-same (handedTransition l locations timers) (handedTransition (transitionLists l) locations timers) (λ k r. k + length (r .tests)) (transition-only l locations timers) 0 0 n,
-    )
+    transitions-items l locations timers 0 0 n
+    ∙ items-same (handedTransition l locations timers) (handedTransition (transitionLists l) locations timers) (λ k r. k + length (r .tests)) (transition-only l locations timers) 0 0 n
+    ∙ sym (transitions-items (transitionLists l) locations timers 0 0 n)
 
 -- ---- parts one after another
 
@@ -89,7 +86,7 @@ pub pass-transition : (l : Lists) (locations timers i k : ℕ)
 unfolding passTransition handedTransition passEnds passStarts passCount passTests sizesOf
 pass-transition l locations timers i k = simp (then-then, then-unless, tests-only l)
 
-file-length : (c : Chart) → length (fileOf c) ≡ 14 + 2 * length (c .accepting) + total (transitionLength 2) (c .transitions)
+pub file-length : (c : Chart) → length (fileOf c) ≡ 14 + 2 * length (c .accepting) + total (transitionLength 2) (c .transitions)
 unfolding fileOf fileLength bodyLength
 file-length c = omega (arith, length-file 1 2 c)
 
