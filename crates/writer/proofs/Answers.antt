@@ -11,6 +11,9 @@ use Rattle.writer.specs.declared.Entry.{Entry}
 use Rattle.writer.specs.declared.Entry.the-variants as entry
 use Rattle.writer.specs.declared.Record.{Record}
 use Rattle.writer.specs.declared.Record.the-variants as recorded
+use Rattle.writer.specs.declared.Written.{Written}
+use Rattle.writer.specs.declared.Written.the-variants as written
+use Rattle.writer.specs.Handing.{meantWritten}
 use Rattle.writer.specs.Parts.{Sizes}
 use Rattle.writer.specs.Meaning.{meant, meantRecord, refusalOf, recordRefusal}
 
@@ -52,6 +55,12 @@ found-record e h = sym h ∙ ap meantRecord e
 
 pub turned-record : {a : Record} {f : Refusal} {x : Answer Sizes} → a ≡ recorded.Refused f → meantRecord a ≡ x → x ≡ refusedAs f
 turned-record e h = sym h ∙ ap meantRecord e
+
+pub found-written : {a : Written} {n : ℕ} {s : Answer ℕ} → a ≡ written.File n → meantWritten a ≡ s → s ≡ result n
+found-written e h = sym h ∙ ap meantWritten e
+
+pub turned-written : {a : Written} {f : Refusal} {s : Answer ℕ} → a ≡ written.Refused f → meantWritten a ≡ s → s ≡ refusedAs f
+turned-written e h = sym h ∙ ap meantWritten e
 
 -- the refusal that is handed on
 pub refused-of : {A : Type 0} {a : Entry} {f g : Refusal} → a ≡ entry.Refused f → g ≡ refusalOf a → refusedAs {A = A} g ≡ refusedAs f

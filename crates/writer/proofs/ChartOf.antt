@@ -56,9 +56,18 @@ module _ (m : Numbers) (l : Lists) (c : Chart) where
   pub of-chart : ChartOf m l c → handed m l ≡ result c
   unfolding handed
   of-chart h =
-      rw (lt-ltb (m .locations) 257 (h .few-locations), le-leb 1 (m .locations) (h .some-location), lt-ltb (m .initial) (m .locations) (h .initial-below),
-      lt-ltb (m .timers) 65 (h .few-timers), h .accepting, lt-ltb (m .transitions) 513 (h .few-transitions), h .transitions,
-      ← h .locations, ← h .initial, ← h .timers)
+      rw (
+        lt-ltb (m .locations) 257 (h .few-locations),
+        le-leb 1 (m .locations) (h .some-location),
+        lt-ltb (m .initial) (m .locations) (h .initial-below),
+        lt-ltb (m .timers) 65 (h .few-timers),
+        h .accepting,
+        lt-ltb (m .transitions) 513 (h .few-transitions),
+        h .transitions,
+        ← h .locations,
+        ← h .initial,
+        ← h .timers,
+      )
 
   module _ (h : ChartOf m l c) where
     pub accepting-each : Each (acceptingItem (m .locations) (l .accepting)) (λ lo x. suc x) 0 0 (c .accepting)

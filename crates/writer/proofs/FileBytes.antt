@@ -62,9 +62,12 @@ module _ (m : Numbers) (l : Lists) (c : Chart) (h : ChartOf m l c) where
 
   pub accepting-room : m .accepting ≤ length (l .accepting)
   accepting-room =
-      omega (arith, accepting-length m l c h,
-      each-room (acceptingItem (m .locations) (l .accepting)) (λ lo x. suc x) (λ x. x) (l .accepting)
-      (λ k lo x e. accepting-of (m .locations) (l .accepting) k lo x e .0) 0 0 (c .accepting) (accepting-each m l c h))
+      omega (
+        arith,
+        accepting-length m l c h,
+        each-room (acceptingItem (m .locations) (l .accepting)) (λ lo x. suc x) (λ x. x) (l .accepting)
+            (λ k lo x e. accepting-of (m .locations) (l .accepting) k lo x e .0) 0 0 (c .accepting) (accepting-each m l c h),
+      )
 
   -- ---- transitions
 
@@ -87,8 +90,12 @@ module _ (m : Numbers) (l : Lists) (c : Chart) (h : ChartOf m l c) where
   pub records-most : length (records (c .transitions)) ≤ 53760
   unfolding passTransitions
   records-most =
-      omega (arith, records-length, h .few-transitions,
-      transitions-most l (m .locations) (m .timers) (m .transitions) {b = total (transitionLength 2) (c .transitions)} (rw (h .transitions)))
+      omega (
+        arith,
+        records-length,
+        h .few-transitions,
+        transitions-most l (m .locations) (m .timers) (m .transitions) {b = total (transitionLength 2) (c .transitions)} (rw (h .transitions)),
+      )
 
   -- ---- the parts of the file
 

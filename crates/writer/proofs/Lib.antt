@@ -12,3 +12,4 @@ pub mod Fields
 pub mod Records
 pub mod ChartOf
 pub mod FileBytes
+pub mod Writing
