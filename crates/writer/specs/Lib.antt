@@ -2,3 +2,4 @@ pub mod Handing
 pub mod Parts
 pub mod Meaning
 pub mod Bytes
+pub mod Begins
