@@ -19,3 +19,4 @@ pub mod HandedValid
 pub mod HandedLists
 pub mod ValidHanded
 pub mod RoundTrip
+pub mod Refusals

@@ -3,3 +3,4 @@ pub mod Parts
 pub mod Meaning
 pub mod Bytes
 pub mod Begins
+pub mod Refusals
