@@ -35,17 +35,17 @@ unfolding frontBytes fileOf writeFile writeBody writeHeader records
 written-parts c n m e a b d f g = rw (e, a, b, d, f, g) (simp append-assoc)
 
 -- how long they are
-module _ (n : ℕ) (m : Numbers) (l : List ℕ) where
+module _ (n : ℕ) (m : Numbers) where
   pub length-front : 12 ≡ length (frontBytes n m)
   unfolding frontBytes
   length-front = simp (length-append, length-digits)
 
-  pub length-accepted : 12 + 2 * m .accepting ≡ length (frontBytes n m ++ numberBytes 2 l (m .accepting))
+  pub length-accepted : (l : List ℕ) → 12 + 2 * m .accepting ≡ length (frontBytes n m ++ numberBytes 2 l (m .accepting))
   unfolding numberBytes
-  length-accepted = simp length-append (omega (arith, length-front, gather-length (λ i. digits 2 (getD l i 0)) 2 (λ i. length-digits 2 (getD l i 0)) (m .accepting)))
+  length-accepted l = simp length-append (omega (arith, length-front, gather-length (λ i. digits 2 (getD l i 0)) 2 (λ i. length-digits 2 (getD l i 0)) (m .accepting)))
 
-  pub length-counted : 12 + 2 * m .accepting + 2 ≡ length ((frontBytes n m ++ numberBytes 2 l (m .accepting)) ++ digits 2 (m .transitions))
-  length-counted = simp (length-append, length-digits) (omega (arith, length-accepted, length-append (frontBytes n m) (numberBytes 2 l (m .accepting))))
+  pub length-counted : (l : List ℕ) → 12 + 2 * m .accepting + 2 ≡ length ((frontBytes n m ++ numberBytes 2 l (m .accepting)) ++ digits 2 (m .transitions))
+  length-counted l = simp (length-append, length-digits) (omega (arith, length-accepted l, length-append (frontBytes n m) (numberBytes 2 l (m .accepting))))
 
 module _ (m : Numbers) (l : Lists) (c : Chart) (h : ChartOf m l c) where
   -- ---- accepting locations

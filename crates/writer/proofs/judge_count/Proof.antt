@@ -21,16 +21,16 @@ enum-told : tie.Need-enum-told
 enum-told c = search needs
 
 returns : tie.Need-returns
-returns c = let h = turned (c .enum-told .given .1) (c .before .before .byte-at .ensures) in c .before .before .byte-at .ensures ∙ h ∙ sym (count-cut (testLists (now (c .before .before .before .before .before .before .before .args .timers)) (now (c .before .before .before .before .before .before .before .args .codes)) (now (c .before .before .before .before .before .before .before .args .constants))) (now (c .before .before .before .before .before .before .before .args .counts)) (c .before .before .before .before .before .before .before .args .limit) (c .before .before .before .before .before .before .before .args .i) (c .before .before .before .before .before .before .before .args .k) h)
+returns c = let h = turned (c .enum-told .given .1) (c .before .before .byte-at .ensures) in c .before .before .byte-at .ensures ∙ h ∙ sym (count-cut _ _ _ _ _ h)
 
 returns-2 : tie.Need-returns-2
-returns-2 c = sym (count-many (testLists (now (c .before .before .before .before .before .before .before .before .before .args .timers)) (now (c .before .before .before .before .before .before .before .before .before .args .codes)) (now (c .before .before .before .before .before .before .before .before .before .args .constants))) (now (c .before .before .before .before .before .before .before .before .before .args .counts)) (c .before .before .before .before .before .before .before .before .before .args .limit) (c .before .before .before .before .before .before .before .before .before .args .i) (c .before .before .before .before .before .before .before .before .before .args .k) (found (c .before .before .a .given .1) (c .before .before .before .before .byte-at .ensures)) (c .if1 .taken))
+returns-2 c = sym (count-many _ _ _ _ _ (found (c .before .before .a .given .1) (c .before .before .before .before .byte-at .ensures)) (c .if1 .taken))
 
 judge-tests-requires : tie.Need-judge-tests-requires
 judge-tests-requires c κs = search needs
 
 returns-3 : tie.Need-returns-3
-returns-3 c = c .judge-tests .ensures ∙ sym (count-tests (testLists (now (c .before .before .before .before .before .before .before .before .before .before .args .timers)) (now (c .before .before .before .before .before .before .before .before .before .before .args .codes)) (now (c .before .before .before .before .before .before .before .before .before .before .args .constants))) (now (c .before .before .before .before .before .before .before .before .before .before .args .counts)) (c .before .before .before .before .before .before .before .before .before .before .args .limit) (c .before .before .before .before .before .before .before .before .before .before .args .i) (c .before .before .before .before .before .before .before .before .before .before .args .k) (found (c .before .before .before .a .given .1) (c .before .before .before .before .before .byte-at .ensures)) (c .before .if1 .left))
+returns-3 c = c .judge-tests .ensures ∙ sym (count-tests _ _ _ _ _ (found (c .before .before .before .a .given .1) (c .before .before .before .before .before .byte-at .ensures)) (c .before .if1 .left))
 
 pub judge-count-spec : {M : Type 1} → statement M
 judge-count-spec =

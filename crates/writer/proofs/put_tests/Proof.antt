@@ -24,10 +24,10 @@ loop-holds : tie.Need-loop-holds Inv-loop μ-loop
 loop-holds c = (omega arith, wrote-first _ _ _)
 
 sub-put-test : tie.Need-sub-put-test Inv-loop μ-loop
-sub-put-test c = let r = even-room (λ t. testAt (testLists (now (c .before .before .before .before .before .before .args .timers)) (now (c .before .before .before .before .before .before .args .codes)) (now (c .before .before .before .before .before .before .args .constants))) (c .before .before .before .before .before .before .args .k + t)) 4 (λ t. length-testAt (testLists (now (c .before .before .before .before .before .before .args .timers)) (now (c .before .before .before .before .before .before .args .codes)) (now (c .before .before .before .before .before .before .args .constants))) (c .before .before .before .before .before .before .args .k + t)) (c .before .before .before .before .before .before .args .g) (c .before .loop .inv .1) (c .loop-test .taken) (c .before .before .before .before .before .before .pre .3) in omega arith
+sub-put-test c = let r = even-room _ 4 (λ t. length-testAt _ _) _ (c .before .loop .inv .1) (c .loop-test .taken) (c .before .before .before .before .before .before .pre .3) in omega arith
 
 part-put-test-start : tie.Need-part-put-test-start Inv-loop μ-loop
-part-put-test-start c = let r = even-room (λ t. testAt (testLists (now (c .before .before .before .before .before .before .args .timers)) (now (c .before .before .before .before .before .before .args .codes)) (now (c .before .before .before .before .before .before .args .constants))) (c .before .before .before .before .before .before .args .k + t)) 4 (λ t. length-testAt (testLists (now (c .before .before .before .before .before .before .args .timers)) (now (c .before .before .before .before .before .before .args .codes)) (now (c .before .before .before .before .before .before .args .constants))) (c .before .before .before .before .before .before .args .k + t)) (c .before .before .before .before .before .before .args .g) (c .before .loop .inv .1) (c .loop-test .taken) (c .before .before .before .before .before .before .pre .3) in omega arith
+part-put-test-start c = let r = even-room _ 4 (λ t. length-testAt _ _) _ (c .before .loop .inv .1) (c .loop-test .taken) (c .before .before .before .before .before .before .pre .3) in omega arith
 
 part-put-test-end : tie.Need-part-put-test-end Inv-loop μ-loop
 part-put-test-end c = search needs
@@ -45,10 +45,10 @@ shared-slice-read-put-test-3 : tie.Need-shared-slice-read-put-test-3 Inv-loop μ
 shared-slice-read-put-test-3 c = search needs
 
 put-test-requires : tie.Need-put-test-requires Inv-loop μ-loop
-put-test-requires c κs = let r = even-room (λ t. testAt (testLists (now (c .before .before .before .before .before .before .before .before .before .before .args .timers)) (now (c .before .before .before .before .before .before .before .before .before .before .args .codes)) (now (c .before .before .before .before .before .before .before .before .before .before .args .constants))) (c .before .before .before .before .before .before .before .before .before .before .args .k + t)) 4 (λ t. length-testAt (testLists (now (c .before .before .before .before .before .before .before .before .before .before .args .timers)) (now (c .before .before .before .before .before .before .before .before .before .before .args .codes)) (now (c .before .before .before .before .before .before .before .before .before .before .args .constants))) (c .before .before .before .before .before .before .before .before .before .before .args .k + t)) (c .before .before .before .before .before .before .before .before .before .before .args .g) (c .before .before .before .before .before .loop .inv .1) (c .before .before .before .before .loop-test .taken) (c .before .before .before .before .before .before .before .before .before .before .pre .3) in mid-room (c .before .before .before .before .before .loop .at) (c .before .before .before .before .before .loop .out) 4 r
+put-test-requires c κs = let r = even-room _ 4 (λ t. length-testAt _ _) _ (c .before .before .before .before .before .loop .inv .1) (c .before .before .before .before .loop-test .taken) (c .before .before .before .before .before .before .before .before .before .before .pre .3) in mid-room (c .before .before .before .before .before .loop .at) (c .before .before .before .before .before .loop .out) 4 r
 
 add-at : tie.Need-add-at Inv-loop μ-loop
-add-at c = let r = even-room (λ t. testAt (testLists (now (c .before .before .before .before .before .before .before .before .before .before .before .before .before .args .timers)) (now (c .before .before .before .before .before .before .before .before .before .before .before .before .before .args .codes)) (now (c .before .before .before .before .before .before .before .before .before .before .before .before .before .args .constants))) (c .before .before .before .before .before .before .before .before .before .before .before .before .before .args .k + t)) 4 (λ t. length-testAt (testLists (now (c .before .before .before .before .before .before .before .before .before .before .before .before .before .args .timers)) (now (c .before .before .before .before .before .before .before .before .before .before .before .before .before .args .codes)) (now (c .before .before .before .before .before .before .before .before .before .before .before .before .before .args .constants))) (c .before .before .before .before .before .before .before .before .before .before .before .before .before .args .k + t)) (c .before .before .before .before .before .before .before .before .before .before .before .before .before .args .g) (c .before .before .before .before .before .before .before .before .loop .inv .1) (c .before .before .before .before .before .before .before .loop-test .taken) (c .before .before .before .before .before .before .before .before .before .before .before .before .before .pre .3) in omega (arith, c .before .before .before .before .before .before .before .before .before .before .before .before .before .good)
+add-at c = let r = even-room _ 4 (λ t. length-testAt _ _) _ (c .before .before .before .before .before .before .before .before .loop .inv .1) (c .before .before .before .before .before .before .before .loop-test .taken) (c .before .before .before .before .before .before .before .before .before .before .before .before .before .pre .3) in omega (arith, c .before .before .before .before .before .before .before .before .before .before .before .before .before .good)
 
 add-here : tie.Need-add-here Inv-loop μ-loop
 add-here c = search needs
