@@ -1,13 +1,13 @@
 -- The lists of a chart that is handed over are the beginnings of the lists that it is handed over in. Assumes nothing.
 use mathlib.Core.Path.{_≡_, refl, sym, ap, _∙_}
 use mathlib.Core.Option.{some}
-use mathlib.Core.List.{List, [], _∷_, _++_, map, map-id, map-append}
+use mathlib.Core.List.{List, [], _∷_, map, map-id, map-append}
 use Prim.Native.Nat.{ℕ, suc, _+_, _<_, _^_}
 use lib.ListN.{length, drop, getElem?, length-map}
 use Rattle.timer_set.specs.Members.{setOf}
 use Rattle.timer_set.proofs.Members.{setOf-members}
 use Rattle.comparison.specs.Comparison.{codeOf}
-use Rattle.model.specs.Answer.{Answer, result}
+use Rattle.model.specs.Answer.{result}
 use Rattle.model.specs.Chart.{Test, Transition, Chart}
 use Rattle.model.specs.Live.{startsSet}
 use Rattle.chart_lists.specs.Lists.{Lists, listsOf, allTests}
@@ -18,7 +18,7 @@ use Rattle.writer.specs.Begins.{Begins, ListsBegin, Typed}
 use Rattle.writer.proofs.Items.{Each, items-each}
 use Rattle.writer.proofs.Parts.{acceptingItem, tests-items}
 use Rattle.writer.proofs.Handed.{accepting-of, TestOf, test-of, TransitionOf, transition-of}
-use Rattle.writer.proofs.ChartOf.{ChartOf, chart-of, accepting-each, accepting-length, transitions-each, transitions-length}
+use Rattle.writer.proofs.ChartOf.{chart-of, accepting-each, accepting-length, transitions-each, transitions-length}
 use Rattle.writer.proofs.Beginnings.{begins-append, each-begins}
 use Rattle.writer.proofs.HandedValid.{all-nth}
 

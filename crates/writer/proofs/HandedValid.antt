@@ -1,22 +1,22 @@
 -- A chart that is handed over is one that a file can hold. Assumes nothing.
-use mathlib.Core.Path.{_≡_, refl, sym, ap, _∙_}
+use mathlib.Core.Path.{_≡_, sym, _∙_}
 use mathlib.Core.Option.{some, Option·some-injective, Option·none-ne-some}
 use mathlib.Core.List.{List, [], _∷_}
-use Prim.Native.Nat.{ℕ, zero, suc, _+_, _^_, _≤_, _<_}
+use Prim.Native.Nat.{ℕ, zero, suc, _<_}
 use native.Mathlib.Omega.{arith}
 use lib.ListN.{length, getElem?}
 use Rattle.lists.specs.Rising.{Rising, All}
-use Rattle.model.specs.Answer.{Answer, result}
+use Rattle.model.specs.Answer.{result}
 use Rattle.model.specs.Chart.{Test, Transition, Chart}
 use Rattle.model.specs.Valid.{ValidTest, ValidTransition, Valid}
 use Rattle.chart_lists.specs.Lists.{Lists}
 use Rattle.chart_lists.specs.declared.Numbers.{Numbers}
-use Rattle.writer.specs.Handing.{handedTest, handedTests, handedTransition, handed}
+use Rattle.writer.specs.Handing.{handedTest, handedTransition, handed}
 use Rattle.writer.specs.Begins.{Typed}
 use Rattle.writer.proofs.Items.{Each, items-each, each-all}
 use Rattle.writer.proofs.Parts.{acceptingItem, tests-items}
-use Rattle.writer.proofs.Handed.{accepting-of, test-of, TransitionOf, transition-of}
-use Rattle.writer.proofs.ChartOf.{ChartOf, chart-of, accepting-each, transitions-each, transitions-length}
+use Rattle.writer.proofs.Handed.{accepting-of, test-of, transition-of}
+use Rattle.writer.proofs.ChartOf.{chart-of, accepting-each, transitions-each, transitions-length}
 use Rattle.writer.proofs.Starts.{members-below}
 
 -- what holds of all entries holds of each

@@ -1,5 +1,5 @@
 -- The writer refuses with 3 to 8 and 21 only, 4 to 8 at the header or at a transition below 512. Assumes nothing.
-use mathlib.Core.Path.{_≡_, refl, sym, _∙_}
+use mathlib.Core.Path.{_≡_, refl}
 use mathlib.Core.Bool.{Bool, true, false, not}
 use mathlib.Core.Option.{Option, none, some}
 use mathlib.Core.List.{List}
@@ -11,7 +11,6 @@ use borrow.Author.Tests.{ltb-true}
 use Rattle.comparison.specs.declared.Comparison.{Comparison}
 use Rattle.comparison.specs.Comparison.{comparisonOf}
 use Rattle.model.specs.Answer.{Answer, result, refused, then, unless, nowhere}
-use Rattle.model.specs.Chart.{Transition, Chart}
 use Rattle.file_format.specs.File.{fileOf}
 use Rattle.file_format.proofs.File.{result-refused}
 use Rattle.chart_lists.specs.Lists.{Lists}

@@ -1,11 +1,11 @@
 -- What was written is read as the chart that was handed over, and what was read is written again, byte for byte. Assumes nothing.
-use mathlib.Core.Path.{_≡_, refl, sym, ap, _∙_}
+use mathlib.Core.Path.{_≡_}
 use mathlib.Core.List.{List}
 use Prim.Native.Nat.{ℕ, _≤_}
 use lib.Dec.{leb}
 use lib.ListN.{length}
 use borrow.Author.Tests.{le-leb, leb-true}
-use Rattle.model.specs.Answer.{Answer, result, then, unless, nowhere}
+use Rattle.model.specs.Answer.{result, nowhere}
 use Rattle.model.specs.Chart.{Chart}
 use Rattle.file_format.specs.File.{chartIn, fileOf}
 use Rattle.file_format.proofs.RoundTrip.{Bytes}

@@ -1,21 +1,20 @@
 -- A chart that a file can hold is handed over by every lists that begin with its own. Assumes nothing.
-use mathlib.Core.Path.{_≡_, refl, sym, ap, _∙_}
-use mathlib.Core.Option.{some}
+use mathlib.Core.Path.{_≡_, refl, sym, _∙_}
 use mathlib.Core.List.{List, [], _∷_, _++_, map, map-append}
-use Prim.Native.Nat.{ℕ, suc, _+_, _≤_, _<_}
+use Prim.Native.Nat.{ℕ, suc, _+_, _≤_}
 use native.Mathlib.Omega.{arith}
-use lib.ListN.{length, drop, getElem?, length-map}
+use lib.ListN.{length, drop, length-map}
 use Rattle.lists.specs.Rising.{Rising, All}
 use Rattle.timer_set.specs.Members.{setOf}
 use Rattle.timer_set.proofs.Members.{members-setOf}
 use Rattle.comparison.specs.Comparison.{codeOf}
-use Rattle.model.specs.Answer.{Answer, result}
+use Rattle.model.specs.Answer.{result}
 use Rattle.model.specs.Chart.{Test, Transition, Chart}
 use Rattle.model.specs.Valid.{ValidTest, ValidTransition, Valid}
 use Rattle.model.specs.Live.{startsSet}
 use Rattle.chart_lists.specs.Lists.{Lists, listsOf, allTests}
 use Rattle.chart_lists.specs.Numbers.{numbersOf}
-use Rattle.writer.specs.Handing.{handedTest, handedTests, handedTransition, handed}
+use Rattle.writer.specs.Handing.{handedTest, handedTransition, handed}
 use Rattle.writer.specs.Begins.{Begins, ListsBegin}
 use Rattle.writer.proofs.Items.{Each, each-items}
 use Rattle.writer.proofs.Parts.{acceptingItem, accepting-items, tests-items, transitions-items}

@@ -1,21 +1,11 @@
-use Rattle.writer.proofs.Turns.{accepting-count, transitions-most}
-use mathlib.Core.Path.{refl, sym, ap, _∙_}
-use denote.Ref.{now}
+use mathlib.Core.Path.{sym, _∙_}
 use native.Mathlib.Omega.{arith}
-use Rattle.writer.proofs.Answers.{found, turned, refused-of}
-use Rattle.writer.proofs.Turns.{transitions-most}
-use Rattle.writer.proofs.Judging.{chart-numbers, chart-accepting, chart-many, chart-transitions, chart-in}
-use mathlib.Core.List.{[]}
-use Rattle.chart_lists.specs.Lists.{lists}
 use borrow.Author.Needs.{needs}
+use Rattle.writer.proofs.Turns.{accepting-count, transitions-most}
+use Rattle.writer.proofs.Answers.{found, turned, refused-of}
+use Rattle.writer.proofs.Judging.{chart-numbers, chart-accepting, chart-many, chart-transitions, chart-in}
 use Rattle.writer.proofs.judge.Statement.{statement}
 use Rattle.writer.proofs.judge.Tie as tie
-use Rattle.writer.proofs.judge.Reads as reads
-use Rattle.writer.proofs.judge.Lts as lts
-use Rattle.writer.proofs.judge_accepting.Reads as judge-accepting-reads
-use Rattle.writer.proofs.judge_numbers.Reads as judge-numbers-reads
-use Rattle.writer.proofs.judge_transitions.Reads as judge-transitions-reads
-use Rattle.writer.proofs.refusal_of.Reads as refusal-of-reads
 
 judge-numbers-requires : tie.Need-judge-numbers-requires
 judge-numbers-requires c κs = search needs

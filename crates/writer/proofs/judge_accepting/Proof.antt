@@ -1,19 +1,14 @@
-use Rattle.writer.proofs.Handed.{below-some}
-use borrow.Author.Needs.{needs}
+use mathlib.Core.Path.{refl, sym, _∙_}
 use Prim.Native.Nat.{_-_}
-use mathlib.Core.Path.{refl, sym, ap, _∙_}
-use denote.Ref.{now}
 use native.Mathlib.Omega.{arith}
+use borrow.Author.Needs.{needs}
+use Rattle.writer.proofs.Handed.{below-some}
 use Rattle.writer.proofs.Answers.{found, turned}
 use Rattle.writer.proofs.Items.{turn-done, turn-refused, turn-again}
 use Rattle.writer.proofs.Turns.{AcceptingTurn, accepting-first}
 use Rattle.writer.proofs.Judging.{entry-limited, accepting-refused, accepting-low, accepting-in}
 use Rattle.writer.proofs.judge_accepting.Statement.{statement}
 use Rattle.writer.proofs.judge_accepting.Tie as tie
-use Rattle.writer.proofs.judge_accepting.Reads as reads
-use Rattle.writer.proofs.judge_accepting.Lts as lts
-use Rattle.writer.proofs.below.Reads as below-reads
-use Rattle.writer.proofs.pair_at.Reads as pair-at-reads
 
 abbrev Inv-loop : tie.InvT-loop
 Inv-loop accepting locations n lowest₀ k₀ lowest k = AcceptingTurn locations accepting n lowest k

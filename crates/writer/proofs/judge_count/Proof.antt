@@ -1,15 +1,9 @@
-use mathlib.Core.Path.{refl, sym, ap, _∙_}
-use denote.Ref.{now}
-use Rattle.writer.proofs.Answers.{found, turned}
-use Rattle.writer.specs.Parts.{testLists}
-use Rattle.writer.proofs.Judging.{count-cut, count-many, count-tests}
+use mathlib.Core.Path.{sym, _∙_}
 use borrow.Author.Needs.{needs}
+use Rattle.writer.proofs.Answers.{found, turned}
+use Rattle.writer.proofs.Judging.{count-cut, count-many, count-tests}
 use Rattle.writer.proofs.judge_count.Statement.{statement}
 use Rattle.writer.proofs.judge_count.Tie as tie
-use Rattle.writer.proofs.judge_count.Reads as reads
-use Rattle.writer.proofs.judge_count.Lts as lts
-use Rattle.writer.proofs.byte_at.Reads as byte-at-reads
-use Rattle.writer.proofs.judge_tests.Reads as judge-tests-reads
 
 byte-at-requires : tie.Need-byte-at-requires
 byte-at-requires c κs = search needs

@@ -1,15 +1,9 @@
-use mathlib.Core.Path.{refl, sym, ap, _∙_}
-use denote.Ref.{now}
+use mathlib.Core.Path.{sym, _∙_}
+use borrow.Author.Needs.{needs}
 use Rattle.writer.proofs.Answers.{found, turned}
 use Rattle.writer.proofs.Judging.{entry-limited, ends-source, ends-target, ends-event}
-use borrow.Author.Needs.{needs}
 use Rattle.writer.proofs.judge_ends.Statement.{statement}
 use Rattle.writer.proofs.judge_ends.Tie as tie
-use Rattle.writer.proofs.judge_ends.Reads as reads
-use Rattle.writer.proofs.judge_ends.Lts as lts
-use Rattle.writer.proofs.below.Reads as below-reads
-use Rattle.writer.proofs.byte_at.Reads as byte-at-reads
-use Rattle.writer.proofs.pair_at.Reads as pair-at-reads
 
 pair-at-requires : tie.Need-pair-at-requires
 pair-at-requires c κs = search needs

@@ -1,16 +1,10 @@
+use mathlib.Core.Path.{sym, ap, _∙_}
+use borrow.Author.Needs.{needs}
 use Rattle.model.specs.Answer.{result}
-use mathlib.Core.Path.{refl, sym, ap, _∙_}
-use denote.Ref.{now}
 use Rattle.writer.proofs.Answers.{found, turned}
 use Rattle.writer.proofs.Judging.{starts-cut, starts-beyond, starts-in}
-use borrow.Author.Needs.{needs}
 use Rattle.writer.proofs.judge_starts.Statement.{statement}
 use Rattle.writer.proofs.judge_starts.Tie as tie
-use Rattle.writer.proofs.judge_starts.Reads as reads
-use Rattle.writer.proofs.judge_starts.Lts as lts
-use Rattle.timer_set.proofs.TimerSet.all_below.Reads as all-below-reads
-use Rattle.timer_set.proofs.TimerSet.count.Reads as count-reads
-use Rattle.writer.proofs.word_at.Reads as word-at-reads
 
 word-at-requires : tie.Need-word-at-requires
 word-at-requires c κs = search needs

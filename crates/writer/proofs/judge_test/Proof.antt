@@ -1,17 +1,9 @@
-use mathlib.Core.Path.{refl, sym, ap, _∙_}
-use denote.Ref.{now}
-use Rattle.writer.proofs.Answers.{found, turned}
-use Rattle.writer.specs.Parts.{testLists}
-use Rattle.writer.proofs.Judging.{entry-limited, test-timer, test-code, test-constant}
+use mathlib.Core.Path.{sym, _∙_}
 use borrow.Author.Needs.{needs}
+use Rattle.writer.proofs.Answers.{found, turned}
+use Rattle.writer.proofs.Judging.{entry-limited, test-timer, test-code, test-constant}
 use Rattle.writer.proofs.judge_test.Statement.{statement}
 use Rattle.writer.proofs.judge_test.Tie as tie
-use Rattle.writer.proofs.judge_test.Reads as reads
-use Rattle.writer.proofs.judge_test.Lts as lts
-use Rattle.writer.proofs.below.Reads as below-reads
-use Rattle.writer.proofs.byte_at.Reads as byte-at-reads
-use Rattle.writer.proofs.judge_code.Reads as judge-code-reads
-use Rattle.writer.proofs.pair_at.Reads as pair-at-reads
 
 byte-at-requires : tie.Need-byte-at-requires
 byte-at-requires c κs = search needs

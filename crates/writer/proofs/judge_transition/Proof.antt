@@ -1,20 +1,9 @@
-use mathlib.Core.Path.{refl, sym, ap, _∙_}
-use denote.Ref.{now}
+use mathlib.Core.Path.{sym, _∙_}
+use borrow.Author.Needs.{needs}
 use Rattle.writer.proofs.Answers.{found, turned, refused-of}
 use Rattle.writer.proofs.Judging.{transition-ends, transition-starts, transition-tests, transition-in}
-use mathlib.Core.List.{[]}
-use Rattle.chart_lists.specs.Lists.{lists}
-use Rattle.chart_lists.specs.Numbers.{refusedAs}
-use Rattle.writer.specs.Meaning.{refusalOf}
-use borrow.Author.Needs.{needs}
 use Rattle.writer.proofs.judge_transition.Statement.{statement}
 use Rattle.writer.proofs.judge_transition.Tie as tie
-use Rattle.writer.proofs.judge_transition.Reads as reads
-use Rattle.writer.proofs.judge_transition.Lts as lts
-use Rattle.writer.proofs.judge_count.Reads as judge-count-reads
-use Rattle.writer.proofs.judge_ends.Reads as judge-ends-reads
-use Rattle.writer.proofs.judge_starts.Reads as judge-starts-reads
-use Rattle.writer.proofs.refusal_of.Reads as refusal-of-reads
 
 judge-ends-requires : tie.Need-judge-ends-requires
 judge-ends-requires c κs = search needs

@@ -1,19 +1,14 @@
-use borrow.Author.Needs.{needs}
+use mathlib.Core.Path.{sym, _∙_}
+use mathlib.Core.List.{[]}
 use Prim.Native.Nat.{_-_, _*_, _≤_}
-use mathlib.Core.Path.{refl, sym, ap, _∙_}
-use denote.Ref.{now}
 use native.Mathlib.Omega.{arith}
+use borrow.Author.Needs.{needs}
+use Rattle.chart_lists.specs.Lists.{lists}
 use Rattle.writer.proofs.Answers.{found-record, turned-record, refused-record}
 use Rattle.writer.proofs.Items.{turn-done, turn-refused, turn-again}
 use Rattle.writer.proofs.Turns.{TransitionsTurn, transitions-first, transition-turned, transition-found, handed-few, length-sizes, length-record}
-use mathlib.Core.List.{[]}
-use Rattle.chart_lists.specs.Lists.{lists}
 use Rattle.writer.proofs.judge_transitions.Statement.{statement}
 use Rattle.writer.proofs.judge_transitions.Tie as tie
-use Rattle.writer.proofs.judge_transitions.Reads as reads
-use Rattle.writer.proofs.judge_transitions.Lts as lts
-use Rattle.writer.proofs.judge_transition.Reads as judge-transition-reads
-use Rattle.writer.proofs.record_refusal.Reads as record-refusal-reads
 
 abbrev Inv-loop : tie.InvT-loop
 Inv-loop m sources targets events starts counts timers codes constants n bytes₀ k₀ i₀ bytes k i = TransitionsTurn (lists [] sources targets events starts counts timers codes constants) (m .locations) (m .timers) n bytes k i × (bytes ≤ 105 * i) × (k ≤ 8 * i)

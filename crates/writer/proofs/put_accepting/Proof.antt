@@ -1,19 +1,16 @@
-use borrow.Author.Needs.{needs}
+use mathlib.Core.Path.{refl}
 use Prim.Native.Nat.{_-_}
-use mathlib.Core.Path.{refl, sym, ap, _∙_}
 use denote.Ref.{now}
 use native.Mathlib.Omega.{arith}
 use lib.ListN.{getD}
+use borrow.Author.Needs.{needs}
 use Rattle.file_format.proofs.Lengths.{length-digits}
 use Rattle.file_format.specs.Parse.{digits}
 use Rattle.writer.specs.Bytes.{numberBytes}
 use Rattle.writer.proofs.Part.{mid-room}
-use Rattle.writer.proofs.Writes.{Wrote, wrote-first, wrote-done, wrote-room, wrote-none, wrote-again, even-room}
+use Rattle.writer.proofs.Writes.{Wrote, wrote-first, wrote-done, wrote-again, even-room}
 use Rattle.writer.proofs.put_accepting.Statement.{statement}
 use Rattle.writer.proofs.put_accepting.Tie as tie
-use Rattle.writer.proofs.put_accepting.Reads as reads
-use Rattle.writer.proofs.put_accepting.Lts as lts
-use Rattle.writer.proofs.put_pair.Reads as put-pair-reads
 
 abbrev Inv-loop : tie.InvT-loop
 Inv-loop out₀ accepting n at₀ i₀ out at i = Wrote (λ i. digits 2 (getD accepting i 0)) n out₀ out at i

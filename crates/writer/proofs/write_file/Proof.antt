@@ -1,20 +1,9 @@
-use Prim.Native.Nat.{_-_}
-use mathlib.Core.Path.{refl, sym, ap, _∙_}
-use denote.Ref.{now}
 use native.Mathlib.Omega.{arith}
-use lib.ListN.{length}
-use Rattle.chart_lists.specs.Lists.{lists}
+use borrow.Author.Needs.{needs}
 use Rattle.writer.proofs.Part.{laid-first, laid-next, laid-done}
 use Rattle.writer.proofs.FileBytes.{length-front, length-accepted, length-counted, judged-room, judged-parts}
-use borrow.Author.Needs.{needs}
 use Rattle.writer.proofs.write_file.Statement.{statement}
 use Rattle.writer.proofs.write_file.Tie as tie
-use Rattle.writer.proofs.write_file.Reads as reads
-use Rattle.writer.proofs.write_file.Lts as lts
-use Rattle.writer.proofs.put_accepting.Reads as put-accepting-reads
-use Rattle.writer.proofs.put_front.Reads as put-front-reads
-use Rattle.writer.proofs.put_pair.Reads as put-pair-reads
-use Rattle.writer.proofs.write_records.Reads as write-records-reads
 
 sub-put-front : tie.Need-sub-put-front
 sub-put-front c = let k = judged-room _ _ _ _ (c .before .before .before .before .before .before .before .before .before .before .before .pre) in omega (arith, k .size, k .few, k .fits)

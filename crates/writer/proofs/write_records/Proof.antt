@@ -1,17 +1,14 @@
-use borrow.Author.Needs.{needs}
-use Prim.Native.Nat.{ℕ, _+_, _-_}
-use mathlib.Core.Path.{refl, sym, ap, _∙_}
+use mathlib.Core.Path.{ap}
 use mathlib.Core.List.{[]}
+use Prim.Native.Nat.{ℕ, _+_, _-_}
 use denote.Ref.{now}
 use native.Mathlib.Omega.{arith}
+use borrow.Author.Needs.{needs}
 use Rattle.chart_lists.specs.Lists.{Lists, lists}
 use Rattle.writer.proofs.Part.{mid-room}
 use Rattle.writer.proofs.Records.{Writing, writing-first, writing-done, Next, writing-next, writing-again}
 use Rattle.writer.proofs.write_records.Statement.{statement}
 use Rattle.writer.proofs.write_records.Tie as tie
-use Rattle.writer.proofs.write_records.Reads as reads
-use Rattle.writer.proofs.write_records.Lts as lts
-use Rattle.writer.proofs.write_record.Reads as write-record-reads
 
 abbrev Inv-loop : tie.InvT-loop
 Inv-loop out₀ m sources targets events starts counts timers codes constants at₀ k₀ i₀ out at k i = Writing (lists [] sources targets events starts counts timers codes constants) (m .locations) (m .timers) (m .transitions) out₀ out at k i
