@@ -1,20 +1,14 @@
-use borrow.Author.Needs.{needs}
+use mathlib.Core.Path.{_≡_, sym, ap, _∙_}
 use Prim.Native.Nat.{_-_}
-use mathlib.Core.Path.{_≡_, refl, sym, ap, _∙_}
-use denote.Ref.{now}
 use native.Mathlib.Omega.{arith}
 use lib.ListN.{length}
+use borrow.Author.Needs.{needs}
 use Rattle.file_format.proofs.Lengths.{length-digits}
-use Rattle.timer_set.specs.Members.{members}
 use Rattle.writer.proofs.Fields.{startItem, start-in, start-out, starts-bytes, length-starts}
 use Rattle.writer.proofs.Part.{mid-room}
-use Rattle.writer.proofs.Writes.{Wrote, wrote-first, wrote-done, wrote-room, wrote-none, wrote-again, even-room}
+use Rattle.writer.proofs.Writes.{Wrote, wrote-first, wrote-done, wrote-room, wrote-none, wrote-again}
 use Rattle.writer.proofs.put_starts.Statement.{statement}
 use Rattle.writer.proofs.put_starts.Tie as tie
-use Rattle.writer.proofs.put_starts.Reads as reads
-use Rattle.writer.proofs.put_starts.Lts as lts
-use Rattle.timer_set.proofs.TimerSet.has.Reads as has-reads
-use Rattle.writer.proofs.put_byte.Reads as put-byte-reads
 
 abbrev Inv-loop : tie.InvT-loop
 Inv-loop out₀ set at₀ j₀ out at j = Wrote (startItem (set .bits)) 64 out₀ out at j
@@ -32,14 +26,16 @@ has-requires : tie.Need-has-requires Inv-loop μ-loop
 has-requires c κs = search needs
 
 sub-put-byte : tie.Need-sub-put-byte Inv-loop μ-loop
-sub-put-byte c = let e : length (startItem (c .before .before .before .before .before .args .set .bits) (c .before .before .before .loop .j)) ≡ 1 = ap length (start-in (c .before .before .before .before .before .args .set .bits) (c .before .before .before .loop .j) (sym (c .before .has .ensures) ∙ c .if1 .taken)) ∙ length-digits 1 (c .before .before .before .loop .j) in
-    let b = ap length (starts-bytes (c .before .before .before .before .before .args .set .bits)) ∙ length-starts (c .before .before .before .before .before .args .set .bits) in
+sub-put-byte c = let a = c .before .before .before .before .before .args in
+    let e : length (startItem (a .set .bits) (c .before .before .before .loop .j)) ≡ 1 = ap length (start-in (a .set .bits) (c .before .before .before .loop .j) (sym (c .before .has .ensures) ∙ c .if1 .taken)) ∙ length-digits 1 (c .before .before .before .loop .j) in
+    let b = ap length (starts-bytes (a .set .bits)) ∙ length-starts (a .set .bits) in
     let r = wrote-room (c .before .before .before .loop .inv) (c .before .before .loop-test .taken) (rw b (c .before .before .before .before .before .pre)) in
     omega arith
 
 part-put-byte-start : tie.Need-part-put-byte-start Inv-loop μ-loop
-part-put-byte-start c = let e : length (startItem (c .before .before .before .before .before .args .set .bits) (c .before .before .before .loop .j)) ≡ 1 = ap length (start-in (c .before .before .before .before .before .args .set .bits) (c .before .before .before .loop .j) (sym (c .before .has .ensures) ∙ c .if1 .taken)) ∙ length-digits 1 (c .before .before .before .loop .j) in
-    let b = ap length (starts-bytes (c .before .before .before .before .before .args .set .bits)) ∙ length-starts (c .before .before .before .before .before .args .set .bits) in
+part-put-byte-start c = let a = c .before .before .before .before .before .args in
+    let e : length (startItem (a .set .bits) (c .before .before .before .loop .j)) ≡ 1 = ap length (start-in (a .set .bits) (c .before .before .before .loop .j) (sym (c .before .has .ensures) ∙ c .if1 .taken)) ∙ length-digits 1 (c .before .before .before .loop .j) in
+    let b = ap length (starts-bytes (a .set .bits)) ∙ length-starts (a .set .bits) in
     let r = wrote-room (c .before .before .before .loop .inv) (c .before .before .loop-test .taken) (rw b (c .before .before .before .before .before .pre)) in
     omega arith
 
@@ -47,14 +43,16 @@ part-put-byte-end : tie.Need-part-put-byte-end Inv-loop μ-loop
 part-put-byte-end c = search needs
 
 put-byte-requires : tie.Need-put-byte-requires Inv-loop μ-loop
-put-byte-requires c κs = let e : length (startItem (c .before .before .before .before .before .before .args .set .bits) (c .before .before .before .before .loop .j)) ≡ 1 = ap length (start-in (c .before .before .before .before .before .before .args .set .bits) (c .before .before .before .before .loop .j) (sym (c .before .before .has .ensures) ∙ c .before .if1 .taken)) ∙ length-digits 1 (c .before .before .before .before .loop .j) in
-    let b = ap length (starts-bytes (c .before .before .before .before .before .before .args .set .bits)) ∙ length-starts (c .before .before .before .before .before .before .args .set .bits) in
+put-byte-requires c κs = let a = c .before .before .before .before .before .before .args in
+    let e : length (startItem (a .set .bits) (c .before .before .before .before .loop .j)) ≡ 1 = ap length (start-in (a .set .bits) (c .before .before .before .before .loop .j) (sym (c .before .before .has .ensures) ∙ c .before .if1 .taken)) ∙ length-digits 1 (c .before .before .before .before .loop .j) in
+    let b = ap length (starts-bytes (a .set .bits)) ∙ length-starts (a .set .bits) in
     let r = wrote-room (c .before .before .before .before .loop .inv) (c .before .before .before .loop-test .taken) (rw b (c .before .before .before .before .before .before .pre)) in
     mid-room (c .before .before .before .before .loop .at) (c .before .before .before .before .loop .out) 1 (rw e at r)
 
 add-at : tie.Need-add-at Inv-loop μ-loop
-add-at c = let e : length (startItem (c .before .before .before .before .before .before .before .before .before .args .set .bits) (c .before .before .before .before .before .before .before .loop .j)) ≡ 1 = ap length (start-in (c .before .before .before .before .before .before .before .before .before .args .set .bits) (c .before .before .before .before .before .before .before .loop .j) (sym (c .before .before .before .before .before .has .ensures) ∙ c .before .before .before .before .if1 .taken)) ∙ length-digits 1 (c .before .before .before .before .before .before .before .loop .j) in
-    let b = ap length (starts-bytes (c .before .before .before .before .before .before .before .before .before .args .set .bits)) ∙ length-starts (c .before .before .before .before .before .before .before .before .before .args .set .bits) in
+add-at c = let a = c .before .before .before .before .before .before .before .before .before .args in
+    let e : length (startItem (a .set .bits) (c .before .before .before .before .before .before .before .loop .j)) ≡ 1 = ap length (start-in (a .set .bits) (c .before .before .before .before .before .before .before .loop .j) (sym (c .before .before .before .before .before .has .ensures) ∙ c .before .before .before .before .if1 .taken)) ∙ length-digits 1 (c .before .before .before .before .before .before .before .loop .j) in
+    let b = ap length (starts-bytes (a .set .bits)) ∙ length-starts (a .set .bits) in
     let r = wrote-room (c .before .before .before .before .before .before .before .loop .inv) (c .before .before .before .before .before .before .loop-test .taken) (rw b (c .before .before .before .before .before .before .before .before .before .pre)) in
     omega (arith, c .before .before .before .before .before .before .before .before .before .good)
 
