@@ -1,7 +1,8 @@
 use mathlib.Core.Path.{_≡_}
-use Prim.Native.Nat.{_-_, _+_}
+use Prim.Native.Nat.{_+_, _-_, _≤_}
 use denote.Ref.{now}
 use native.Mathlib.Omega.{arith}
+use lib.ListN.{length}
 use borrow.Author.Needs.{needs}
 use Rattle.writer.specs.Parts.{testLists}
 use Rattle.writer.specs.Bytes.{testAt, testsBytes}
@@ -20,11 +21,14 @@ abbrev μ-loop : tie.MeasureT-loop
 loop-holds : tie.Need-loop-holds Inv-loop μ-loop
 loop-holds c = (omega arith, wrote-first _ _ _)
 
+room : (c : tie.In-loop Inv-loop μ-loop) → c .before .loop .at + 4 ≤ length (c .before .loop .out)
+room c = even-room _ 4 (λ t. length-testAt _ _) _ (c .before .loop .inv .1) (c .loop-test .taken) (c .before .before .before .before .before .before .pre .3)
+
 sub-put-test : tie.Need-sub-put-test Inv-loop μ-loop
-sub-put-test c = let r = even-room _ 4 (λ t. length-testAt _ _) _ (c .before .loop .inv .1) (c .loop-test .taken) (c .before .before .before .before .before .before .pre .3) in omega arith
+sub-put-test c = omega (arith, room c)
 
 part-put-test-start : tie.Need-part-put-test-start Inv-loop μ-loop
-part-put-test-start c = let r = even-room _ 4 (λ t. length-testAt _ _) _ (c .before .loop .inv .1) (c .loop-test .taken) (c .before .before .before .before .before .before .pre .3) in omega arith
+part-put-test-start c = omega (arith, room c)
 
 part-put-test-end : tie.Need-part-put-test-end Inv-loop μ-loop
 part-put-test-end c = search needs
@@ -42,10 +46,10 @@ shared-slice-read-put-test-3 : tie.Need-shared-slice-read-put-test-3 Inv-loop μ
 shared-slice-read-put-test-3 c = search needs
 
 put-test-requires : tie.Need-put-test-requires Inv-loop μ-loop
-put-test-requires c κs = let r = even-room _ 4 (λ t. length-testAt _ _) _ (c .before .before .before .before .before .loop .inv .1) (c .before .before .before .before .loop-test .taken) (c .before .before .before .before .before .before .before .before .before .before .pre .3) in mid-room (c .before .before .before .before .before .loop .at) (c .before .before .before .before .before .loop .out) 4 r
+put-test-requires c κs = mid-room (c .before .before .before .before .before .loop .at) (c .before .before .before .before .before .loop .out) 4 (room (c .before .before .before .before))
 
 add-at : tie.Need-add-at Inv-loop μ-loop
-add-at c = let r = even-room _ 4 (λ t. length-testAt _ _) _ (c .before .before .before .before .before .before .before .before .loop .inv .1) (c .before .before .before .before .before .before .before .loop-test .taken) (c .before .before .before .before .before .before .before .before .before .before .before .before .before .pre .3) in omega (arith, c .before .before .before .before .before .before .before .before .before .before .before .before .before .good)
+add-at c = omega (arith, room (c .before .before .before .before .before .before .before), c .before .before .before .before .before .before .before .before .before .before .before .before .before .good)
 
 add-here : tie.Need-add-here Inv-loop μ-loop
 add-here c = search needs
