@@ -9,3 +9,12 @@ pub mod Settled
 pub mod LivePaths
 pub mod Forward
 pub mod Judgement
+pub mod FirstFit
+pub mod NumberAt
+pub mod Joined
+pub mod LinkFlow
+pub mod Families
+pub mod FamilyList
+pub mod PairNumbers
+pub mod PlacedOnce
+pub mod BoardPlan
