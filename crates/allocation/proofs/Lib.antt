@@ -1,0 +1,2 @@
+pub mod CodePairs
+pub mod Labels
