@@ -11,10 +11,12 @@ use native.Mathlib.Omega.{arith}
 use lib.ListN.{length, getD, set, length-set, getElem?}
 use lib.Seq.{getD-set-same, getD-set-other}
 use Rattle.lists.proofs.Bools.{lt-or-le}
+use Rattle.lists.proofs.Elements.{Element}
 use Rattle.timer_set.specs.Members.{member}
 use Rattle.model.specs.Family.{Link, Pairs, isPair, Linked, Joined}
 use Rattle.model.proofs.Joined.{WellFormed, joined-one, joined-trans, linked-sym}
-use Rattle.allocation.specs.Labels.{total, joinAt, JoinedLabels, LabelOf, Sound, Passed}
+use Rattle.allocation.specs.Labels.{total, joinAt, LabelOf, Sound, Joins, Passed}
+use Rattle.allocation.specs.Labels.Joins.{none, more}
 
 -- ---- a list that is nowhere higher is equal or has a smaller total
 
@@ -57,7 +59,7 @@ module _ (l : List ℕ) (a b m : ℕ) (ha : a < length l) (hb : b < length l) wh
       go (no na) (no nb) = rw (getD-set-other (set l a m) b x m 0 nb ∙ getD-set-other l a x m 0 na) (rest x)
 
 module _ (l : List ℕ) (a b : ℕ) (ha : a < length l) (hb : b < length l) where
-  join-less : (getD l a 0 ≡ getD l b 0 → ⊥) → total (joinAt l a b) < total l
+  pub join-less : (getD l a 0 ≡ getD l b 0 → ⊥) → total (joinAt l a b) < total l
   unfolding joinAt
   join-less ne = go (less _ l (simp length-set) (two l a b m ha hb (λ x v. v ≤ getD l x 0) (omega arith) (omega arith) (λ x. le-refl _)))
     where
@@ -117,47 +119,37 @@ module _ {p : Pairs} (formed : WellFormed p) where
             let n = same-place y j x i (pair-place y j k .0) (pair-place x i h .0) e in
             subst (λ (z : ℕ). LabelOf p z i m) (n .0) (subst (λ (z : ℕ). LabelOf p y z m) (n .1) lab)
 
-    pub join-passed : (before after : List ℕ) (r : Bool) → Sound p before → JoinedLabels before (64 * q + j) (64 * s + j) after r
-        → Passed p (λ l. getD l (64 * q + j) 0 ≡ getD l (64 * s + j) 0) before after r
-    join-passed before after false so e = record {
-      sound = subst (Sound p) (sym (e .equal refl .1)) so;
-      same = λ _. e .equal refl .1;
-      seen = λ _. rw (e .equal refl .1) (e .equal refl .0);
-      falls = λ t. absurd (true≢false (sym t));
-    }
-    join-passed before after true so e = record {
-      sound = subst (Sound p) (sym (e .differ refl .1)) (join-sound before so);
-      same = λ t. absurd (true≢false t);
-      seen = λ t. absurd (true≢false t);
-      falls = λ _. rw (e .differ refl .1) (join-less before (64 * q + j) (64 * s + j)
-          (omega (arith, so .long, pair-place q j pair .1)) (omega (arith, so .long, pair-place s j pair′ .1)) (e .differ refl .0));
-    }
+  pub joins-sound : (k : Link) → Element (p .links) k → {l m : List ℕ} → Joins (k .one) (k .other) (k .timers) l m → Sound p l → Sound p m
+  joins-sound k e none so = so
+  joins-sound k e (more {m} j h js) so =
+      let w = formed .link (e .place) k (e .is-nth) in
+      join-sound (record { number = e .place; link = k; is-nth = e .is-nth; holds = h; ends = inl (refl, refl) })
+      (w .pair-one j h) (w .pair-other j h) m (joins-sound k e js so)
 
 -- ---- one pass after another
 
-module _ {p : Pairs} where
-  pub passed-none : {Seen : List ℕ → Type 0} {labels : List ℕ} → Sound p labels → Seen labels → Passed p Seen labels labels false
-  passed-none so h = record { sound = so; same = λ _. refl; seen = λ _. h; falls = λ t. absurd (true≢false (sym t)) }
+module _ {Kept Seen : List ℕ → Type 0} where
+  pub passed-none : (labels : List ℕ) → Kept labels → Seen labels → Passed Kept Seen labels labels false
+  passed-none labels so h = record { kept = so; same = λ _. refl; seen = λ _. h; falls = λ t. absurd (true≢false (sym t)) }
 
-  pub passed-fell : {D E F : List ℕ → Type 0} {l m n : List ℕ} {a b : Bool} → Passed p D l m a → Passed p E m n b → b ≡ true → Passed p F l n true
-  passed-fell {D} {E} {F} {l} {m} {n} {a} {b} x y t = record {
-    sound = y .sound;
+  -- a label fell
+  pub passed-fell : (D K : List ℕ → Type 0) {l m n : List ℕ} {a : Bool} → Passed K D l m a → total n < total m → Kept n → Passed Kept Seen l n true
+  passed-fell D K {l} {m} {n} {a} x less k = record {
+    kept = k;
     same = λ t. absurd (true≢false t);
     seen = λ t. absurd (true≢false t);
     falls = λ _. go a refl;
   }
     where
       go : (c : Bool) → a ≡ c → total n < total l
-      go true e = omega (arith, y .falls t, x .falls e)
-      go false e = omega (arith, y .falls t, ap total (x .same e))
+      go true e = omega (arith, less, x .falls e)
+      go false e = omega (arith, less, ap total (x .same e))
 
-  pub passed-kept : {D E F : List ℕ → Type 0} {l m n : List ℕ} {a b : Bool} → Passed p D l m a → Passed p E m n b → b ≡ false → (D n → E n → F n) → Passed p F l n a
-  passed-kept {D} {E} {F} {l} {m} {n} {a} {b} x y t more = record {
-    sound = y .sound;
-    same = λ e. y .same t ∙ x .same e;
-    seen = λ e. more (subst D (sym (y .same t)) (x .seen e)) (y .seen t);
-    falls = λ e. rw (y .same t) (x .falls e);
+  -- no label fell, and more was looked at
+  pub passed-kept : (D K : List ℕ → Type 0) {l m n : List ℕ} {a : Bool} → Passed K D l m a → n ≡ m → (K m → Kept m) → (D m → Seen m) → Passed Kept Seen l n a
+  passed-kept D K {l} {m} {n} x e k wider = record {
+    kept = subst Kept (sym e) (k (x .kept));
+    same = λ t. e ∙ x .same t;
+    seen = λ t. subst Seen (sym e) (wider (x .seen t));
+    falls = λ t. rw e (x .falls t);
   }
-
-  pub passed-more : {D E : List ℕ → Type 0} {l m : List ℕ} {a : Bool} → Passed p D l m a → (D m → E m) → Passed p E l m a
-  passed-more x more = record { sound = x .sound; same = x .same; seen = λ e. more (x .seen e); falls = x .falls }

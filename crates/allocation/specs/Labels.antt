@@ -30,20 +30,25 @@ pub record Sound (p : Pairs) (labels : List ℕ) : Type 0 where
   pub long : length labels ≡ 64 * p .locations
   pub each : (q j : ℕ) → isPair p q j ≡ true → LabelOf p q j (getD labels (64 * q + j) 0)
 
--- the labels after some joins along links: changed says whether they fell, and if not, what was looked at holds
-pub record Passed (p : Pairs) (Seen : List ℕ → Type 0) (before after : List ℕ) (changed : Bool) : Type 0 where
-  pub sound : Sound p after
+-- m comes from l by joins along the link between one and other, for timers of the set
+pub data Joins (one other set : ℕ) (l : List ℕ) : List ℕ → Type 0 where
+  none : Joins one other set l l
+  more : {m : List ℕ} (j : ℕ) → member set j ≡ true → Joins one other set l m → Joins one other set l (joinAt m (64 * one + j) (64 * other + j))
+
+-- the labels after some joins: changed says whether they fell, and if not, what was looked at holds
+pub record Passed (Kept Seen : List ℕ → Type 0) (before after : List ℕ) (changed : Bool) : Type 0 where
+  pub kept : Kept after
   pub same : changed ≡ false → after ≡ before
   pub seen : changed ≡ false → Seen after
   pub falls : changed ≡ true → total after < total before
 
--- the labels at both ends of the link are equal, for its timers below the limit
-unfoldable pub Agree : Link → (limit : ℕ) → List ℕ → Type 0
-Agree k limit l = (j : ℕ) → j < limit → member (k .timers) j ≡ true → getD l (64 * k .one + j) 0 ≡ getD l (64 * k .other + j) 0
+-- the labels of the set's timers below the limit are equal at both ends of the link
+unfoldable pub Agree : (one other set limit : ℕ) → List ℕ → Type 0
+Agree one other set limit l = (j : ℕ) → j < limit → member set j ≡ true → getD l (64 * one + j) 0 ≡ getD l (64 * other + j) 0
 
 -- the same of the links below a number
 unfoldable pub AllAgree : (ℕ → Link) → (timers count : ℕ) → List ℕ → Type 0
-AllAgree link timers count l = (i : ℕ) → i < count → Agree (link i) timers l
+AllAgree link timers count l = (i : ℕ) → i < count → Agree (link i .one) (link i .other) (link i .timers) timers l
 
 -- each pair has the lowest location of its family
 pub record Labelled (p : Pairs) (labels : List ℕ) : Type 0 where

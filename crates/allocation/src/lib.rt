@@ -8,7 +8,7 @@ ghost use Rattle.lists.specs.Lists.{lowest};
 ghost use Rattle.timer_set.specs.Members.{member, common, minus};
 ghost use Rattle.model.specs.FirstFit.{firstFit, place, usedBy};
 ghost use Rattle.allocation.specs.Cells.{linkAt, pairsOf, Matching, cells, noNumber};
-ghost use Rattle.allocation.specs.Labels.{JoinedLabels, Sound, Passed, Agree, AllAgree, Labelled};
+ghost use Rattle.allocation.specs.Labels.{JoinedLabels, Sound, Joins, Passed, Agree, AllAgree, Labelled};
 ghost use Rattle.allocation.specs.Numbering.{inFamily, inRow, taken, given, familiesTo};
 use timer_set::TimerSet;
 
@@ -63,24 +63,21 @@ fn join_labels(labels: &mut [u16], a: usize, b: usize) -> bool
     true
 }
 
-// Joins the labels at both ends of transition i, for each timer of its link. Whether a label fell.
-fn join_link<'a>(sources: &'a [u16], targets: &'a [u16], starts: &'a [u64], live: &'a [u64], timers: u8, i: usize, labels: &mut [u16]) -> bool
-    requires { ⌜ Matching (now sources) (now targets) (now starts) (now live) timers × (i < length (now sources)) × Sound (pairsOf (now sources) (now targets) (now starts) (now live) timers) (now labels) ⌝ }
-    ensures { λ r. ⌜ Passed (pairsOf (now (sources .entry)) (now (targets .entry)) (now (starts .entry)) (now (live .entry)) timers) (Agree (linkAt (now (sources .entry)) (now (targets .entry)) (now (starts .entry)) (now (live .entry)) i) timers) (now (labels .entry)) (now (labels .exit)) r ⌝ }
+// Joins the labels at both ends of a link, for each of its timers. Whether a label fell.
+fn join_link(labels: &mut [u16], one: usize, other: usize, linked: TimerSet, timers: u8) -> bool
+    requires { ⌜ (timers ≤ 64) × (one < 256) × (other < 256) × (64 * one + 64 ≤ length (now labels)) × (64 * other + 64 ≤ length (now labels)) ⌝ }
+    ensures { λ r. ⌜ Passed (Joins one other (linked .bits) (now (labels .entry))) (Agree one other (linked .bits) timers) (now (labels .entry)) (now (labels .exit)) r ⌝ }
 {
-    let s = sources[i] as usize;
-    let t = targets[i] as usize;
-    let linked = linked_timers(live[s], live[t], starts[i]);
+    let mut changed = false;
     if linked.is_empty() {
         return false;
     }
-    let mut changed = false;
     let mut j: u8 = 0;
     while j < timers {
         let here = j;
         j += 1;
         if linked.has(here) {
-            if join_labels(labels, 64 * s + here as usize, 64 * t + here as usize) {
+            if join_labels(labels, 64 * one + here as usize, 64 * other + here as usize) {
                 changed = true;
             }
         }
@@ -91,14 +88,16 @@ fn join_link<'a>(sources: &'a [u16], targets: &'a [u16], starts: &'a [u64], live
 // One sweep over all transitions. Whether a label fell.
 fn sweep<'a>(sources: &'a [u16], targets: &'a [u16], starts: &'a [u64], live: &'a [u64], timers: u8, labels: &mut [u16]) -> bool
     requires { ⌜ Matching (now sources) (now targets) (now starts) (now live) timers × Sound (pairsOf (now sources) (now targets) (now starts) (now live) timers) (now labels) ⌝ }
-    ensures { λ r. ⌜ Passed (pairsOf (now (sources .entry)) (now (targets .entry)) (now (starts .entry)) (now (live .entry)) timers) (AllAgree (linkAt (now (sources .entry)) (now (targets .entry)) (now (starts .entry)) (now (live .entry))) timers (length (now (sources .entry)))) (now (labels .entry)) (now (labels .exit)) r ⌝ }
+    ensures { λ r. ⌜ Passed (Sound (pairsOf (now (sources .entry)) (now (targets .entry)) (now (starts .entry)) (now (live .entry)) timers)) (AllAgree (linkAt (now (sources .entry)) (now (targets .entry)) (now (starts .entry)) (now (live .entry))) timers (length (now (sources .entry)))) (now (labels .entry)) (now (labels .exit)) r ⌝ }
 {
     let mut changed = false;
     let mut i: usize = 0;
     while i < sources.len() {
-        let here = i;
+        let s = sources[i] as usize;
+        let t = targets[i] as usize;
+        let linked = linked_timers(live[s], live[t], starts[i]);
         i += 1;
-        if join_link(sources, targets, starts, live, timers, here, labels) {
+        if join_link(labels, s, t, linked, timers) {
             changed = true;
         }
     }

@@ -1,49 +1,48 @@
+-- `begin` meets its contract: the labels below x are written. Assumes nothing.
+use borrow.Author.Needs.{needs}
+use mathlib.Core.Path.{_≡_, refl}
+use Prim.Native.Nat.{ℕ, _-_, _/_, _≤_, _<_}
+use native.Mathlib.Omega.{arith}
+use lib.ListN.{length, getD, length-set}
+use Rattle.allocation.proofs.Filling.{filled-more}
 use Rattle.allocation.proofs.begin.Statement.{statement}
 use Rattle.allocation.proofs.begin.Tie as tie
 use Rattle.allocation.proofs.begin.Reads as reads
 use Rattle.allocation.proofs.begin.Lts as lts
 
 abbrev Inv-loop : tie.InvT-loop
-Inv-loop labels₀ x₀ labels x = ?
+Inv-loop labels₀ x₀ labels x =
+    (x ≤ length labels) × (length labels ≡ length labels₀) × (length labels₀ ≤ 16384) × ((k : ℕ) → k < x → getD labels k 0 ≡ k / 64)
 
 abbrev μ-loop : tie.MeasureT-loop
-μ-loop labels₀ x₀ labels x = ?
+μ-loop labels₀ x₀ labels x = length labels₀ - x
 
--- src/lib.rt:44:5
 loop-holds : tie.Need-loop-holds Inv-loop μ-loop
-loop-holds c = ?
+loop-holds c = (omega arith, refl, c .pre, λ k h. absurd (omega arith))
 
--- src/lib.rt:45:21
 cast-labels : tie.Need-cast-labels Inv-loop μ-loop
-cast-labels c = ?
+cast-labels c = search needs
 
--- src/lib.rt:45:9
 mul-labels : tie.Need-mul-labels Inv-loop μ-loop
-mul-labels c = ?
+mul-labels c = search needs
 
--- src/lib.rt:45:9
 slice-write-labels : tie.Need-slice-write-labels Inv-loop μ-loop
-slice-write-labels c = ?
+slice-write-labels c = search needs
 
--- src/lib.rt:46:9
 add-x : tie.Need-add-x Inv-loop μ-loop
-add-x c = ?
+add-x c = search needs
 
--- src/lib.rt:44:5
 loop-less : tie.Need-loop-less Inv-loop μ-loop
-loop-less c = ?
+loop-less c = search needs
 
--- src/lib.rt:44:5
 loop-again : tie.Need-loop-again Inv-loop μ-loop
-loop-again c = ?
+loop-again c = let l = c .before .loop in (simp length-set (omega arith), simp length-set (l .inv .1), l .inv .2, filled-more (λ k. k / 64) (l .labels) (l .x) (c .loop-test .taken) (l .inv .3))
 
--- src/lib.rt:39:1
 same-length : tie.Need-same-length Inv-loop μ-loop
-same-length c = ?
+same-length c = c .before .loop .inv .1
 
--- src/lib.rt:39:1
 returns : tie.Need-returns Inv-loop μ-loop
-returns c = ?
+returns c = λ x h. c .before .loop .inv .3 x (omega arith)
 
 pub begin-spec : {M : Type 1} → statement M
 begin-spec =

@@ -1,3 +1,11 @@
+-- `give` meets its contract: the rows below s are done. Assumes nothing.
+use borrow.Author.Needs.{needs}
+use Prim.Native.Nat.{_*_, _-_, _≤_, _<_}
+use mathlib.Core.Path.{_≡_, refl, sym, _∙_}
+use native.Mathlib.Omega.{arith}
+use lib.ListN.{length, length-set}
+use Rattle.allocation.specs.Numbering.{given}
+use Rattle.allocation.proofs.Filling.{Rows, give-no, give-yes}
 use Rattle.allocation.proofs.give.Statement.{statement}
 use Rattle.allocation.proofs.give.Tie as tie
 use Rattle.allocation.proofs.give.Reads as reads
@@ -5,62 +13,50 @@ use Rattle.allocation.proofs.give.Lts as lts
 use Rattle.allocation.proofs.in_family.Reads as in-family-reads
 
 abbrev Inv-loop : tie.InvT-loop
-Inv-loop labels live q j number numbers₀ s₀ numbers s = ?
+Inv-loop labels live q j number numbers₀ s₀ numbers s =
+    (s ≤ length live) × (length numbers ≡ length numbers₀) × Rows (given labels live q j number numbers₀) numbers₀ s numbers × ((j < 64) × (length live ≤ 256) × (length labels ≡ 64 * length live) × (length numbers₀ ≡ 64 * length live))
 
 abbrev μ-loop : tie.MeasureT-loop
-μ-loop labels live q j number numbers₀ s₀ numbers s = ?
+μ-loop labels live q j number numbers₀ s₀ numbers s = length live - s
 
--- src/lib.rt:187:5
 loop-holds : tie.Need-loop-holds Inv-loop μ-loop
-loop-holds c = ?
+loop-holds c = let s = c .before .before .before in (omega arith, refl, record { done = λ q i h. absurd (omega arith); left = λ q i h k. refl }, s .pre)
 
--- src/lib.rt:189:9
 add-s : tie.Need-add-s Inv-loop μ-loop
-add-s c = ?
+add-s c = search needs
 
--- src/lib.rt:190:12
 in-family-requires : tie.Need-in-family-requires Inv-loop μ-loop
-in-family-requires c κs = ?
+in-family-requires c κs = search needs
 
--- src/lib.rt:191:21
 mul-numbers : tie.Need-mul-numbers Inv-loop μ-loop
-mul-numbers c = ?
+mul-numbers c = search needs
 
--- src/lib.rt:191:21
 add-numbers : tie.Need-add-numbers Inv-loop μ-loop
-add-numbers c = ?
+add-numbers c = search needs
 
--- src/lib.rt:191:13
 mul-numbers-2 : tie.Need-mul-numbers-2 Inv-loop μ-loop
-mul-numbers-2 c = ?
+mul-numbers-2 c = search needs
 
--- src/lib.rt:191:13
 slice-write-numbers : tie.Need-slice-write-numbers Inv-loop μ-loop
-slice-write-numbers c = ?
+slice-write-numbers c = search needs
 
--- src/lib.rt:187:5
 loop-less : tie.Need-loop-less Inv-loop μ-loop
-loop-less c = ?
+loop-less c = search needs
 
--- src/lib.rt:187:5
 loop-again : tie.Need-loop-again Inv-loop μ-loop
-loop-again c = ?
+loop-again c = let l = c .before .before .before .loop in let a = c .before .before .before .before .before .before .before .args in (omega arith, simp length-set (l .inv .1), give-yes (a .labels .now) (a .live .now) (a .q) (a .j) (a .number) (a .numbers .now) (l .numbers) (l .s) (l .inv .2) (sym (c .before .in-family .ensures) ∙ c .if1 .taken) (l .inv .3 .0) (omega arith), l .inv .3)
 
--- src/lib.rt:187:5
 loop-less-2 : tie.Need-loop-less-2 Inv-loop μ-loop
-loop-less-2 c = ?
+loop-less-2 c = search needs
 
--- src/lib.rt:187:5
 loop-again-2 : tie.Need-loop-again-2 Inv-loop μ-loop
-loop-again-2 c = ?
+loop-again-2 c = let l = c .before .before .before .loop in let a = c .before .before .before .before .before .before .before .args in (omega arith, l .inv .1, give-no (a .labels .now) (a .live .now) (a .q) (a .j) (a .number) (a .numbers .now) (l .numbers) (l .s) (l .inv .2) (sym (c .before .in-family .ensures) ∙ c .if1 .left), l .inv .3)
 
--- src/lib.rt:182:1
 same-length : tie.Need-same-length Inv-loop μ-loop
-same-length c = ?
+same-length c = c .before .loop .inv .1
 
--- src/lib.rt:182:1
 returns : tie.Need-returns Inv-loop μ-loop
-returns c = ?
+returns c = λ s i h k. c .before .loop .inv .2 .done s i (omega arith) k
 
 pub give-spec : {M : Type 1} → statement M
 give-spec =

@@ -1,149 +1,86 @@
+-- `join_link` meets its contract: the timers below j are joined. Assumes nothing.
+use borrow.Author.Needs.{needs}
+use mathlib.Core.Path.{_≡_, refl, sym, _∙_, subst}
+use Prim.Native.Nat.{ℕ, _+_, _*_, _-_, _≤_, _<_}
+use native.Mathlib.Omega.{arith}
+use lib.ListN.{length}
+use Rattle.allocation.specs.Labels.{Joins, Passed, Agree}
+use borrow.Author.Tests.{eqb-true}
+use Rattle.allocation.proofs.Turns.{timers-none, timers-empty, timers-skip, timers-same, timers-fell}
 use Rattle.allocation.proofs.join_link.Statement.{statement}
 use Rattle.allocation.proofs.join_link.Tie as tie
 use Rattle.allocation.proofs.join_link.Reads as reads
 use Rattle.allocation.proofs.join_link.Lts as lts
 use Rattle.allocation.proofs.join_labels.Reads as join-labels-reads
-use Rattle.allocation.proofs.linked_timers.Reads as linked-timers-reads
 use Rattle.timer_set.proofs.TimerSet.has.Reads as has-reads
 use Rattle.timer_set.proofs.TimerSet.is_empty.Reads as is-empty-reads
 
 abbrev Inv-loop : tie.InvT-loop
-Inv-loop sources targets starts live timers i labels₀ s t linked changed₀ j₀ labels changed j = ?
+Inv-loop labels₀ one other linked timers changed₀ j₀ labels changed j =
+    (j ≤ timers) × (length labels ≡ length labels₀) × Passed (Joins one other (linked .bits) labels₀) (Agree one other (linked .bits) j) labels₀ labels changed × ((timers ≤ 64) × (one < 256) × (other < 256) × (64 * one + 64 ≤ length labels₀) × (64 * other + 64 ≤ length labels₀))
 
 abbrev μ-loop : tie.MeasureT-loop
-μ-loop sources targets starts live timers i labels₀ s t linked changed₀ j₀ labels changed j = ?
+μ-loop labels₀ one other linked timers changed₀ j₀ labels changed j = timers - j
 
--- src/lib.rt:71:13
-mul-s : tie.Need-mul-s Inv-loop μ-loop
-mul-s c = ?
-
--- src/lib.rt:71:13
-shared-slice-read-s : tie.Need-shared-slice-read-s Inv-loop μ-loop
-shared-slice-read-s c = ?
-
--- src/lib.rt:71:13
-cast-s : tie.Need-cast-s Inv-loop μ-loop
-cast-s c = ?
-
--- src/lib.rt:72:13
-mul-t : tie.Need-mul-t Inv-loop μ-loop
-mul-t c = ?
-
--- src/lib.rt:72:13
-shared-slice-read-t : tie.Need-shared-slice-read-t Inv-loop μ-loop
-shared-slice-read-t c = ?
-
--- src/lib.rt:72:13
-cast-t : tie.Need-cast-t Inv-loop μ-loop
-cast-t c = ?
-
--- src/lib.rt:73:32
-mul-linked-timers : tie.Need-mul-linked-timers Inv-loop μ-loop
-mul-linked-timers c = ?
-
--- src/lib.rt:73:32
-shared-slice-read-linked-timers : tie.Need-shared-slice-read-linked-timers Inv-loop μ-loop
-shared-slice-read-linked-timers c = ?
-
--- src/lib.rt:73:41
-mul-linked-timers-2 : tie.Need-mul-linked-timers-2 Inv-loop μ-loop
-mul-linked-timers-2 c = ?
-
--- src/lib.rt:73:41
-shared-slice-read-linked-timers-2 : tie.Need-shared-slice-read-linked-timers-2 Inv-loop μ-loop
-shared-slice-read-linked-timers-2 c = ?
-
--- src/lib.rt:73:50
-mul-linked-timers-3 : tie.Need-mul-linked-timers-3 Inv-loop μ-loop
-mul-linked-timers-3 c = ?
-
--- src/lib.rt:73:50
-shared-slice-read-linked-timers-3 : tie.Need-shared-slice-read-linked-timers-3 Inv-loop μ-loop
-shared-slice-read-linked-timers-3 c = ?
-
--- src/lib.rt:73:9
-linked-timers-requires : tie.Need-linked-timers-requires Inv-loop μ-loop
-linked-timers-requires c κs = ?
-
--- src/lib.rt:74:8
 is-empty-requires : tie.Need-is-empty-requires Inv-loop μ-loop
-is-empty-requires c κs = ?
+is-empty-requires c κs = search needs
 
--- src/lib.rt:75:9
 returns : tie.Need-returns Inv-loop μ-loop
-returns c = ?
+returns c = let a = c .before .before .before .args in timers-empty (a .one) (a .other) (a .linked .bits) (a .labels .now) (a .timers) (eqb-true _ 0 (sym (c .before .is-empty .ensures) ∙ c .if1 .taken))
 
--- src/lib.rt:79:5
 loop-holds : tie.Need-loop-holds Inv-loop μ-loop
-loop-holds c = ?
+loop-holds c = let s = c .before .before .before in let a = s .args in (omega arith, refl, timers-none (a .one) (a .other) (a .linked .bits) (a .labels .now), s .pre)
 
--- src/lib.rt:81:9
 add-j : tie.Need-add-j Inv-loop μ-loop
-add-j c = ?
+add-j c = search needs
 
--- src/lib.rt:82:12
 has-requires : tie.Need-has-requires Inv-loop μ-loop
-has-requires c κs = ?
+has-requires c κs = search needs
 
--- src/lib.rt:83:36
 mul-join-labels : tie.Need-mul-join-labels Inv-loop μ-loop
-mul-join-labels c = ?
+mul-join-labels c = search needs
 
--- src/lib.rt:83:45
 cast-join-labels : tie.Need-cast-join-labels Inv-loop μ-loop
-cast-join-labels c = ?
+cast-join-labels c = search needs
 
--- src/lib.rt:83:36
 add-join-labels : tie.Need-add-join-labels Inv-loop μ-loop
-add-join-labels c = ?
+add-join-labels c = search needs
 
--- src/lib.rt:83:60
 mul-join-labels-2 : tie.Need-mul-join-labels-2 Inv-loop μ-loop
-mul-join-labels-2 c = ?
+mul-join-labels-2 c = search needs
 
--- src/lib.rt:83:69
 cast-join-labels-2 : tie.Need-cast-join-labels-2 Inv-loop μ-loop
-cast-join-labels-2 c = ?
+cast-join-labels-2 c = search needs
 
--- src/lib.rt:83:60
 add-join-labels-2 : tie.Need-add-join-labels-2 Inv-loop μ-loop
-add-join-labels-2 c = ?
+add-join-labels-2 c = search needs
 
--- src/lib.rt:83:16
 join-labels-requires : tie.Need-join-labels-requires Inv-loop μ-loop
-join-labels-requires c κs = ?
+join-labels-requires c κs = search needs
 
--- src/lib.rt:79:5
 loop-less : tie.Need-loop-less Inv-loop μ-loop
-loop-less c = ?
+loop-less c = search needs
 
--- src/lib.rt:79:5
 loop-again : tie.Need-loop-again Inv-loop μ-loop
-loop-again c = ?
+loop-again c = let l = c .before .before .before .before .before .before .before .before .loop in let a = c .before .before .before .before .before .before .before .before .before .before .before .before .args in let x = c .before .before .before .join-labels in (omega arith, x .kept .0 ∙ l .inv .1, timers-fell (a .one) (a .other) (a .linked .bits) (a .labels .now) (l .labels) (l .changed) (l .j) (l .inv .2) (x .last .0) (x .result) (x .ensures) (c .if3 .taken) (sym (c .before .before .before .before .before .before .has .ensures) ∙ c .before .before .before .before .before .if2 .taken) (omega (arith, l .inv, c .before .before .before .before .before .before .before .loop-test .taken)) (omega (arith, l .inv, c .before .before .before .before .before .before .before .loop-test .taken)), l .inv .3)
 
--- src/lib.rt:79:5
 loop-less-2 : tie.Need-loop-less-2 Inv-loop μ-loop
-loop-less-2 c = ?
+loop-less-2 c = search needs
 
--- src/lib.rt:79:5
 loop-again-2 : tie.Need-loop-again-2 Inv-loop μ-loop
-loop-again-2 c = ?
+loop-again-2 c = let l = c .before .before .before .before .before .before .before .before .loop in let a = c .before .before .before .before .before .before .before .before .before .before .before .before .args in let x = c .before .before .before .join-labels in (omega arith, x .kept .0 ∙ l .inv .1, timers-same (a .one) (a .other) (a .linked .bits) (a .labels .now) (l .labels) (l .changed) (l .j) (l .inv .2) (x .last .0) (x .result) (x .ensures) (c .if3 .left), l .inv .3)
 
--- src/lib.rt:79:5
 loop-less-3 : tie.Need-loop-less-3 Inv-loop μ-loop
-loop-less-3 c = ?
+loop-less-3 c = search needs
 
--- src/lib.rt:79:5
 loop-again-3 : tie.Need-loop-again-3 Inv-loop μ-loop
-loop-again-3 c = ?
+loop-again-3 c = let l = c .before .before .before .loop in let a = c .before .before .before .before .before .before .before .args in (omega arith, l .inv .1, timers-skip (a .one) (a .other) (a .linked .bits) (a .labels .now) (l .labels) (l .changed) (l .j) (l .inv .2) (sym (c .before .has .ensures) ∙ c .if2 .left), l .inv .3)
 
--- src/lib.rt:67:1
 same-length : tie.Need-same-length Inv-loop μ-loop
-same-length c = ?
+same-length c = c .before .loop .inv .1
 
--- src/lib.rt:67:1
 returns-2 : tie.Need-returns-2 Inv-loop μ-loop
-returns-2 c = ?
+returns-2 c = let l = c .before .loop in let a = c .before .before .before .before .before .args in let e : l .j ≡ a .timers = omega arith in subst (λ (j : ℕ). Passed (Joins (a .one) (a .other) (a .linked .bits) (a .labels .now)) (Agree (a .one) (a .other) (a .linked .bits) j) (a .labels .now) (l .labels) (l .changed)) e (l .inv .2)
 
 pub join-link-spec : {M : Type 1} → statement M
 join-link-spec =
@@ -151,19 +88,6 @@ join-link-spec =
     (tie.spec
     Inv-loop
     μ-loop
-    mul-s
-    shared-slice-read-s
-    cast-s
-    mul-t
-    shared-slice-read-t
-    cast-t
-    mul-linked-timers
-    shared-slice-read-linked-timers
-    mul-linked-timers-2
-    shared-slice-read-linked-timers-2
-    mul-linked-timers-3
-    shared-slice-read-linked-timers-3
-    linked-timers-requires
     is-empty-requires
     returns
     loop-holds
