@@ -3,3 +3,5 @@ pub mod Labels
 pub mod Turns
 pub mod Filling
 pub mod Rows
+pub mod CellList
+pub mod Placing
