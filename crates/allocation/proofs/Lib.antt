@@ -5,3 +5,5 @@ pub mod Filling
 pub mod Rows
 pub mod CellList
 pub mod Placing
+pub mod Flatten
+pub mod LabelFamilies

@@ -35,6 +35,13 @@ fn larger(x: u32, y: u32) -> u32
     if x < y { y } else { x }
 }
 
+// Room for the labels of all pairs.
+fn room() -> [u16; 16384]
+    ensures { λ r. ⌜ length r ≡ 16384 ⌝ }
+{
+    [0; 16384]
+}
+
 // Each pair's label is its own location.
 fn begin(labels: &mut [u16])
     requires { ⌜ length (now labels) ≤ 16384 ⌝ }
@@ -231,7 +238,7 @@ pub fn allocate<'a>(sources: &'a [u16], targets: &'a [u16], starts: &'a [u64], l
     ensures cells { λ _. ⌜ now (numbers .exit) ≡ cells (firstFit (pairsOf (now (sources .entry)) (now (targets .entry)) (now (starts .entry)) (now (live .entry)) timers)) (length (now (live .entry))) ⌝ }
     ensures used { λ r. ⌜ r ≡ usedBy (firstFit (pairsOf (now (sources .entry)) (now (targets .entry)) (now (starts .entry)) (now (live .entry)) timers)) ⌝ }
 {
-    let mut labels = [0u16; 16384];
+    let mut labels = room();
     let count = 64 * live.len();
     label_families(sources, targets, starts, live, timers, &mut labels[..count]);
     number_families(&labels[..count], live, numbers)
