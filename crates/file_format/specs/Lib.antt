@@ -1,3 +1,5 @@
 pub mod Parse
 pub mod Body
 pub mod File
+pub mod Lengths
+pub mod Refusals

@@ -18,3 +18,15 @@ pub mod FamilyList
 pub mod PairNumbers
 pub mod PlacedOnce
 pub mod BoardPlan
+pub mod Answers
+pub mod Steps
+pub mod Rewritten
+pub mod Agree
+pub mod EqualRuns
+pub mod RewrittenPaths
+pub mod RewrittenValid
+pub mod PlayerNumbers
+pub mod PlayerLaws
+pub mod PlayerAnswer
+pub mod RewritingAlike
+pub mod EqualAnswers
