@@ -7,3 +7,4 @@ pub mod CellList
 pub mod Placing
 pub mod Flatten
 pub mod LabelFamilies
+pub mod ChartPairs
