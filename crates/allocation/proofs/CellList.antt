@@ -59,9 +59,9 @@ module _ (ps : List Placed) (n : ℕ) where
   pub cells-is : (l : List ℕ) → length l ≡ 64 * n → ((s i : ℕ) → s < n → i < 64 → getD l (64 * s + i) 0 ≡ cell (numberAt ps s i)) → l ≡ cells ps n
   cells-is l long at = ext-getD 0 l (cells ps n) (long ∙ sym cells-length)
       (λ x h.
-          let e : 64 * (x / 64) + x % 64 ≡ x = omega arith in
-          subst (λ (y : ℕ). getD l y 0 ≡ getD (cells ps n) y 0) e
-          (at (x / 64) (x % 64) (omega arith) (omega arith) ∙ sym (cells-at (x / 64) (x % 64) (omega arith) (omega arith))))
+      let e : 64 * (x / 64) + x % 64 ≡ x = omega arith in
+      subst (λ (y : ℕ). getD l y 0 ≡ getD (cells ps n) y 0) e
+      (at (x / 64) (x % 64) (omega arith) (omega arith) ∙ sym (cells-at (x / 64) (x % 64) (omega arith) (omega arith))))
 
 pub cell-some : (o : Option ℕ) (k : ℕ) → k < 65535 → cell o ≡ k → o ≡ some k
 cell-some none k h e = absurd (omega arith)

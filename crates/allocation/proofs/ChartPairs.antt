@@ -1,21 +1,20 @@
 -- The pairs that the lists of a chart describe are the chart's live pairs, and these lists match. Assumes nothing.
-use mathlib.Core.Path.{_≡_, refl, sym, ap, _∙_, subst}
-use mathlib.Core.Bool.{true}
+use mathlib.Core.Path.{_≡_, sym, _∙_, subst}
 use mathlib.Core.Option.{some, Option·some-injective, Option·none-ne-some}
 use mathlib.Core.List.{List, [], _∷_, map}
 use Prim.Native.Nat.{ℕ, zero, suc, _^_, _<_}
 use native.Mathlib.Omega.{arith}
 use lib.ListN.{length, getD, getElem?, length-map}
 use lib.Seq.{ext-getD}
-use Rattle.lists.specs.Lists.{memb, upTo}
+use Rattle.lists.specs.Lists.{upTo}
 use Rattle.lists.proofs.Gather.{length-upTo, getD-upTo}
 use Rattle.lists.proofs.Membership.{nth-map}
-use Rattle.timer_set.specs.Members.{member, common, minus, members, setOf}
+use Rattle.timer_set.specs.Members.{common, minus, members}
 use Rattle.timer_set.proofs.Members.{memb-members, setOf-members, setOf-lt}
 use Rattle.model.specs.Chart.{Transition, Chart}
 use Rattle.model.specs.Valid.{Valid, ValidTransition}
 use Rattle.model.specs.Live.{startsSet, liveFlow, liveSets, live}
-use Rattle.model.specs.Family.{Link, livePairs}
+use Rattle.model.specs.Family.{livePairs}
 use Rattle.model.proofs.Transitions.{nth-below, all-nth}
 use Rattle.model.proofs.Settled.{length-settled, settled-words}
 use Rattle.model.proofs.Paths.{live-inside}

@@ -1,13 +1,13 @@
 -- The families by labels are the families of the pairs, if the labels are the lowest locations. Assumes nothing.
-use mathlib.Core.Path.{_≡_, refl, sym, ap, _∙_, subst}
-use mathlib.Core.Bool.{Bool, true, false, _&&_}
+use mathlib.Core.Path.{_≡_, refl, sym, ap, _∙_}
+use mathlib.Core.Bool.{Bool, true, false}
 use mathlib.Core.List.{List, [], _∷_}
-use Prim.Native.Nat.{ℕ, _+_, _*_, _/_, _%_, _≤_, _<_}
+use Prim.Native.Nat.{ℕ, _*_, _/_, _%_, _≤_}
 use native.Mathlib.Omega.{arith}
 use lib.Dec.{eqb}
 use lib.ListN.{length, getD}
 use borrow.Author.Tests.{eq-eqb}
-use Rattle.lists.specs.Lists.{memb, gather}
+use Rattle.lists.specs.Lists.{gather}
 use Rattle.lists.proofs.Bools.{same-bool, same-number, not-both, is-no, and-left, and-right, and-both}
 use Rattle.lists.proofs.Gather.{pick-in, pick-out, pick-rising}
 use Rattle.lists.proofs.Rising.{rising-same}
@@ -44,11 +44,11 @@ module _ {sources targets starts live : List ℕ} {timers : ℕ} (fit : Matching
       same : familyBy labels live q j .locations ≡ familyOf p q j .locations
       same = rising-same (length live) (length live) 0 _ _ (pick-rising (inFamily labels live q j) (length live)) (family-rising (formed fit) q j pair) (λ s. same-bool _ _
           (λ m. let x = in-family-of q j s (pick-out (inFamily labels live q j) (length live) s m .1) in
-              family-has (formed fit) q j pair s .1 (same-first (formed fit) pair (x .0) (e ∙ sym (x .1))))
+          family-has (formed fit) q j pair s .1 (same-first (formed fit) pair (x .0) (e ∙ sym (x .1))))
           (λ m. let a = family-has (formed fit) q j pair s .0 m in
-              let pair′ = joined-pair (formed fit) a pair in
-              pick-in (inFamily labels live q j) (length live) s (pair-inside fit s j pair′ .0)
-              (of-in-family q j s pair′ (ap (λ (f : Family). f .first) (sym (family-same (formed fit) pair a)) ∙ e))))
+          let pair′ = joined-pair (formed fit) a pair in
+          pick-in (inFamily labels live q j) (length live) s (pair-inside fit s j pair′ .0)
+          (of-in-family q j s pair′ (ap (λ (f : Family). f .first) (sym (family-same (formed fit) pair a)) ∙ e))))
 
   family-at : (x : ℕ) → familyAt labels live x ≡ familyFrom p (x / 64) (x % 64)
   unfolding familyAt familyFrom
@@ -78,7 +78,7 @@ module _ {sources targets starts live : List ℕ} {timers : ℕ} (fit : Matching
       gather-same (familyAt labels live) (λ x. familyFrom p (x / 64) (x % 64)) (64 * length live) (λ x h. family-at x)
       ∙ gather-rows (familyFrom p) (length live)
       ∙ gather-same (λ q. gather (familyFrom p q) 64) (λ q. gather (familyFrom p q) timers) (length live)
-        (λ q h. gather-more (familyFrom p q) timers 64 (fit .few-timers) (λ j l. none q j l))
+      (λ q h. gather-more (familyFrom p q) timers 64 (fit .few-timers) (λ j l. none q j l))
     where
       none : (q j : ℕ) → timers ≤ j → familyFrom p q j ≡ []
       none q j l = rw (is-no (isPair p q j) (λ h. omega (arith, pair-inside fit q j h .1)), familyFrom) refl

@@ -11,7 +11,7 @@ use lib.Dec.{eqb}
 use lib.ListN.{length, getD, getElem?}
 use borrow.Author.Tests.{eq-eqb}
 use Rattle.lists.specs.Lists.{memb, gather, lowest, top}
-use Rattle.lists.proofs.Bools.{same-bool, same-number, is-no, eqb-self, and-left, and-right, and-both}
+use Rattle.lists.proofs.Bools.{same-bool, same-number, is-no, and-left, and-right, and-both}
 use Rattle.lists.proofs.Membership.{any-memb-in, any-memb-out}
 use Rattle.lists.proofs.Gather.{pick-in, pick-out}
 use Rattle.lists.proofs.Lowest.{lowest-is}
@@ -155,7 +155,7 @@ module _ (labels live : List ℕ) where
             let y = early (b .place) g (b .is-nth) in
             let few : g .family .timer < 64 = rw (ap (λ (f : Family). f .timer) (y .family)) (timer-few (y .number)) in
             let e : getD numbers (64 * s .0 + g .family .timer) 0 ≡ k =
-                ap (λ (l : List ℕ). getD l (64 * s .0 + g .family .timer) 0) are ∙ cells-at ps (length live) (s .0) (g .family .timer) (its .0) few ∙ ap cell (y .shown (s .0) (s .2)) ∙ b .number in
+            ap (λ (l : List ℕ). getD l (64 * s .0 + g .family .timer) 0) are ∙ cells-at ps (length live) (s .0) (g .family .timer) (its .0) few ∙ ap cell (y .shown (s .0) (s .2)) ∙ b .number in
             below-in _ (length live) (s .0) (its .0) (and-both (its .1) (below-in _ 64 (g .family .timer) few (eq-eqb _ k e)))
           where
             timer-few : (y : ℕ) → familyOn y .timer < 64

@@ -3,18 +3,18 @@ use mathlib.Core.Path.{_≡_, refl, sym, ap, _∙_, subst, subst₂}
 use mathlib.Core.Logic.{_⊎_, inl, inr}
 use mathlib.Core.Bool.{Bool, true, false}
 use mathlib.Core.List.{List}
-use Prim.Native.Nat.{ℕ, _+_, _*_, _/_, _≤_, _<_}
+use Prim.Native.Nat.{ℕ, _+_, _*_, _/_, _<_}
 use native.Mathlib.Decide.{ℕ-discrete}
 use native.Mathlib.Omega.{arith}
 use lib.ListN.{length, getD}
 use Rattle.lists.proofs.Bools.{not-both}
 use Rattle.timer_set.specs.Members.{member, common, minus}
 use Rattle.timer_set.proofs.Members.{member-empty}
-use Rattle.model.specs.Family.{Link, Pairs, isPair, Linked}
+use Rattle.model.specs.Family.{Link, Pairs, Linked}
 use Rattle.model.proofs.Joined.{joined-refl}
 use Rattle.model.proofs.Families.{labels-first}
 use Rattle.allocation.specs.Cells.{linkAt, pairsOf, Matching}
-use Rattle.allocation.specs.Labels.{joinAt, JoinedLabels, Sound, Joins, Passed, Agree, AllAgree, Labelled}
+use Rattle.allocation.specs.Labels.{JoinedLabels, Sound, Joins, Passed, Agree, AllAgree, Labelled}
 use Rattle.allocation.specs.Labels.Joins.{none, more}
 use Rattle.allocation.proofs.CodePairs.{formed, link-in, link-out, pair-inside}
 use Rattle.allocation.proofs.Labels.{join-less, joins-sound, passed-none, passed-fell, passed-kept}
@@ -109,7 +109,6 @@ module _ {sources targets starts live : List ℕ} {timers : ℕ} (fit : Matching
     first = λ q j h. labels-first (formed fit) (λ s. getD l (64 * s + j) 0) (λ s k. so .each s j k .joined) (λ s k. so .each s j k .low) (over j) q h;
   }
     where
-
       over : (j q s : ℕ) → Linked p j q s → getD l (64 * q + j) 0 ≡ getD l (64 * s + j) 0
       over j q s k = go (link-out fit (k .number) (k .link) (k .is-nth))
         where

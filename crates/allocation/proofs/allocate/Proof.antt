@@ -11,11 +11,6 @@ use Rattle.allocation.specs.Cells.{pairsOf, cells}
 use Rattle.allocation.proofs.LabelFamilies.{first-fit-by}
 use Rattle.allocation.proofs.allocate.Statement.{statement}
 use Rattle.allocation.proofs.allocate.Tie as tie
-use Rattle.allocation.proofs.allocate.Reads as reads
-use Rattle.allocation.proofs.allocate.Lts as lts
-use Rattle.allocation.proofs.label_families.Reads as label-families-reads
-use Rattle.allocation.proofs.number_families.Reads as number-families-reads
-use Rattle.allocation.proofs.room.Reads as room-reads
 
 front-fits : {k : ℕ} (ys zs : List ℕ) → length ys ≡ k → k ≤ length (ys ++ zs)
 front-fits ys zs e = simp length-append (omega arith)

@@ -1,18 +1,11 @@
 -- `label_families` meets its contract: the labels are sound, and their total falls until nothing changes. Assumes nothing.
-use borrow.Author.Needs.{needs}
-use mathlib.Core.Path.{_≡_, refl, sym, _∙_, subst}
-use Prim.Native.Nat.{ℕ, _*_, _≤_, _<_}
+use mathlib.Core.Path.{sym, _∙_}
 use native.Mathlib.Omega.{arith}
-use lib.ListN.{length, getD}
 use Rattle.allocation.specs.Cells.{pairsOf, Matching}
-use Rattle.allocation.specs.Labels.{Sound, Labelled, total}
+use Rattle.allocation.specs.Labels.{Sound, total}
 use Rattle.allocation.proofs.Turns.{own-sound, agree-labelled}
 use Rattle.allocation.proofs.label_families.Statement.{statement}
 use Rattle.allocation.proofs.label_families.Tie as tie
-use Rattle.allocation.proofs.label_families.Reads as reads
-use Rattle.allocation.proofs.label_families.Lts as lts
-use Rattle.allocation.proofs.begin.Reads as begin-reads
-use Rattle.allocation.proofs.sweep.Reads as sweep-reads
 
 abbrev Inv-loop : tie.InvT-loop
 Inv-loop sources targets starts live timers labels₀ labels =

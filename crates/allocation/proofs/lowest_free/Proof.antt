@@ -9,10 +9,6 @@ use Rattle.allocation.specs.Numbering.{taken}
 use Rattle.allocation.proofs.Rows.{word-found, word-full, all-full}
 use Rattle.allocation.proofs.lowest_free.Statement.{statement}
 use Rattle.allocation.proofs.lowest_free.Tie as tie
-use Rattle.allocation.proofs.lowest_free.Reads as reads
-use Rattle.allocation.proofs.lowest_free.Lts as lts
-use Rattle.allocation.proofs.taken_word.Reads as taken-word-reads
-use Rattle.timer_set.proofs.TimerSet.lowest_missing.Reads as lowest-missing-reads
 
 abbrev Inv-loop : tie.InvT-loop
 Inv-loop labels live numbers q j w₀ w =

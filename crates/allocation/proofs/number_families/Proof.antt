@@ -1,19 +1,12 @@
 -- `number_families` meets its contract: the families whose first pair is below x have their numbers. Assumes nothing.
 use borrow.Author.Needs.{needs}
-use mathlib.Core.Path.{_≡_, refl, sym, ap, _∙_, subst}
-use Prim.Native.Nat.{ℕ, _*_, _-_, _≤_, _<_}
+use mathlib.Core.Path.{_≡_, sym, _∙_, subst}
+use Prim.Native.Nat.{ℕ, _*_, _-_, _≤_}
 use native.Mathlib.Omega.{arith}
-use lib.ListN.{length, getD}
+use lib.ListN.{length}
 use Rattle.allocation.proofs.Placing.{NumberedTo, numbered-none, numbered-no, numbered-yes, number-is}
 use Rattle.allocation.proofs.number_families.Statement.{statement}
 use Rattle.allocation.proofs.number_families.Tie as tie
-use Rattle.allocation.proofs.number_families.Reads as reads
-use Rattle.allocation.proofs.number_families.Lts as lts
-use Rattle.allocation.proofs.clear.Reads as clear-reads
-use Rattle.allocation.proofs.give.Reads as give-reads
-use Rattle.allocation.proofs.in_family.Reads as in-family-reads
-use Rattle.allocation.proofs.larger.Reads as larger-reads
-use Rattle.allocation.proofs.lowest_free.Reads as lowest-free-reads
 
 abbrev Inv-loop : tie.InvT-loop
 Inv-loop labels live numbers₀ used₀ x₀ numbers used x =

@@ -2,7 +2,7 @@
 use borrow.Author.Needs.{needs}
 use mathlib.Core.Path.{_≡_, refl, _∙_, subst}
 use mathlib.Core.List.{List}
-use Prim.Native.Nat.{ℕ, _*_, _-_, _≤_, _<_}
+use Prim.Native.Nat.{ℕ, _-_, _≤_, _<_}
 use native.Mathlib.Omega.{arith}
 use lib.ListN.{length, getD}
 use Rattle.allocation.specs.Cells.{linkAt, pairsOf, Matching}
@@ -10,10 +10,6 @@ use Rattle.allocation.specs.Labels.{Sound, Passed, AllAgree}
 use Rattle.allocation.proofs.Turns.{links-none, links-fell, links-same}
 use Rattle.allocation.proofs.sweep.Statement.{statement}
 use Rattle.allocation.proofs.sweep.Tie as tie
-use Rattle.allocation.proofs.sweep.Reads as reads
-use Rattle.allocation.proofs.sweep.Lts as lts
-use Rattle.allocation.proofs.join_link.Reads as join-link-reads
-use Rattle.allocation.proofs.linked_timers.Reads as linked-timers-reads
 
 abbrev Inv-loop : tie.InvT-loop
 Inv-loop sources targets starts live timers labels₀ changed₀ i₀ labels changed i =
