@@ -21,8 +21,11 @@ use Rattle.model.specs.FirstFit.{Placed, held, free, place, usedBy, numberAt}
 use Rattle.model.proofs.FirstFit.{free-not-held, free-least, held-in, held-out}
 use Rattle.model.proofs.NumberAt.{has, has-timer, has-location, has-pair, number-out}
 use Rattle.allocation.specs.Cells.{cell, cells}
-use Rattle.allocation.specs.Numbering.{inFamily, inRow, taken, given, familyBy, familyAt, familiesTo}
+use Rattle.allocation.specs.Numbering.{Lengths, inFamily, inRow, taken, given, familyBy, familyAt, familiesTo}
 use Rattle.allocation.proofs.CellList.{below-in, below-out, cells-at, cells-is, cells-none, cell-some, used-more, free-used, place-append}
+
+pub same-lengths : {labels live a b : List ℕ} → Lengths labels live a → length b ≡ length a → Lengths labels live b
+same-lengths l e = record { few-locations = l .few-locations; labels-long = l .labels-long; numbers-long = e ∙ l .numbers-long }
 
 -- the state of the loop over the pairs
 pub record NumberedTo (labels live : List ℕ) (x : ℕ) (numbers : List ℕ) (used : ℕ) : Type 0 where

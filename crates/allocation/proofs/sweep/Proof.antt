@@ -13,7 +13,8 @@ use Rattle.allocation.proofs.sweep.Tie as tie
 
 abbrev Inv-loop : tie.InvT-loop
 Inv-loop sources targets starts live timers labels₀ changed₀ i₀ labels changed i =
-    (i ≤ length sources) × Matching sources targets starts live timers × (length labels ≡ length labels₀) × Passed (Sound (pairsOf sources targets starts live timers)) (AllAgree (linkAt sources targets starts live) timers i) labels₀ labels changed
+    (i ≤ length sources) × Matching sources targets starts live timers × (length labels ≡ length labels₀)
+    × Passed (Sound (pairsOf sources targets starts live timers)) (AllAgree (linkAt sources targets starts live) timers i) labels₀ labels changed
 
 abbrev μ-loop : tie.MeasureT-loop
 μ-loop sources targets starts live timers labels₀ changed₀ i₀ labels changed i = length sources - i
@@ -37,7 +38,13 @@ ends c = let m = c .before .loop .inv .1 in let h = c .loop-test .taken in recor
 }
 
 loop-holds : tie.Need-loop-holds Inv-loop μ-loop
-loop-holds c = let s = c .before .before .before .before .before in (omega arith, s .pre .0, refl, links-none (s .pre .0) (s .args .labels .now) (s .pre .1))
+loop-holds c =
+    let s = c .before .before .before .before .before in (
+      omega arith,
+      s .pre .0,
+      refl,
+      links-none (s .pre .0) (s .args .labels .now) (s .pre .1),
+    )
 
 mul-s : tie.Need-mul-s Inv-loop μ-loop
 mul-s c = search needs
@@ -83,25 +90,65 @@ add-i c = search needs
 
 join-link-requires : tie.Need-join-link-requires Inv-loop μ-loop
 unfolding pairsOf
-join-link-requires c κs = let e = ends (c .before .before .before .before .before .before .before) in let l = c .before .before .before .before .before .before .before .before .loop in (l .inv .1 .few-timers, omega arith, omega arith, omega (arith, l .inv .2, l .inv .3 .kept .long, e), omega (arith, l .inv .2, l .inv .3 .kept .long, e))
+join-link-requires c κs =
+    let e = ends (c .before .before .before .before .before .before .before) in
+    let l = c .before .before .before .before .before .before .before .before .loop in (
+      l .inv .1 .few-timers,
+      omega arith,
+      omega arith,
+      omega (arith, l .inv .2, l .inv .3 .kept .long, e),
+      omega (arith, l .inv .2, l .inv .3 .kept .long, e),
+    )
 
 loop-less : tie.Need-loop-less Inv-loop μ-loop
 loop-less c = search needs
 
 loop-again : tie.Need-loop-again Inv-loop μ-loop
-loop-again c = let l = c .before .before .before .before .before .before .before .before .before .before .before .before .loop in let a = c .before .before .before .before .before .before .before .before .before .before .before .before .before .before .before .before .before .before .args in let x = c .before .before .before .join-link in (omega arith, l .inv .1, x .kept .0 ∙ l .inv .2, links-fell (l .inv .1) (a .labels .now) (l .labels) (l .changed) (l .i) (l .inv .3) (c .before .before .before .before .before .before .before .before .before .before .before .loop-test .taken) (c .before .before .before .before .before .linked-timers .result .bits) (c .before .before .before .before .before .linked-timers .ensures) (x .last .0) (x .result) (x .ensures) (c .if1 .taken))
+loop-again c =
+    let l = c .before .before .before .before .before .before .before .before .before .before .before .before .loop in
+    let a =
+    c .before .before .before .before .before .before .before .before .before .before .before .before .before .before .before .before .before .before .args
+    in
+    let x = c .before .before .before .join-link in (
+      omega arith,
+      l .inv .1,
+      x .kept .0 ∙ l .inv .2,
+      links-fell (l .inv .1) (a .labels .now) (l .labels) (l .changed) (l .i) (l .inv .3)
+          (c .before .before .before .before .before .before .before .before .before .before .before .loop-test .taken)
+          (c .before .before .before .before .before .linked-timers .result .bits) (c .before .before .before .before .before .linked-timers .ensures)
+          (x .last .0) (x .result) (x .ensures) (c .if1 .taken),
+    )
 
 loop-less-2 : tie.Need-loop-less-2 Inv-loop μ-loop
 loop-less-2 c = search needs
 
 loop-again-2 : tie.Need-loop-again-2 Inv-loop μ-loop
-loop-again-2 c = let l = c .before .before .before .before .before .before .before .before .before .before .before .before .loop in let a = c .before .before .before .before .before .before .before .before .before .before .before .before .before .before .before .before .before .before .args in let x = c .before .before .before .join-link in (omega arith, l .inv .1, x .kept .0 ∙ l .inv .2, links-same (l .inv .1) (a .labels .now) (l .labels) (l .changed) (l .i) (l .inv .3) (c .before .before .before .before .before .before .before .before .before .before .before .loop-test .taken) (c .before .before .before .before .before .linked-timers .result .bits) (c .before .before .before .before .before .linked-timers .ensures) (x .last .0) (x .result) (x .ensures) (c .if1 .left))
+loop-again-2 c =
+    let l = c .before .before .before .before .before .before .before .before .before .before .before .before .loop in
+    let a =
+    c .before .before .before .before .before .before .before .before .before .before .before .before .before .before .before .before .before .before .args
+    in
+    let x = c .before .before .before .join-link in (
+      omega arith,
+      l .inv .1,
+      x .kept .0 ∙ l .inv .2,
+      links-same (l .inv .1) (a .labels .now) (l .labels) (l .changed) (l .i) (l .inv .3)
+          (c .before .before .before .before .before .before .before .before .before .before .before .loop-test .taken)
+          (c .before .before .before .before .before .linked-timers .result .bits) (c .before .before .before .before .before .linked-timers .ensures)
+          (x .last .0) (x .result) (x .ensures) (c .if1 .left),
+    )
 
 same-length : tie.Need-same-length Inv-loop μ-loop
 same-length c = c .before .loop .inv .2
 
 returns : tie.Need-returns Inv-loop μ-loop
-returns c = let l = c .before .loop in let a = c .before .before .before .before .before .before .before .args in let e : l .i ≡ length (a .sources .now) = omega arith in subst (λ (i : ℕ). Passed (Sound (pairsOf (a .sources .now) (a .targets .now) (a .starts .now) (a .live .now) (a .timers))) (AllAgree (linkAt (a .sources .now) (a .targets .now) (a .starts .now) (a .live .now)) (a .timers) i) (a .labels .now) (l .labels) (l .changed)) e (l .inv .3)
+returns c =
+    let l = c .before .loop in
+    let a = c .before .before .before .before .before .before .before .args in
+    let e : l .i ≡ length (a .sources .now) = omega arith in
+    subst
+    (λ (i : ℕ). Passed (Sound (pairsOf (a .sources .now) (a .targets .now) (a .starts .now) (a .live .now) (a .timers))) (AllAgree (linkAt (a .sources .now) (a .targets .now) (a .starts .now) (a .live .now)) (a .timers) i) (a .labels .now) (l .labels) (l .changed))
+    e (l .inv .3)
 
 pub sweep-spec : {M : Type 1} → statement M
 sweep-spec =
