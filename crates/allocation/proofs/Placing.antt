@@ -174,7 +174,7 @@ module _ (labels live : List ℕ) where
     pub numbered-no : begins x ≡ false → NumberedTo labels live (x + 1) numbers used
     numbered-no e = rw add-one (record { cells-are = rw (step-no x e) (so .cells-are); used-is = rw (step-no x e) (so .used-is) })
 
-    pub number-is : x ≤ 16384 → lowest (λ k. not (taken labels live numbers (x / 64) (x % 64) k (length live))) 16384 ≡ free (held (familyOn x) (placedTo x))
+    number-is : x ≤ 16384 → lowest (λ k. not (taken labels live numbers (x / 64) (x % 64) k (length live))) 16384 ≡ free (held (familyOn x) (placedTo x))
     number-is few =
         let l = held (familyOn x) (placedTo x) in
         let b : free l ≤ 16384 = omega (arith, free-used (familyOn x) (placedTo x), used-few x) in
@@ -185,8 +185,12 @@ module _ (labels live : List ℕ) where
         same : (k : ℕ) → k < 65535 → taken labels live numbers (x / 64) (x % 64) k (length live) ≡ memb k (held (familyOn x) (placedTo x))
         same k h = taken-held (placedTo x) x (all-earlier x) numbers (so .cells-are) (x / 64) (x % 64) k h
 
-    module _ (number : ℕ) (its : number ≡ free (held (familyOn x) (placedTo x))) (after : List ℕ) (long : length after ≡ 64 * length live)
+    module _ (few : x ≤ 16384) (number : ℕ) (lowest-one : number ≡ lowest (λ k. not (taken labels live numbers (x / 64) (x % 64) k (length live))) 16384)
+        (after : List ℕ) (long : length after ≡ 64 * length live)
         (gave : (s i : ℕ) → s < length live → i < 64 → getD after (64 * s + i) 0 ≡ given labels live (x / 64) (x % 64) number numbers s i) where
+      its : number ≡ free (held (familyOn x) (placedTo x))
+      its = lowest-one ∙ number-is few
+
       given-cells : after ≡ cells (next x ∷ placedTo x) (length live)
       unfolding given numberAt
       given-cells = cells-is (next x ∷ placedTo x) (length live) after long (λ s i h k. gave s i h k ∙ one s i h k)

@@ -43,6 +43,9 @@ module _ (one other set : ℕ) (start : List ℕ) where
         go (yes e) = rw e (h (rw e at m))
         go (no ne) = a i (omega arith) m
 
+    pub timers-end : {limit : ℕ} → j ≡ limit → Timers limit l changed
+    timers-end e = subst (λ (k : ℕ). Timers k l changed) e x
+
     pub timers-skip : member set j ≡ false → Timers (j + 1) l changed
     timers-skip e = passed-kept _ _ x refl (λ k. k) (agree-more (λ t. absurd (not-both t e)))
 
@@ -88,6 +91,9 @@ module _ {sources targets starts live : List ℕ} {timers : ℕ} (fit : Matching
         go : (k : ℕ) → k < i + 1 → Dec (k ≡ i) → AllAgree link timers i l → Agree (link k .one) (link k .other) (link k .timers) timers l
         go k h (yes q) a = rw q (subst (Agree (link i .one) (link i .other) (link i .timers) timers) (joined .same e) (link-joined .seen e))
         go k h (no n) a = a k (omega arith)
+
+  pub links-end : {start l : List ℕ} {changed : Bool} {i : ℕ} → i ≡ length sources → Links i start l changed → Links (length sources) start l changed
+  links-end {start} {l} {changed} e x = subst (λ (k : ℕ). Links k start l changed) e x
 
   -- each location's own label
   pub own-sound : (l : List ℕ) → length l ≡ 64 * length live → ((x : ℕ) → x < length l → getD l x 0 ≡ x / 64) → Sound p l

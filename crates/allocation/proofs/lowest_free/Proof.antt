@@ -41,9 +41,12 @@ add-result c = search needs
 
 returns : tie.Need-returns Inv-loop μ-loop
 returns c =
-    let l = c .before .before .before .before .loop in
-    rw (c .before .lowest-missing .ensures)
-    (word-found (held (c .before .before .before .before)) (c .before .before .taken-word .result .bits) (l .w) (c .before .before .taken-word .ensures) (l .inv .2) (omega (arith, c .before .lowest-missing .ensures, c .if1 .taken)) (omega (arith, c .before .before .before .loop-test .taken)))
+    let at = c .before .before .before .before in
+    let l = at .loop in
+    let t = c .before .before .taken-word in
+    let e = c .before .lowest-missing .ensures in
+    rw e
+    (word-found (held at) (t .result .bits) (l .w) (t .ensures) (l .inv .2) (omega (arith, e, c .if1 .taken)) (omega (arith, c .before .before .before .loop-test .taken)))
 
 add-w : tie.Need-add-w Inv-loop μ-loop
 add-w c = search needs

@@ -5,7 +5,7 @@ use Prim.Native.Nat.{ℕ, _*_, _-_, _≤_}
 use native.Mathlib.Omega.{arith}
 use lib.ListN.{length}
 use Rattle.allocation.specs.Numbering.{Lengths}
-use Rattle.allocation.proofs.Placing.{same-lengths, NumberedTo, numbered-none, numbered-no, numbered-yes, number-is}
+use Rattle.allocation.proofs.Placing.{same-lengths, NumberedTo, numbered-none, numbered-no, numbered-yes}
 use Rattle.allocation.proofs.number_families.Statement.{statement}
 use Rattle.allocation.proofs.number_families.Tie as tie
 
@@ -15,6 +15,9 @@ Inv-loop labels live numbers₀ used₀ x₀ numbers used x =
 
 abbrev μ-loop : tie.MeasureT-loop
 μ-loop labels live numbers₀ used₀ x₀ numbers used x = 64 * length live - x
+
+abbrev start : tie.At-loop Inv-loop μ-loop → tie.Start Inv-loop μ-loop
+start l = l .before .before .before .before .before .before .before .before
 
 clear-requires : tie.Need-clear-requires Inv-loop μ-loop
 clear-requires c κs = search needs
@@ -58,16 +61,19 @@ loop-less c = search needs
 
 loop-again : tie.Need-loop-again Inv-loop μ-loop
 loop-again c =
-    let l = c .before .before .before .before .before .before .before .before .before .before .loop in
-    let a =
-    c .before .before .before .before .before .before .before .before .before .before .before .before .before .before .before .before .before .before .args
-    in
+    let at = c .before .before .before .before .before .before .before .before .before .before in
+    let l = at .loop in
+    let a = start at .args in
     let f = c .before .before .before .before .before .lowest-free in
-    let g = c .before .before .before .give in (
+    let g = c .before .before .before .give in
+    let same = g .kept .1 .1 .1 .1 .1 .0 in
+    let one = sym (c .before .before .before .before .before .before .before .before .in-family .ensures) ∙
+    c .before .before .before .before .before .before .before .if1 .taken in
+    let next = numbered-yes (a .labels .now) (a .live .now) (l .x) (l .numbers) (l .used) (l .inv .2) (omega (arith, l .inv)) (f .result) (f .ensures)
+    (g .last .1 .1 .1 .1 .1 .0) (same ∙ l .inv .1 .numbers-long) (g .ensures) one in (
       omega arith,
-      same-lengths (l .inv .1) (g .kept .1 .1 .1 .1 .1 .0),
-      subst (NumberedTo (a .labels .now) (a .live .now) _ _) (sym (c .larger .ensures))
-          (numbered-yes (a .labels .now) (a .live .now) (l .x) (l .numbers) (l .used) (l .inv .2) (f .result) (f .ensures ∙ number-is (a .labels .now) (a .live .now) (l .x) (l .numbers) (l .used) (l .inv .2) (omega (arith, l .inv))) (g .last .1 .1 .1 .1 .1 .0) (g .kept .1 .1 .1 .1 .1 .0 ∙ l .inv .1 .numbers-long) (g .ensures) (sym (c .before .before .before .before .before .before .before .before .in-family .ensures) ∙ c .before .before .before .before .before .before .before .if1 .taken)),
+      same-lengths (l .inv .1) same,
+      subst (NumberedTo (a .labels .now) (a .live .now) _ _) (sym (c .larger .ensures)) next,
     )
 
 loop-less-2 : tie.Need-loop-less-2 Inv-loop μ-loop
