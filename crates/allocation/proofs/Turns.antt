@@ -79,7 +79,9 @@ module _ {sources targets starts live : List ℕ} {timers : ℕ} (fit : Matching
       (joined : Passed (Joins (getD sources i 0) (getD targets i 0) set l) (Agree (getD sources i 0) (getD targets i 0) set timers) l after r) where
     link-joined : Passed (Joins (link i .one) (link i .other) (link i .timers) l) (Agree (link i .one) (link i .other) (link i .timers) timers) l after r
     unfolding linkAt
-    link-joined = subst (λ (w : ℕ). Passed (Joins (getD sources i 0) (getD targets i 0) w l) (Agree (getD sources i 0) (getD targets i 0) w timers) l after r) its joined
+    link-joined =
+        subst (λ (w : ℕ). Passed (Joins (getD sources i 0) (getD targets i 0) w l) (Agree (getD sources i 0) (getD targets i 0) w timers) l after r)
+        its joined
 
     pub links-fell : r ≡ true → Links (i + 1) start after true
     links-fell e = passed-fell _ _ x (joined .falls e) (joins-sound (formed fit) (link i) (link-in fit i below) (link-joined .kept) (x .kept))
@@ -100,7 +102,10 @@ module _ {sources targets starts live : List ℕ} {timers : ℕ} (fit : Matching
   unfolding pairsOf
   own-sound l long own = record {
     long = long;
-    each = λ q j h. let b = pair-inside fit q j h in let e : getD l (64 * q + j) 0 ≡ q = own (64 * q + j) (omega (arith, b .0, b .1, fit .few-timers)) ∙ div q j (omega (arith, b .1, fit .few-timers)) in
+    each = λ q j h.
+        let b = pair-inside fit q j h in
+        let few : j < 64 = omega (arith, b .1, fit .few-timers) in
+        let e : getD l (64 * q + j) 0 ≡ q = own (64 * q + j) (omega (arith, b .0)) ∙ div q j few in
         record { joined = rw e (joined-refl q); low = omega arith };
   }
     where
