@@ -1,3 +1,4 @@
 pub mod Parse
 pub mod Body
 pub mod File
+pub mod Lengths

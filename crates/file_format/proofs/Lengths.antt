@@ -1,0 +1,103 @@
+-- How many bytes a written chart has, and how many at most. Assumes nothing.
+use mathlib.Core.Path.{_≡_, refl, sym, ap, _∙_}
+use mathlib.Core.List.{List, [], _∷_, _++_, append-assoc}
+use Prim.Native.Nat.{ℕ, zero, suc, _+_, _*_, _^_, _/_, _≤_, _<_}
+use native.Mathlib.Nat.{mul-le-mul, mul-suc, le-refl}
+use native.Mathlib.Numerals.{add-one}
+use native.Mathlib.Omega.{arith}
+use lib.ListN.{length, length-append}
+use Rattle.comparison.specs.Comparison.{codeOf}
+use Rattle.lists.specs.Rising.{All}
+use Rattle.model.specs.Chart.{Test, Transition, Chart}
+use Rattle.model.specs.Valid.{ValidTransition, Valid}
+use Rattle.file_format.specs.Parse.{digits, writeAll}
+use Rattle.file_format.specs.Body.{recordLength, writeTest, writeTransition, writeHeader, writeBody}
+use Rattle.file_format.specs.File.{writeFile, fileOf}
+use Rattle.file_format.proofs.Fields.{rising-most}
+use Rattle.file_format.specs.Lengths.{total, transitionLength, bodyLength, fileLength}
+
+pub length-digits : (w v : ℕ) → length (digits w v) ≡ w
+unfolding digits
+length-digits zero v = refl
+length-digits (suc w) v = rw (length-append, length-digits w (v / 256)) (add-one w)
+
+-- ---- sums
+
+module _ {A : Type 0} (f : A → ℕ) where
+  pub total-append : (xs ys : List A) → total f (xs ++ ys) ≡ total f xs + total f ys
+  unfolding total
+  total-append [] ys = omega arith
+  total-append (a ∷ xs) ys = omega (arith, total-append xs ys)
+
+  -- n for each element
+  pub total-same : (n : ℕ) → ((a : A) → f a ≡ n) → (xs : List A) → total f xs ≡ n * length xs
+  unfolding total
+  total-same n h [] = omega arith
+  total-same n h (a ∷ xs) = rw mul-suc (omega (arith, h a, total-same n h xs))
+
+  -- at most n for each element
+  pub total-most : (n : ℕ) (P : A → Type 0) → ((a : A) → P a → f a ≤ n) → (xs : List A) → All P xs → total f xs ≤ n * length xs
+  unfolding total
+  total-most n P h [] p = omega arith
+  total-most n P h (a ∷ xs) p = rw mul-suc (omega (arith, h a (p .0), total-most n P h xs (p .1)))
+
+-- what is written item by item
+module _ {A : Type 0} (w : A → List ℕ) where
+  pub length-all : (f : A → ℕ) → ((a : A) → length (w a) ≡ f a) → (xs : List A) → length (writeAll w xs) ≡ total f xs
+  unfolding total writeAll
+  length-all f h [] = refl
+  length-all f h (a ∷ xs) = rw (length-append, h a, length-all f h xs)
+
+  pub all-append : (xs ys : List A) → writeAll w (xs ++ ys) ≡ writeAll w xs ++ writeAll w ys
+  unfolding writeAll
+  all-append [] ys = refl
+  all-append (a ∷ xs) ys = rw (append-assoc, all-append xs ys)
+
+-- numbers of w bytes
+pub length-numbers : (w : ℕ) (xs : List ℕ) → length (writeAll (digits w) xs) ≡ w * length xs
+length-numbers w xs = length-all (digits w) (λ x. w) (length-digits w) xs ∙ total-same (λ x. w) w (λ x. refl) xs
+
+-- ---- the parts of the file
+
+pub length-test : (W : ℕ) (t : Test) → length (writeTest W t) ≡ 2 + W
+unfolding writeTest
+length-test W t = simp (length-append, length-digits) (omega arith)
+
+pub length-tests : (W : ℕ) (ts : List Test) → length (writeAll (writeTest W) ts) ≡ (2 + W) * length ts
+length-tests W ts = length-all (writeTest W) (λ t. 2 + W) (length-test W) ts ∙ total-same (λ t. 2 + W) (2 + W) (λ t. refl) ts
+
+pub length-transition : (W : ℕ) (r : Transition) → length (writeTransition W r) ≡ transitionLength W r
+unfolding writeTransition transitionLength recordLength
+length-transition W r = simp (length-append, length-digits, length-numbers, length-tests) (omega arith)
+
+pub length-header : (c : Chart) → length (writeHeader c) ≡ 9 + 2 * length (c .accepting)
+unfolding writeHeader
+length-header c = simp (length-append, length-digits, length-numbers) (omega arith)
+
+pub length-body : (W : ℕ) (c : Chart) → length (writeBody W c) ≡ bodyLength W c
+unfolding writeBody bodyLength
+length-body W c = rw (length-append, length-header, length-all (writeTransition W) (transitionLength W) (length-transition W))
+
+pub length-file : (version W : ℕ) (c : Chart) → length (writeFile version W c) ≡ fileLength W c
+unfolding writeFile fileLength
+length-file version W c = simp (length-append, length-digits, length-body) (omega arith)
+
+-- ---- at most
+
+transition-most : (W locations timers : ℕ) → timers ≤ 64 → (r : Transition) → ValidTransition W locations timers r → transitionLength W r ≤ 73 + (2 + W) * 8
+unfolding transitionLength recordLength
+transition-most W locations timers h r v =
+    let m : (2 + W) * length (r .tests) ≤ (2 + W) * 8 = mul-le-mul (le-refl (2 + W)) (v .few-tests) in
+    omega (arith, rising-most timers 64 (r .starts) h (v .starts))
+
+pub file-most : (W : ℕ) (c : Chart) → Valid W c → fileLength W c ≤ 46094 + 4096 * W
+unfolding fileLength bodyLength
+file-most W c v =
+    let few = rising-most (c .locations) 256 (c .accepting) (v .few-locations) (v .accepting) in
+    let each = transition-most W (c .locations) (c .timers) (v .few-timers) in
+    let m : (73 + (2 + W) * 8) * length (c .transitions) ≤ (73 + (2 + W) * 8) * 512 = mul-le-mul (le-refl _) (v .few-transitions) in
+    omega (arith, few, total-most (transitionLength W) (73 + (2 + W) * 8) _ each (c .transitions) (v .transitions))
+
+pub largest-file : (c : Chart) → Valid 2 c → length (fileOf c) ≤ 54286
+unfolding fileOf
+largest-file c v = omega (arith, length-file 1 2 c, file-most 2 c v)

@@ -1,0 +1,10 @@
+pub mod Parsed
+pub mod Reading
+pub mod Items
+pub mod Frame
+pub mod RoundTrip
+pub mod Fields
+pub mod Transitions
+pub mod Body
+pub mod Lengths
+pub mod File

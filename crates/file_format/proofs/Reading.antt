@@ -1,0 +1,124 @@
+-- What the definitions' readers find at a place of a list, in the terms that code has: an index, elements and a length. Assumes nothing.
+use mathlib.Core.Path.{_≡_, refl, sym, ap, _∙_}
+use mathlib.Core.Logic.{_⊎_, inl, inr}
+use mathlib.Core.Option.{none, some}
+use mathlib.Core.List.{List, [], _∷_}
+use Prim.Native.Nat.{ℕ, zero, suc, _+_, _*_, _≤_, _<_}
+use native.Mathlib.Nat.{zero-add, add-zero, zero-mul}
+use native.Mathlib.Numerals.{add-one}
+use native.Mathlib.Omega.{arith}
+use lib.Dec.{ltb, leb}
+use lib.ListN.{length, getD, drop, drop-of-length-le}
+use lib.Seq.{drop-cons}
+use borrow.Author.Tests.{lt-ltb, le-ltb, le-leb, lt-leb}
+use Rattle.comparison.specs.declared.Comparison.{Comparison}
+use Rattle.comparison.specs.Comparison.{comparisonOf}
+use Rattle.lists.specs.Rising.{All}
+use Rattle.lists.proofs.Bools.{lt-or-le}
+use Rattle.model.specs.Answer.{nowhere}
+use Rattle.file_format.specs.Parse.{Parsed, value, refusal, bind, guard, byte, number, below, entry}
+use Rattle.file_format.specs.Body.{readComparison}
+
+module _ (s : List ℕ) (at : ℕ) where
+  pub byte-in : at < length s → byte (drop at s) ≡ value (getD s at 0) (drop (at + 1) s)
+  byte-in h = rw (add-one, drop-cons s at 0)
+
+  pub byte-out : length s ≤ at → byte (drop at s) ≡ refusal 3 nowhere
+  byte-out h = rw (drop-of-length-le s h)
+
+  -- the number that w bytes from `at` on make
+  abbrev pub numberAt : (w : ℕ) → ℕ
+  numberAt zero = 0
+  numberAt (suc w) = numberAt w * 256 + getD s (at + w) 0
+
+-- a number of w bytes, all in the list
+pub number-in : (s : List ℕ) (at w : ℕ) → at + w ≤ length s → number w (drop at s) ≡ value (numberAt s at w) (drop (at + w) s)
+unfolding number
+number-in s at zero h = rw add-zero
+number-in s at (suc w) h =
+    let k : at + w ≤ length s = omega arith in
+    let l : at + w < length s = omega arith in
+    let e : at + w + 1 ≡ at + suc w = omega arith in
+    rw (number-in s at w k, byte-in s (at + w) l, e)
+
+-- the same, some of them not in the list
+pub number-cut : (s : List ℕ) (at w : ℕ) → length s < at + suc w → number (suc w) (drop at s) ≡ refusal 3 nowhere
+unfolding number
+number-cut s at zero h = let k : length s ≤ at = omega arith in rw (byte-out s at k)
+number-cut s at (suc w) h = go (lt-or-le (length s) (at + suc w)) (number-cut s at w)
+  where
+    go : (length s < at + suc w) ⊎ (at + suc w ≤ length s) → (length s < at + suc w → number (suc w) (drop at s) ≡ refusal 3 nowhere)
+        → number (suc (suc w)) (drop at s) ≡ refusal 3 nowhere
+    go (inl l) ih = rw (ih l)
+    go (inr l) ih = let k : length s ≤ at + suc w = omega arith in rw (number-in s at (suc w) l, byte-out s (at + suc w) k)
+
+-- ---- the widths that the file has
+
+module _ (s : List ℕ) (at : ℕ) where
+  pub one-in : at < length s → number 1 (drop at s) ≡ value (getD s at 0) (drop (at + 1) s)
+  one-in h = number-in s at 1 (omega arith) ∙ simp (zero-mul, zero-add, add-zero)
+
+  pub one-cut : length s < at + 1 → number 1 (drop at s) ≡ refusal 3 nowhere
+  one-cut h = number-cut s at 0 h
+
+  pub two-in : at + 2 ≤ length s → number 2 (drop at s) ≡ value (getD s at 0 * 256 + getD s (at + 1) 0) (drop (at + 2) s)
+  two-in h = number-in s at 2 h ∙ simp (zero-mul, zero-add, add-zero)
+
+  pub two-cut : length s < at + 2 → number 2 (drop at s) ≡ refusal 3 nowhere
+  two-cut h = number-cut s at 1 h
+
+  pub four-in : at + 4 ≤ length s
+      → number 4 (drop at s) ≡ value (((getD s at 0 * 256 + getD s (at + 1) 0) * 256 + getD s (at + 2) 0) * 256 + getD s (at + 3) 0) (drop (at + 4) s)
+  four-in h = number-in s at 4 h ∙ simp (zero-mul, zero-add, add-zero)
+
+  pub four-cut : length s < at + 4 → number 4 (drop at s) ≡ refusal 3 nowhere
+  four-cut h = number-cut s at 3 h
+
+-- ---- a number with a limit, an entry of a rising list, a code: from the number's reading
+
+module _ (w limit n p : ℕ) (bs : List ℕ) where
+  pub below-refused : {m q : ℕ} → number w bs ≡ refusal m q → below w limit n p bs ≡ refusal m q
+  unfolding below
+  below-refused e = rw e
+
+  module _ {x : ℕ} {t : List ℕ} (e : number w bs ≡ value x t) where
+    pub below-in : x < limit → below w limit n p bs ≡ value x t
+    unfolding below
+    below-in h = rw (e, lt-ltb x limit h)
+
+    pub below-over : limit ≤ x → below w limit n p bs ≡ refusal n p
+    unfolding below
+    below-over h = rw (e, le-ltb x limit h)
+
+  pub entry-refused : (lo : ℕ) {m q : ℕ} → below w limit n p bs ≡ refusal m q → entry w limit n p lo bs ≡ refusal m q
+  unfolding entry
+  entry-refused lo e = rw e
+
+  module _ (lo : ℕ) {x : ℕ} {t : List ℕ} (e : below w limit n p bs ≡ value x t) where
+    pub entry-in : lo ≤ x → entry w limit n p lo bs ≡ value x t
+    unfolding entry
+    entry-in h = rw (e, le-leb lo x h)
+
+    pub entry-low : x < lo → entry w limit n p lo bs ≡ refusal 7 p
+    unfolding entry
+    entry-low h = rw (e, lt-leb lo x h)
+
+module _ (i : ℕ) (bs : List ℕ) where
+  pub comparison-refused : {m q : ℕ} → number 1 bs ≡ refusal m q → readComparison i bs ≡ refusal m q
+  unfolding readComparison
+  comparison-refused e = rw e
+
+  module _ {code : ℕ} {t : List ℕ} (e : number 1 bs ≡ value code t) where
+    pub comparison-in : {x : Comparison} → comparisonOf code ≡ some x → readComparison i bs ≡ value x t
+    unfolding readComparison
+    comparison-in h = rw (e, h)
+
+    pub comparison-unknown : comparisonOf code ≡ none → readComparison i bs ≡ refusal 8 i
+    unfolding readComparison
+    comparison-unknown h = rw (e, h)
+
+-- ---- a list is a list of bytes if its elements are
+
+pub bytes-all : (s : List ℕ) → ((i : ℕ) → i < length s → getD s i 0 < 256) → All (λ b. b < 256) s
+bytes-all [] h = tt
+bytes-all (b ∷ s) h = (h 0 (omega arith), bytes-all s (λ i l. h (suc i) (omega arith)))
