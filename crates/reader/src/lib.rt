@@ -279,7 +279,13 @@ fn judge_file(s: &[u8]) -> Judged
     else {
         return Judged::Refused(header_refusal(b));
     };
-    let d = judge_records(s, transitions, numbers.transitions, numbers.locations, numbers.timers);
+    let d = judge_records(
+        s,
+        transitions,
+        numbers.transitions,
+        numbers.locations,
+        numbers.timers,
+    );
     let Field::Value(tests, end) = d else {
         return Judged::Refused(fields::refusal_of(d));
     };
@@ -298,7 +304,20 @@ fn judge_file(s: &[u8]) -> Judged
 }
 
 // Whether lists of these lengths have room for a accepting locations, n transitions and g tests.
-fn room(a: u64, n: u64, g: u64, accepting: u64, sources: u64, targets: u64, events: u64, starts: u64, counts: u64, timers: u64, codes: u64, constants: u64) -> bool
+fn room(
+    a: u64,
+    n: u64,
+    g: u64,
+    accepting: u64,
+    sources: u64,
+    targets: u64,
+    events: u64,
+    starts: u64,
+    counts: u64,
+    timers: u64,
+    codes: u64,
+    constants: u64,
+) -> bool
     ensures { λ r. ⌜ r ≡ enough a n g accepting sources targets events starts counts timers codes constants ⌝ }
 {
     if accepting < a {
@@ -394,7 +413,18 @@ fn record_at(s: &[u8], at: usize, locations: u16, timers: u8, place: u64) -> Rec
 }
 
 // Of each transition its source, target, event, set of starts and number of tests.
-fn fill_heads(s: &[u8], at: usize, n: u16, locations: u16, timers: u8, sources: &mut [u16], targets: &mut [u16], events: &mut [u8], starts: &mut [u64], counts: &mut [u8])
+fn fill_heads(
+    s: &[u8],
+    at: usize,
+    n: u16,
+    locations: u16,
+    timers: u8,
+    sources: &mut [u16],
+    targets: &mut [u16],
+    events: &mut [u8],
+    starts: &mut [u64],
+    counts: &mut [u8],
+)
     requires { ⌜ (timers ≤ 64) × (n ≤ length (now sources)) × (n ≤ length (now targets)) × (n ≤ length (now events)) × (n ≤ length (now starts)) × (n ≤ length (now counts)) ⌝ }
     ensures { λ _. ⌜ ((rs : List Transition) (t : List ℕ) → readTransitions 2 locations timers n (drop at (now (s .entry))) ≡ value rs t
         → HeadsStored rs (now (sources .entry)) (now (targets .entry)) (now (events .entry)) (now (starts .entry)) (now (counts .entry))
@@ -427,7 +457,17 @@ fn fill_heads(s: &[u8], at: usize, n: u16, locations: u16, timers: u8, sources: 
 }
 
 // The tests of one transition, from the entry base of the lists on.
-fn fill_record_tests(s: &[u8], at: usize, g: u8, timers: u8, place: u64, base: usize, tested: &mut [u8], codes: &mut [u8], constants: &mut [u16])
+fn fill_record_tests(
+    s: &[u8],
+    at: usize,
+    g: u8,
+    timers: u8,
+    place: u64,
+    base: usize,
+    tested: &mut [u8],
+    codes: &mut [u8],
+    constants: &mut [u16],
+)
     requires { ⌜ (base + g ≤ length (now tested)) × (base + g ≤ length (now codes)) × (base + g ≤ length (now constants)) ⌝ }
     ensures { λ _. ⌜ ((ts : List Test) (t : List ℕ) → readTests 2 timers place g (drop at (now (s .entry))) ≡ value ts t
         → TestsStored ts base (now (tested .entry)) (now (codes .entry)) (now (constants .entry)) (now (tested .exit)) (now (codes .exit)) (now (constants .exit))) ⌝ }
@@ -455,7 +495,16 @@ fn fill_record_tests(s: &[u8], at: usize, g: u8, timers: u8, place: u64, base: u
 }
 
 // The tests of all transitions, one transition's after another's.
-fn fill_tests(s: &[u8], at: usize, n: u16, locations: u16, timers: u8, tested: &mut [u8], codes: &mut [u8], constants: &mut [u16])
+fn fill_tests(
+    s: &[u8],
+    at: usize,
+    n: u16,
+    locations: u16,
+    timers: u8,
+    tested: &mut [u8],
+    codes: &mut [u8],
+    constants: &mut [u16],
+)
     requires { ⌜ (timers ≤ 64) × TestsFit locations timers n (drop at (now s)) (length (now tested)) (length (now codes)) (length (now constants)) ⌝ }
     ensures { λ _. ⌜ ((rs : List Transition) (t : List ℕ) → readTransitions 2 locations timers n (drop at (now (s .entry))) ≡ value rs t
         → TestsStored (allTests rs) 0 (now (tested .entry)) (now (codes .entry)) (now (constants .entry)) (now (tested .exit)) (now (codes .exit)) (now (constants .exit))) ⌝ }
@@ -477,7 +526,17 @@ fn fill_tests(s: &[u8], at: usize, n: u16, locations: u16, timers: u8, tested: &
         else {
             return;
         };
-        fill_record_tests(s, inside, tests, timers, i as u64, base, tested, codes, constants);
+        fill_record_tests(
+            s,
+            inside,
+            tests,
+            timers,
+            i as u64,
+            base,
+            tested,
+            codes,
+            constants,
+        );
         base += tests as usize;
         here = next;
         i += 1;
@@ -490,7 +549,18 @@ pub enum Read {
     Refused(Refusal),
 }
 
-pub fn read(file: &[u8], accepting: &mut [u16], sources: &mut [u16], targets: &mut [u16], events: &mut [u8], starts: &mut [u64], counts: &mut [u8], timers: &mut [u8], codes: &mut [u8], constants: &mut [u16]) -> Read
+pub fn read(
+    file: &[u8],
+    accepting: &mut [u16],
+    sources: &mut [u16],
+    targets: &mut [u16],
+    events: &mut [u8],
+    starts: &mut [u64],
+    counts: &mut [u8],
+    timers: &mut [u8],
+    codes: &mut [u8],
+    constants: &mut [u16],
+) -> Read
     ensures answer { λ r. ⌜ meantRead r ≡ readAnswer (lists (now (accepting .entry)) (now (sources .entry)) (now (targets .entry)) (now (events .entry)) (now (starts .entry)) (now (counts .entry)) (now (timers .entry)) (now (codes .entry)) (now (constants .entry))) (now (file .entry)) ⌝ }
     ensures lent { λ _. ⌜ lists (now (accepting .exit)) (now (sources .exit)) (now (targets .exit)) (now (events .exit)) (now (starts .exit)) (now (counts .exit)) (now (timers .exit)) (now (codes .exit)) (now (constants .exit))
         ≡ listsAfter (readInto (lists (now (accepting .entry)) (now (sources .entry)) (now (targets .entry)) (now (events .entry)) (now (starts .entry)) (now (counts .entry)) (now (timers .entry)) (now (codes .entry)) (now (constants .entry))) (now (file .entry)))
@@ -508,14 +578,47 @@ pub fn read(file: &[u8], accepting: &mut [u16], sources: &mut [u16], targets: &m
     };
     let n = numbers.transitions;
     let locations = numbers.locations;
-    if !room(numbers.accepting as u64, n as u64, tests, accepting.len() as u64, sources.len() as u64, targets.len() as u64, events.len() as u64, starts.len() as u64, counts.len() as u64, timers.len() as u64, codes.len() as u64, constants.len() as u64) {
+    if !room(
+        numbers.accepting as u64,
+        n as u64,
+        tests,
+        accepting.len() as u64,
+        sources.len() as u64,
+        targets.len() as u64,
+        events.len() as u64,
+        starts.len() as u64,
+        counts.len() as u64,
+        timers.len() as u64,
+        codes.len() as u64,
+        constants.len() as u64,
+    ) {
         return Read::Refused(Refusal {
             number: 21,
             place: 65535,
         });
     }
     fill_accepting(file, entries, numbers.accepting, locations, accepting);
-    fill_heads(file, transitions, n, locations, numbers.timers, sources, targets, events, starts, counts);
-    fill_tests(file, transitions, n, locations, numbers.timers, timers, codes, constants);
+    fill_heads(
+        file,
+        transitions,
+        n,
+        locations,
+        numbers.timers,
+        sources,
+        targets,
+        events,
+        starts,
+        counts,
+    );
+    fill_tests(
+        file,
+        transitions,
+        n,
+        locations,
+        numbers.timers,
+        timers,
+        codes,
+        constants,
+    );
     Read::Chart(numbers)
 }
