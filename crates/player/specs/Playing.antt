@@ -1,0 +1,18 @@
+-- What the player answers, called on a chart file. Assumes nothing.
+use mathlib.Core.List.{List}
+use Prim.Native.Nat.{ℕ}
+use Rattle.model.specs.Answer.{Answer, result, refused, then}
+use Rattle.model.specs.Player.{Arrival, played}
+use Rattle.file_format.specs.File.{chartIn}
+use Rattle.chart_lists.specs.Numbers.{refusedAs}
+use Rattle.player.specs.declared.Played.{Played}
+use Rattle.player.specs.declared.Played.the-variants as played·
+
+-- 1 to 8, then as the player on the chart: 9, 10, 12, 13, then step by step 14, 15, 22, 23, 24
+unfoldable pub playAnswer : (file counts transitions times : List ℕ) → Answer Arrival
+playAnswer bs counts is ts = then (chartIn bs) (λ c. played c counts is ts)
+
+-- what an answer of the code means
+abbrev pub meantPlayed : Played → Answer Arrival
+meantPlayed (played·.Arrived q t b) = result (record { location = q; time = t; accepting = b })
+meantPlayed (played·.Refused f) = refusedAs f
