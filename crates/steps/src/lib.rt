@@ -1,6 +1,181 @@
 // One step of the player on values, and a list of steps.
+ghost use mathlib.Core.Path.{_≡_};
+ghost use mathlib.Core.List.{List};
+ghost use Prim.Native.Nat.{ℕ, _+_, _<_, _^_};
+ghost use lib.ListN.{length, getD, take};
+ghost use Rattle.lists.specs.Lists.{memb};
+ghost use Rattle.comparison.specs.declared.Comparison.{Comparison};
+ghost use Rattle.comparison.specs.Comparison.{met, codeOf};
+ghost use Rattle.model.specs.Chart.{Test, Chart};
+ghost use Rattle.model.specs.Run.{Counts, State as Run·State, grown, allMet, attempt, steps, playerTime};
+ghost use Rattle.model.specs.Player.{stepsOf};
+ghost use Rattle.steps.specs.InLists.{InLists, SomeChart, TestsFrom, SomeTests, sumOf};
+ghost use Rattle.steps.specs.Stepping.{Shows, Agree, Small, Room, MovedOn, countAfter, Answered, stepAt, refusedAt};
+use chart_lists::Refusal;
+use comparison::Decoded;
+use timer_set::TimerSet;
+
 pub struct State {
     pub location: u16,
     pub time: u64,
     pub counts: [u64; 64],
+}
+
+pub enum Verdict {
+    Taken,
+    Refused(Refusal),
+}
+
+// What a step comes to: the state after it, or a refusal and the state as it was.
+pub struct Stepped {
+    pub verdict: Verdict,
+    pub state: State,
+}
+
+// Where the tests of each transition begin among all tests. The result is the number of all tests.
+pub fn find_firsts(tests: &[u8], firsts: &mut [u16]) -> u16
+    requires { ⌜ (length (now firsts) ≡ length (now tests)) × (sumOf (now tests) < 65536) ⌝ }
+    ensures total { λ r. ⌜ r ≡ sumOf (now (tests .entry)) ⌝ }
+    ensures firsts { λ _. ⌜ ((i : ℕ) → i < length (now (tests .entry)) → getD (now (firsts .exit)) i 0 ≡ sumOf (take i (now (tests .entry)))) ⌝ }
+{
+    let n = tests.len();
+    let mut sum: u16 = 0;
+    let mut i = 0;
+    while i < n {
+        firsts[i] = sum;
+        sum += tests[i] as u16;
+        i += 1;
+    }
+    sum
+}
+
+// One test, decided by the table of the comparisons.
+fn test_met(code: u8, count: u64, constant: u16) -> bool
+    ensures { λ r. ⌜ ((x : Comparison) → code ≡ codeOf x → r ≡ met x count constant) ⌝ }
+{
+    let a = comparison::decode(code);
+    let Decoded::Known(x) = a else {
+        return false;
+    };
+    comparison::holds(x, count, constant as u64)
+}
+
+// The tests of one transition, each on its timer's count after the time that passed.
+fn tests_met<'a>(
+    timers: &'a [u8],
+    codes: &'a [u8],
+    constants: &'a [u16],
+    first: u16,
+    many: u8,
+    counts: &'a [u64],
+    passed: u64,
+) -> bool
+    requires { ⌜ SomeTests first many (now timers) (now codes) (now constants) ⌝ }
+    requires { ⌜ Room (now counts) passed ⌝ }
+    ensures { λ r. ⌜ ((ts : List Test) → TestsFrom ts first (now (timers .entry)) (now (codes .entry)) (now (constants .entry)) → length ts ≡ many
+        → (v : Counts) → Agree (now (counts .entry)) v → r ≡ allMet ts (grown passed v)) ⌝ }
+{
+    let end = first as usize + many as usize;
+    let mut k = first as usize;
+    while k < end {
+        let j = timers[k] as usize;
+        if !test_met(codes[k], counts[j] + passed, constants[k]) {
+            return false;
+        }
+        k += 1;
+    }
+    true
+}
+
+// A count after a step: 0 for a started timer, else grown by the time that passed.
+fn count_after(count: u64, passed: u64, starts: u64, j: u8) -> u64
+    requires { ⌜ count + passed < 2 ^ 64 ⌝ }
+    ensures { λ r. ⌜ r ≡ countAfter starts passed j count ⌝ }
+{
+    let started = TimerSet { bits: starts };
+    if started.has(j) {
+        0
+    } else {
+        count + passed
+    }
+}
+
+fn counts_after(counts: [u64; 64], passed: u64, starts: u64) -> [u64; 64]
+    requires { ⌜ Room counts passed ⌝ }
+    ensures { λ r. ⌜ MovedOn starts passed counts r ⌝ }
+{
+    let mut next = counts;
+    let mut j: u8 = 0;
+    while j < 64 {
+        let i = j as usize;
+        next[i] = count_after(next[i], passed, starts, j);
+        j += 1;
+    }
+    next
+}
+
+fn refused(number: u16, n: u64, state: State) -> Stepped
+    ensures { λ r. ⌜ r ≡ refusedAt number n state ⌝ }
+{
+    let verdict = Verdict::Refused(Refusal { number, place: n });
+    Stepped { verdict, state }
+}
+
+// Step number n: 14, 15, 22, 23, 24 in this order, or the state after it.
+pub fn step<'a>(
+    sources: &'a [u16],
+    targets: &'a [u16],
+    starts: &'a [u64],
+    tests: &'a [u8],
+    firsts: &'a [u16],
+    timers: &'a [u8],
+    codes: &'a [u8],
+    constants: &'a [u16],
+    state: State,
+    n: u64,
+    transition: u32,
+    time: u64,
+) -> Stepped
+    requires { ⌜ SomeChart (now sources) (now targets) (now starts) (now tests) (now firsts) (now timers) (now codes) (now constants) ⌝ }
+    requires { ⌜ Small state ⌝ }
+    ensures answer { λ r. ⌜ ((c : Chart)
+        → InLists c (now (sources .entry)) (now (targets .entry)) (now (starts .entry)) (now (tests .entry)) (now (firsts .entry)) (now (timers .entry)) (now (codes .entry)) (now (constants .entry))
+        → (s : Run·State) → Shows state s → Answered r (attempt playerTime c n s (stepAt transition time))) ⌝ }
+    ensures small { λ r. ⌜ Small (r .state) ⌝ }
+{
+    let i = transition as usize;
+    if i >= sources.len() {
+        return refused(14, n, state);
+    }
+    if time > 16777215 {
+        return refused(15, n, state);
+    }
+    if sources[i] != state.location {
+        return refused(22, n, state);
+    }
+    if time < state.time {
+        return refused(23, n, state);
+    }
+    let passed = time - state.time;
+    let counts = state.counts;
+    if !tests_met(
+        timers,
+        codes,
+        constants,
+        firsts[i],
+        tests[i],
+        &counts,
+        passed,
+    ) {
+        return refused(24, n, state);
+    }
+    let next = State {
+        location: targets[i],
+        time,
+        counts: counts_after(counts, passed, starts[i]),
+    };
+    Stepped {
+        verdict: Verdict::Taken,
+        state: next,
+    }
 }

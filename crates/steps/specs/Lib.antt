@@ -1,0 +1,2 @@
+pub mod InLists
+pub mod Stepping
