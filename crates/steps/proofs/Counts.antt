@@ -35,4 +35,4 @@ module _ (starts d : ℕ) (before : List ℕ) where
           rw p (getD-set-same after i x 0 (omega (arith, m .number)) ∙ e ∙ ap (countAfter starts d i) (m .kept i (omega arith)))
 
   pub moved-all : (i : ℕ) (after : List ℕ) → 64 ≤ i → MovedTo i starts d before after → MovedOn starts d before after
-  moved-all i after h m = record { count = λ j l. m .moved j (omega arith) }
+  moved-all i after h m = record { number = m .number; count = λ j l. m .moved j (omega arith) }

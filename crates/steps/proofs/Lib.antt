@@ -1,3 +1,5 @@
 pub mod Sums
 pub mod TestTurns
 pub mod Counts
+pub mod Charts
+pub mod Attempts

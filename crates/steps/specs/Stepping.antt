@@ -23,8 +23,9 @@ pub record Shows (x : State) (s : Run·State) : Type 0 where
   pub time : x .time ≡ s .time
   pub counts : Agree (x .counts) (s .counts)
 
--- every count is at most the largest starting count and the time that has passed since
+-- 64 counts, each at most the largest starting count and the time that has passed since
 pub record Small (x : State) : Type 0 where
+  pub number : length (x .counts) ≡ 64
   pub bound : (j : ℕ) → j < 64 → getD (x .counts) j 0 ≤ 16777215 + x .time
 
 -- 64 counts, none of which passes 64 binary digits when it grows by d
@@ -36,7 +37,9 @@ pub record Room (counts : List ℕ) (d : ℕ) : Type 0 where
 unfoldable pub countAfter : (starts d j count : ℕ) → ℕ
 countAfter starts d j count = elim (member starts j) [ true ↦ 0 | false ↦ count + d ]
 
+-- all 64 counts after a step
 pub record MovedOn (starts d : ℕ) (before after : List ℕ) : Type 0 where
+  pub number : length after ≡ 64
   pub count : (j : ℕ) → j < 64 → getD after j 0 ≡ countAfter starts d j (getD before j 0)
 
 abbrev pub stepAt : (transition time : ℕ) → Step

@@ -31,7 +31,7 @@ returns-2 : tie.Need-returns-2
 returns-2 c x e =
     let a = c .before .before in
     let y = decoded-known _ _ (a .before .before .decode .ensures) (a .a .given .1) e in
-    c .holds .ensures ∙ ap (λ (z : Comparison). met z _ _) y
+    c .holds .ensures ∙ ap (λ (z : Comparison). met z (a .before .before .before .args .count) (a .before .before .before .args .constant)) y
 
 pub test-met-spec : {M : Type 1} → statement M
 test-met-spec =

@@ -40,7 +40,7 @@ add-end : tie.Need-add-end Inv-loop μ-loop
 add-end c = search needs
 
 loop-holds : tie.Need-loop-holds Inv-loop μ-loop
-loop-holds c = let p = c .before .before .before .before .pre in (p .0, p .1, refl, omega arith, omega arith, λ ts f n v a. none-done ts _ _)
+loop-holds c = let p = c .before .before .before .before .pre in (p .0, p .1, refl, omega arith, omega arith, λ ts f n v a. none-done ts _ (c .before .before .before .before .args .first))
 
 shared-slice-read-j : tie.Need-shared-slice-read-j Inv-loop μ-loop
 shared-slice-read-j c = here (c .before) .1 .timer-within
