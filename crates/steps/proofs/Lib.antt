@@ -3,3 +3,5 @@ pub mod TestTurns
 pub mod Counts
 pub mod Charts
 pub mod Attempts
+pub mod StepLists
+pub mod Accepting

@@ -179,3 +179,69 @@ pub fn step<'a>(
         state: next,
     }
 }
+
+// The steps of a list, each from the state that the one before left, to the first that is refused.
+pub fn take_steps<'a>(
+    sources: &'a [u16],
+    targets: &'a [u16],
+    starts: &'a [u64],
+    tests: &'a [u8],
+    firsts: &'a [u16],
+    timers: &'a [u8],
+    codes: &'a [u8],
+    constants: &'a [u16],
+    first: State,
+    transitions: &'a [u32],
+    times: &'a [u64],
+) -> Stepped
+    requires { ⌜ SomeChart (now sources) (now targets) (now starts) (now tests) (now firsts) (now timers) (now codes) (now constants) ⌝ }
+    requires { ⌜ Small first ⌝ }
+    requires { ⌜ length (now times) ≡ length (now transitions) ⌝ }
+    ensures { λ r. ⌜ ((c : Chart)
+        → InLists c (now (sources .entry)) (now (targets .entry)) (now (starts .entry)) (now (tests .entry)) (now (firsts .entry)) (now (timers .entry)) (now (codes .entry)) (now (constants .entry))
+        → (s : Run·State) → Shows first s → Answered r (steps playerTime c 0 s (stepsOf (now (transitions .entry)) (now (times .entry))))) ⌝ }
+{
+    let n = transitions.len();
+    let mut state = first;
+    let mut k: usize = 0;
+    while k < n {
+        let next = step(
+            sources,
+            targets,
+            starts,
+            tests,
+            firsts,
+            timers,
+            codes,
+            constants,
+            state,
+            k as u64,
+            transitions[k],
+            times[k],
+        );
+        let verdict = next.verdict;
+        let Verdict::Taken = verdict else {
+            return next;
+        };
+        state = next.state;
+        k += 1;
+    }
+    Stepped {
+        verdict: Verdict::Taken,
+        state,
+    }
+}
+
+// Whether a location is one of the accepting ones.
+pub fn accepts(accepting: &[u16], location: u16) -> bool
+    ensures { λ r. ⌜ r ≡ memb location (now (accepting .entry)) ⌝ }
+{
+    let mut i = 0;
+    while i < accepting.len() {
+        if accepting[i] == location {
+            return true;
+        }
+        i += 1;
+    }
+    false
+}
