@@ -10,14 +10,14 @@ use borrow.Author.Tests.{le-leb, lt-leb, eq-eqb, ne-eqb}
 use Rattle.lists.specs.Lists.{memb}
 use Rattle.timer_set.specs.Members.{member, setOf}
 use Rattle.timer_set.proofs.Members.{member-setOf}
-use Rattle.model.specs.Answer.{Answer, result, refused, unless}
-use Rattle.model.specs.Chart.{Test, Transition, Chart, Nth}
-use Rattle.model.specs.Run.{Counts, State as Run·State, Step, grown, restarted, allMet, after, attempt, playerTime}
+use Rattle.model.specs.Answer.{Answer, refused, unless}
+use Rattle.model.specs.Chart.{Test, Transition, Chart}
+use Rattle.model.specs.Run.{Counts, State as Run·State, grown, restarted, allMet, after, attempt, playerTime}
 use Rattle.model.proofs.Steps.{judgedStep, attempt-none, attempt-some}
 use Rattle.steps.specs.declared.State.{State}
 use Rattle.steps.specs.declared.Stepped.{Stepped}
 use Rattle.steps.specs.declared.Verdict.the-variants as verdict
-use Rattle.steps.specs.InLists.{TestsFrom, SomeTests, InLists}
+use Rattle.steps.specs.InLists.{TestsFrom, InLists}
 use Rattle.steps.specs.Stepping.{Agree, Shows, Small, Room, countAfter, MovedOn, stepAt, refusedAt, Answered}
 use Rattle.steps.proofs.Charts.{TransitionAt, no-transition, transition-at}
 

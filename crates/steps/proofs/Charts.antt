@@ -1,5 +1,5 @@
 -- What stands in the lists of a chart at the number of a transition. Assumes nothing.
-use mathlib.Core.Path.{_≡_, refl, sym, ap, ap₂, subst, _∙_}
+use mathlib.Core.Path.{_≡_, refl, sym, ap, _∙_}
 use mathlib.Core.Option.{none, some, Option·none-ne-some, Option·some-injective}
 use mathlib.Core.List.{List, [], _∷_, _++_, map}
 use Prim.Native.Nat.{ℕ, zero, suc, _+_, _≤_, _<_}
@@ -8,12 +8,12 @@ use lib.ListN.{length, getD, getElem?, take, drop, length-map, take-append-drop}
 use Rattle.timer_set.specs.Members.{setOf}
 use Rattle.comparison.specs.Comparison.{codeOf}
 use Rattle.model.specs.Chart.{Test, Transition, Chart, Nth}
-use Rattle.model.specs.Valid.{Valid, ValidTest}
+use Rattle.model.specs.Valid.{ValidTest}
 use Rattle.model.specs.Live.{startsSet}
 use Rattle.model.proofs.Transitions.{nth-below, below-nth, all-nth, nth-valid}
 use Rattle.chart_lists.specs.Lists.{allTests, listsOf}
 use Rattle.chart_lists.proofs.Tests.{tests-append}
-use Rattle.steps.specs.InLists.{TestAt, TestsFrom, SomeTests, InLists}
+use Rattle.steps.specs.InLists.{TestsFrom, InLists}
 use Rattle.steps.proofs.TestTurns.{nth-drop}
 
 module _ {A : Type 0} where

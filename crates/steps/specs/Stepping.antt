@@ -7,9 +7,7 @@ use lib.ListN.{length, getD}
 use Rattle.timer_set.specs.Members.{member}
 use Rattle.model.specs.Answer.{Answer, result, refused}
 use Rattle.model.specs.Run.{Counts, Step, State as Run·State}
-use Rattle.chart_lists.specs.declared.Refusal.{Refusal}
 use Rattle.steps.specs.declared.State.{State}
-use Rattle.steps.specs.declared.Verdict.{Verdict}
 use Rattle.steps.specs.declared.Verdict.the-variants as verdict
 use Rattle.steps.specs.declared.Stepped.{Stepped}
 

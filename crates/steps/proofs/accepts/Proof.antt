@@ -8,8 +8,6 @@ use Rattle.lists.specs.Lists.{memb}
 use Rattle.steps.proofs.Accepting.{memb-here, memb-later, memb-end}
 use Rattle.steps.proofs.accepts.Statement.{statement}
 use Rattle.steps.proofs.accepts.Tie as tie
-use Rattle.steps.proofs.accepts.Reads as reads
-use Rattle.steps.proofs.accepts.Lts as lts
 
 abbrev Inv-loop : tie.InvT-loop
 Inv-loop accepting location i₀ i = (i ≤ length accepting) × (memb location accepting ≡ memb location (drop i accepting))

@@ -1,14 +1,11 @@
 -- `counts_after` moves one count on a turn. Assumes nothing.
-use Prim.Native.Nat.{ℕ, _+_, _-_, _≤_, _<_}
+use Prim.Native.Nat.{_-_, _≤_}
 use native.Mathlib.Omega.{arith}
 use borrow.Author.Needs.{needs}
 use Rattle.steps.specs.Stepping.{Room}
 use Rattle.steps.proofs.Counts.{MovedTo, moved-none, moved-more, moved-all}
 use Rattle.steps.proofs.counts_after.Statement.{statement}
 use Rattle.steps.proofs.counts_after.Tie as tie
-use Rattle.steps.proofs.counts_after.Reads as reads
-use Rattle.steps.proofs.counts_after.Lts as lts
-use Rattle.steps.proofs.count_after.Reads as count-after-reads
 
 abbrev Inv-loop : tie.InvT-loop
 Inv-loop passed starts next₀ j₀ next j =

@@ -8,8 +8,6 @@ use Rattle.steps.specs.InLists.{sumOf}
 use Rattle.steps.proofs.Sums.{sum-next, sum-front, sum-whole, first-stored}
 use Rattle.steps.proofs.find_firsts.Statement.{statement}
 use Rattle.steps.proofs.find_firsts.Tie as tie
-use Rattle.steps.proofs.find_firsts.Reads as reads
-use Rattle.steps.proofs.find_firsts.Lts as lts
 
 abbrev Inv-loop : tie.InvT-loop
 Inv-loop tests firsts₀ n sum₀ i₀ firsts sum i =

@@ -1,22 +1,13 @@
 -- `step` judges 14, 15, 22, 23 and 24 in the order of the definition, and moves the counts on. Assumes nothing.
-use mathlib.Core.Path.{_≡_, refl, sym, ap, _∙_}
-use Prim.Native.Nat.{ℕ, _-_, _≤_, _<_}
-use native.Mathlib.Omega.{arith}
-use lib.ListN.{length, getD}
+use Prim.Native.Nat.{_-_}
 use borrow.Author.Needs.{needs}
 use borrow.Author.Tests.{not-true, not-false}
 use Rattle.model.specs.Chart.{Transition}
-use Rattle.steps.specs.InLists.{SomeTests}
 use Rattle.steps.specs.Stepping.{Room}
 use Rattle.steps.proofs.Charts.{TransitionAt, transition-at}
 use Rattle.steps.proofs.Attempts.{room, next-small, refused-as, refused-small, attempt-14, attempt-15, attempt-22, attempt-23, attempt-24, attempt-taken}
 use Rattle.steps.proofs.step.Statement.{statement}
 use Rattle.steps.proofs.step.Tie as tie
-use Rattle.steps.proofs.step.Reads as reads
-use Rattle.steps.proofs.step.Lts as lts
-use Rattle.steps.proofs.counts_after.Reads as counts-after-reads
-use Rattle.steps.proofs.refused.Reads as refused-reads
-use Rattle.steps.proofs.tests_met.Reads as tests-met-reads
 
 abbrev entry : tie.After-shared-slice-known8 → tie.Start
 entry a = a .before .before .before .before .before .before .before .before

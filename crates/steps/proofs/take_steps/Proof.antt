@@ -1,5 +1,5 @@
 -- `take_steps` takes one step a turn. Assumes nothing.
-use mathlib.Core.Path.{_≡_, refl, sym, _∙_}
+use mathlib.Core.Path.{_≡_, refl}
 use Prim.Native.Nat.{_-_, _≤_}
 use native.Mathlib.Omega.{arith}
 use lib.ListN.{length}
@@ -11,9 +11,6 @@ use Rattle.steps.specs.Stepping.{Shows, Small}
 use Rattle.steps.proofs.StepLists.{Reached, reached-start, reached-next, reached-refused, reached-end}
 use Rattle.steps.proofs.take_steps.Statement.{statement}
 use Rattle.steps.proofs.take_steps.Tie as tie
-use Rattle.steps.proofs.take_steps.Reads as reads
-use Rattle.steps.proofs.take_steps.Lts as lts
-use Rattle.steps.proofs.step.Reads as step-reads
 
 abbrev Inv-loop : tie.InvT-loop
 Inv-loop sources targets starts tests firsts timers codes constants transitions times n state₀ k₀ state k =

@@ -1,16 +1,11 @@
 -- `test_met` decides by the table of the comparison that the code stands for. Assumes nothing.
-use mathlib.Core.Path.{_≡_, sym, ap, _∙_}
+use mathlib.Core.Path.{ap, _∙_}
 use borrow.Author.Needs.{needs}
-use native.Mathlib.Omega.{arith}
 use Rattle.comparison.specs.declared.Comparison.{Comparison}
 use Rattle.comparison.specs.Comparison.{met}
 use Rattle.steps.proofs.TestTurns.{decoded-known, decoded-unknown}
 use Rattle.steps.proofs.test_met.Statement.{statement}
 use Rattle.steps.proofs.test_met.Tie as tie
-use Rattle.steps.proofs.test_met.Reads as reads
-use Rattle.steps.proofs.test_met.Lts as lts
-use Rattle.comparison.proofs.decode.Reads as decode-reads
-use Rattle.comparison.proofs.holds.Reads as holds-reads
 
 decode-requires : tie.Need-decode-requires
 decode-requires c κs = search needs

@@ -1,7 +1,7 @@
 -- `tests_met` decides one test a turn; those that are left decide. Assumes nothing.
-use mathlib.Core.Path.{_≡_, refl, sym, ap, _∙_}
+use mathlib.Core.Path.{_≡_, refl, sym, _∙_}
 use mathlib.Core.List.{List}
-use Prim.Native.Nat.{ℕ, _+_, _-_, _≤_, _<_}
+use Prim.Native.Nat.{_+_, _-_, _≤_, _<_}
 use native.Mathlib.Omega.{arith}
 use lib.ListN.{length, getD, drop}
 use borrow.Author.Needs.{needs}
@@ -13,9 +13,6 @@ use Rattle.steps.specs.Stepping.{Agree, Room}
 use Rattle.steps.proofs.TestTurns.{none-done, test-at, test-passed, test-failed, tests-done}
 use Rattle.steps.proofs.tests_met.Statement.{statement}
 use Rattle.steps.proofs.tests_met.Tie as tie
-use Rattle.steps.proofs.tests_met.Reads as reads
-use Rattle.steps.proofs.tests_met.Lts as lts
-use Rattle.steps.proofs.test_met.Reads as test-met-reads
 
 abbrev Inv-loop : tie.InvT-loop
 Inv-loop timers codes constants first many counts passed end k₀ k =
