@@ -5,3 +5,6 @@ pub mod Charts
 pub mod Attempts
 pub mod StepLists
 pub mod Accepting
+pub mod Starting
+pub mod ChartFronts
+pub mod Arrivals

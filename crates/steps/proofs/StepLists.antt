@@ -17,7 +17,7 @@ use Rattle.steps.specs.declared.Verdict.{Verdict}
 use Rattle.steps.specs.declared.Verdict.the-variants as verdict
 use Rattle.steps.specs.Stepping.{Shows, stepAt, Answered}
 
-taken-or-not : {v : Verdict} {f : Refusal} → v ≡ verdict.Taken → v ≡ verdict.Refused f → ⊥
+pub taken-or-not : {v : Verdict} {f : Refusal} → v ≡ verdict.Taken → v ≡ verdict.Refused f → ⊥
 taken-or-not p q = let z : _≡_ {A = ℕ} 0 1 = cc in omega arith
 
 -- k of the steps are taken from s, x shows the state after them, and the rest of the steps decide

@@ -1,16 +1,17 @@
 // One step of the player on values, and a list of steps.
 ghost use mathlib.Core.Path.{_≡_};
 ghost use mathlib.Core.List.{List};
-ghost use Prim.Native.Nat.{ℕ, _+_, _<_, _^_};
+ghost use Prim.Native.Nat.{ℕ, _+_, _≤_, _<_, _^_};
 ghost use lib.ListN.{length, getD, take};
-ghost use Rattle.lists.specs.Lists.{memb};
+ghost use Rattle.lists.specs.Lists.{memb, lowest};
 ghost use Rattle.comparison.specs.declared.Comparison.{Comparison};
 ghost use Rattle.comparison.specs.Comparison.{met, codeOf};
 ghost use Rattle.model.specs.Chart.{Test, Chart};
-ghost use Rattle.model.specs.Run.{Counts, State as Run·State, grown, allMet, attempt, steps, playerTime};
-ghost use Rattle.model.specs.Player.{stepsOf};
+ghost use Rattle.model.specs.Run.{Counts, State as Run·State, grown, allMet, attempt, steps, outcome, playerTime};
+ghost use Rattle.model.specs.Player.{tooLarge, stepsOf};
 ghost use Rattle.steps.specs.InLists.{InLists, SomeChart, TestsFrom, SomeTests, sumOf};
 ghost use Rattle.steps.specs.Stepping.{Shows, Agree, Small, Room, MovedOn, countAfter, Answered, stepAt, refusedAt};
+ghost use Rattle.steps.specs.Fronts.{Fronts, SomeFronts, Allowed, Starting};
 use chart_lists::Refusal;
 use comparison::Decoded;
 use timer_set::TimerSet;
@@ -244,4 +245,77 @@ pub fn accepts(accepting: &[u16], location: u16) -> bool
         i += 1;
     }
     false
+}
+
+// The lowest timer whose starting count is over 16,777,215, or the number of counts.
+pub fn first_too_large(counts: &[u32]) -> usize
+    ensures { λ r. ⌜ r ≡ lowest (tooLarge (now (counts .entry))) (length (now (counts .entry))) ⌝ }
+{
+    let n = counts.len();
+    let mut j: usize = 0;
+    while j < n {
+        if counts[j] > 16777215 {
+            return j;
+        }
+        j += 1;
+    }
+    n
+}
+
+// The starting counts of all 64 timers, 0 for those that the chart does not have.
+fn starting_counts(counts: &[u32]) -> [u64; 64]
+    requires { ⌜ length (now counts) ≤ 64 ⌝ }
+    ensures { λ r. ⌜ Starting (now (counts .entry)) r ⌝ }
+{
+    let n = counts.len();
+    let mut all = [0u64; 64];
+    let mut j: usize = 0;
+    while j < n {
+        all[j] = counts[j] as u64;
+        j += 1;
+    }
+    all
+}
+
+// The steps of a list from tick 0 on, on a chart of n transitions whose lists stand at the fronts of these.
+pub fn play_steps<'a>(
+    sources: &'a [u16],
+    targets: &'a [u16],
+    starts: &'a [u64],
+    tests: &'a [u8],
+    timers: &'a [u8],
+    codes: &'a [u8],
+    constants: &'a [u16],
+    n: usize,
+    initial: u16,
+    counts: &'a [u32],
+    transitions: &'a [u32],
+    times: &'a [u64],
+) -> Stepped
+    requires { ⌜ SomeFronts n (now sources) (now targets) (now starts) (now tests) (now timers) (now codes) (now constants) ⌝ }
+    requires { ⌜ Allowed (now counts) ⌝ }
+    requires { ⌜ length (now times) ≡ length (now transitions) ⌝ }
+    ensures { λ r. ⌜ ((c : Chart) → Fronts c n (now (sources .entry)) (now (targets .entry)) (now (starts .entry)) (now (tests .entry)) (now (timers .entry)) (now (codes .entry)) (now (constants .entry))
+        → initial ≡ c .initial → Answered r (outcome playerTime c (λ j. getD (now (counts .entry)) j 0) (stepsOf (now (transitions .entry)) (now (times .entry))))) ⌝ }
+{
+    let mut firsts = [0u16; 512];
+    let all = find_firsts(&tests[..n], &mut firsts[..n]) as usize;
+    let first = State {
+        location: initial,
+        time: 0,
+        counts: starting_counts(counts),
+    };
+    take_steps(
+        &sources[..n],
+        &targets[..n],
+        &starts[..n],
+        &tests[..n],
+        &firsts[..n],
+        &timers[..all],
+        &codes[..all],
+        &constants[..all],
+        first,
+        transitions,
+        times,
+    )
 }
