@@ -1,10 +1,17 @@
 -- What the player answers, called on a chart file. Assumes nothing.
 use mathlib.Core.List.{List}
 use Prim.Native.Nat.{ℕ}
-use Rattle.model.specs.Answer.{Answer, result, refused, then}
-use Rattle.model.specs.Player.{Arrival, played}
+use lib.Dec.{eqb}
+use lib.ListN.{length, getD}
+use Rattle.model.specs.Answer.{Answer, result, refused, then, unless, nowhere}
+use Rattle.model.specs.Chart.{Chart}
+use Rattle.model.specs.Run.{playerTime}
+use Rattle.model.specs.Player.{Arrival, answerOf, countsJudged, stepsOf, played}
 use Rattle.file_format.specs.File.{chartIn}
+use Rattle.chart_lists.specs.declared.Refusal.{Refusal}
 use Rattle.chart_lists.specs.Numbers.{refusedAs}
+use Rattle.reader.specs.declared.Read.{Read}
+use Rattle.reader.specs.declared.Read.the-variants as read
 use Rattle.player.specs.declared.Played.{Played}
 use Rattle.player.specs.declared.Played.the-variants as played·
 
@@ -16,3 +23,14 @@ playAnswer bs counts is ts = then (chartIn bs) (λ c. played c counts is ts)
 abbrev pub meantPlayed : Played → Answer Arrival
 meantPlayed (played·.Arrived q t b) = result (record { location = q; time = t; accepting = b })
 meantPlayed (played·.Refused f) = refusedAs f
+
+-- the same on a chart that is judged: 12, 13, then the steps
+abbrev pub playedOn : (counts transitions times : List ℕ) → Chart → Answer Arrival
+playedOn counts is ts c =
+    countsJudged c counts (
+    unless (eqb (length is) (length ts)) 13 nowhere (
+    answerOf playerTime c (λ j. getD counts j 0) (stepsOf is ts)))
+
+abbrev pub readRefusal : Read → Refusal
+readRefusal (read.Refused f) = f
+readRefusal (read.Chart m) = record { number = 0; place = 0 }

@@ -101,7 +101,7 @@ module _ {c : Chart} {sources targets starts tests firsts timers codes constants
 
         module _ (b : x .time ≤ t) (m : Bool)
             (decided : (ts : List Test) → TestsFrom ts (getD firsts i 0) timers codes constants → length ts ≡ getD tests i 0 → (v : Counts) → Agree (x .counts) v
-              → m ≡ allMet ts (grown (t - x .time) v)) where
+            → m ≡ allMet ts (grown (t - x .time) v)) where
           later : leb (s .time) t ≡ true
           later = le-leb (s .time) t (omega (arith, w .time))
 
@@ -115,8 +115,11 @@ module _ {c : Chart} {sources targets starts tests firsts timers codes constants
               → Answered (record { verdict = verdict.Taken; state = nextState (getD targets i 0) t v }) told
           unfolding after
           attempt-taken f v moved =
-              rw (allowed, leaves, later, passed, f) (refl, record {
-                location = at .target;
-                time = refl;
-                counts = moved-agrees (r .starts) (t - x .time) (t - s .time) (getD starts i 0) (x .counts) v (s .counts) (at .started) (ap (λ (k : ℕ). t - k) (w .time)) (w .counts) moved;
-              })
+              rw (allowed, leaves, later, passed, f) (
+                refl,
+                record {
+                  location = at .target;
+                  time = refl;
+                  counts = moved-agrees (r .starts) (t - x .time) (t - s .time) (getD starts i 0) (x .counts) v (s .counts) (at .started) (ap (λ (k : ℕ). t - k) (w .time)) (w .counts) moved;
+                },
+              )

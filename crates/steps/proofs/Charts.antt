@@ -82,36 +82,40 @@ module _ {c : Chart} {sources targets starts tests firsts timers codes constants
 
   test-stands : (i : ℕ) (r : Transition) → getElem? (c .transitions) i ≡ some r → TestsFrom (r .tests) (getD firsts i 0) timers codes constants
   unfolding listsOf
-  test-stands i r e = record { at = λ k t f.
-    let all = allTests (c .transitions) in
-    let n : getElem? all (getD firsts i 0 + k) ≡ some t =
-    ap (λ (p : ℕ). getElem? all (p + k)) (lists .firsts-are i (below-nth (c .transitions) i e)) ∙ nth-test i k r t e f in
-    let small = all-nth (ValidTest (lists .W) (c .timers)) (r .tests) k (nth-valid (lists .valid) (record { there = e }) .tests) f in
-    record {
-      timer-within = mapped-within (λ (t : Test). t .timer) all _ n (lists .timers-are);
-      code-within = mapped-within (λ (t : Test). codeOf (t .comparison)) all _ n (lists .codes-are);
-      constant-within = mapped-within (λ (t : Test). t .constant) all _ n (lists .constants-are);
-      timer = mapped-at (λ (t : Test). t .timer) all _ n (lists .timers-are);
-      code = mapped-at (λ (t : Test). codeOf (t .comparison)) all _ n (lists .codes-are);
-      constant = mapped-at (λ (t : Test). t .constant) all _ n (lists .constants-are);
-      below = omega (arith, small .timer, lists .valid .few-timers);
-    } }
+  test-stands i r e = record {
+    at = λ k t f.
+        let all = allTests (c .transitions) in
+        let n : getElem? all (getD firsts i 0 + k) ≡ some t =
+        ap (λ (p : ℕ). getElem? all (p + k)) (lists .firsts-are i (below-nth (c .transitions) i e)) ∙ nth-test i k r t e f in
+        let small = all-nth (ValidTest (lists .W) (c .timers)) (r .tests) k (nth-valid (lists .valid) (record { there = e }) .tests) f in
+        record {
+          timer-within = mapped-within (λ (t : Test). t .timer) all _ n (lists .timers-are);
+          code-within = mapped-within (λ (t : Test). codeOf (t .comparison)) all _ n (lists .codes-are);
+          constant-within = mapped-within (λ (t : Test). t .constant) all _ n (lists .constants-are);
+          timer = mapped-at (λ (t : Test). t .timer) all _ n (lists .timers-are);
+          code = mapped-at (λ (t : Test). codeOf (t .comparison)) all _ n (lists .codes-are);
+          constant = mapped-at (λ (t : Test). t .constant) all _ n (lists .constants-are);
+          below = omega (arith, small .timer, lists .valid .few-timers);
+        };
+  }
 
   pub transition-at : (i : ℕ) → i < length sources → (r : Transition) × TransitionAt c r i sources targets starts tests firsts timers codes constants
   unfolding listsOf startsSet
   transition-at i h =
       let l = c .transitions in
       let n = nth-below l i (omega (arith, number-of)) in
-      let e = n .1 in
-      (n .0, record {
-        nth = record { there = e };
-        source = mapped-at (λ (r : Transition). r .source) l i e (lists .sources-are);
-        target-within = mapped-within (λ (r : Transition). r .target) l i e (lists .targets-are);
-        target = mapped-at (λ (r : Transition). r .target) l i e (lists .targets-are);
-        starts-within = mapped-within startsSet l i e (lists .starts-are);
-        started = mapped-at startsSet l i e (lists .starts-are);
-        tests-within = mapped-within (λ (r : Transition). length (r .tests)) l i e (lists .tests-are);
-        number = sym (mapped-at (λ (r : Transition). length (r .tests)) l i e (lists .tests-are));
-        first-within = omega (arith, lists .firsts-length, number-of);
-        from = test-stands i (n .0) e;
-      })
+      let e = n .1 in (
+        n .0,
+        record {
+          nth = record { there = e };
+          source = mapped-at (λ (r : Transition). r .source) l i e (lists .sources-are);
+          target-within = mapped-within (λ (r : Transition). r .target) l i e (lists .targets-are);
+          target = mapped-at (λ (r : Transition). r .target) l i e (lists .targets-are);
+          starts-within = mapped-within startsSet l i e (lists .starts-are);
+          started = mapped-at startsSet l i e (lists .starts-are);
+          tests-within = mapped-within (λ (r : Transition). length (r .tests)) l i e (lists .tests-are);
+          number = sym (mapped-at (λ (r : Transition). length (r .tests)) l i e (lists .tests-are));
+          first-within = omega (arith, lists .firsts-length, number-of);
+          from = test-stands i (n .0) e;
+        },
+      )

@@ -94,11 +94,7 @@ fn count_after(count: u64, passed: u64, starts: u64, j: u8) -> u64
     ensures { λ r. ⌜ r ≡ countAfter starts passed j count ⌝ }
 {
     let started = TimerSet { bits: starts };
-    if started.has(j) {
-        0
-    } else {
-        count + passed
-    }
+    if started.has(j) { 0 } else { count + passed }
 }
 
 fn counts_after(counts: [u64; 64], passed: u64, starts: u64) -> [u64; 64]

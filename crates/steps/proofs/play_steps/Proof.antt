@@ -84,9 +84,10 @@ slice-aggregate-take-steps-8 : tie.Need-slice-aggregate-take-steps-8
 slice-aggregate-take-steps-8 c = let a = c .before .before .before .before .before .before .before .before .before .before in constants-long (lists (entry a)) (all-of a)
 
 take-steps-requires : tie.Need-take-steps-requires
-take-steps-requires c κs = let a = c .before .before .before .before .before .before .before .before .before .before in let p = entry a .pre in
-    (record { chart = p .0 .chart; is = fronts-in (p .0 .is) (all-of a) (firsts a) _ (firsts-long a) (a .find-firsts .ensures .1) },
-    (starting-small (c .before .before .before .before .before .before .before .before .starting-counts .ensures) (p .1 .0) _, p .1 .1))
+take-steps-requires c κs = let a = c .before .before .before .before .before .before .before .before .before .before in let p = entry a .pre in (
+  record { chart = p .0 .chart; is = fronts-in (p .0 .is) (all-of a) (firsts a) _ (firsts-long a) (a .find-firsts .ensures .1) },
+  (starting-small (c .before .before .before .before .before .before .before .before .starting-counts .ensures) (p .1 .0) _, p .1 .1),
+)
 
 returns : tie.Need-returns
 unfolding outcome

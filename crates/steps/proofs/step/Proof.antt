@@ -41,17 +41,19 @@ refused-requires : tie.Need-refused-requires
 refused-requires c κs = search needs
 
 returns : tie.Need-returns
-returns c = let z = entry (c .before .before) in
-    (λ ch L s w. refused-as 14 _ _ _ _ (c .refused .ensures) (attempt-14 L _ _ _ _ s w (c .before .if1 .taken)),
-    refused-small 14 _ _ _ (c .refused .ensures) (z .pre .1))
+returns c = let z = entry (c .before .before) in (
+  λ ch L s w. refused-as 14 _ _ _ _ (c .refused .ensures) (attempt-14 L _ _ _ _ s w (c .before .if1 .taken)),
+  refused-small 14 _ _ _ (c .refused .ensures) (z .pre .1),
+)
 
 refused-requires-2 : tie.Need-refused-requires-2
 refused-requires-2 c κs = search needs
 
 returns-2 : tie.Need-returns-2
-returns-2 c = let b = c .before .before in let z = entry (b .before) in
-    (λ ch L s w. refused-as 15 _ _ _ _ (c .refused2 .ensures) (attempt-15 L _ _ _ _ s w (b .if1 .left) (c .before .if2 .taken)),
-    refused-small 15 _ _ _ (c .refused2 .ensures) (z .pre .1))
+returns-2 c = let b = c .before .before in let z = entry (b .before) in (
+  λ ch L s w. refused-as 15 _ _ _ _ (c .refused2 .ensures) (attempt-15 L _ _ _ _ s w (b .if1 .left) (c .before .if2 .taken)),
+  refused-small 15 _ _ _ (c .refused2 .ensures) (z .pre .1),
+)
 
 mul-if3 : tie.Need-mul-if3
 mul-if3 c = search needs
@@ -63,17 +65,19 @@ refused-requires-3 : tie.Need-refused-requires-3
 refused-requires-3 c κs = search needs
 
 returns-3 : tie.Need-returns-3
-returns-3 c = let b = c .before .before .before .before in let a = past-14 b in let z = entry (a .before) in
-    (λ ch L s w. refused-as 22 _ _ _ _ (c .refused3 .ensures) (attempt-22 L _ _ _ _ s w (a .if1 .left) (b .if2 .left) (c .before .if3 .taken)),
-    refused-small 22 _ _ _ (c .refused3 .ensures) (z .pre .1))
+returns-3 c = let b = c .before .before .before .before in let a = past-14 b in let z = entry (a .before) in (
+  λ ch L s w. refused-as 22 _ _ _ _ (c .refused3 .ensures) (attempt-22 L _ _ _ _ s w (a .if1 .left) (b .if2 .left) (c .before .if3 .taken)),
+  refused-small 22 _ _ _ (c .refused3 .ensures) (z .pre .1),
+)
 
 refused-requires-4 : tie.Need-refused-requires-4
 refused-requires-4 c κs = search needs
 
 returns-4 : tie.Need-returns-4
-returns-4 c = let d = c .before .before .before in let b = past-15 d in let a = past-14 b in let z = entry (a .before) in
-    (λ ch L s w. refused-as 23 _ _ _ _ (c .refused4 .ensures) (attempt-23 L _ _ _ _ s w (a .if1 .left) (b .if2 .left) (d .if3 .left) (c .before .if4 .taken)),
-    refused-small 23 _ _ _ (c .refused4 .ensures) (z .pre .1))
+returns-4 c = let d = c .before .before .before in let b = past-15 d in let a = past-14 b in let z = entry (a .before) in (
+  λ ch L s w. refused-as 23 _ _ _ _ (c .refused4 .ensures) (attempt-23 L _ _ _ _ s w (a .if1 .left) (b .if2 .left) (d .if3 .left) (c .before .if4 .taken)),
+  refused-small 23 _ _ _ (c .refused4 .ensures) (z .pre .1),
+)
 
 mul-tests-met : tie.Need-mul-tests-met
 mul-tests-met c = search needs
@@ -94,9 +98,10 @@ refused-requires-5 : tie.Need-refused-requires-5
 refused-requires-5 c κs = search needs
 
 returns-5 : tie.Need-returns-5
-returns-5 c = let q = c .before .before in let e = past-23 (q .before) in let d = past-22 e in let b = past-15 d in let a = past-14 b in let z = entry (a .before) in
-    (λ ch L s w. refused-as 24 _ _ _ _ (c .refused5 .ensures) (attempt-24 L _ _ _ _ s w (a .if1 .left) (b .if2 .left) (d .if3 .left) (e .if4 .left) _ (q .tests-met .ensures) (not-true _ (c .before .if5 .taken))),
-    refused-small 24 _ _ _ (c .refused5 .ensures) (z .pre .1))
+returns-5 c = let q = c .before .before in let e = past-23 (q .before) in let d = past-22 e in let b = past-15 d in let a = past-14 b in let z = entry (a .before) in (
+  λ ch L s w. refused-as 24 _ _ _ _ (c .refused5 .ensures) (attempt-24 L _ _ _ _ s w (a .if1 .left) (b .if2 .left) (d .if3 .left) (e .if4 .left) _ (q .tests-met .ensures) (not-true _ (c .before .if5 .taken))),
+  refused-small 24 _ _ _ (c .refused5 .ensures) (z .pre .1),
+)
 
 mul-t17 : tie.Need-mul-t17
 mul-t17 c = search needs
@@ -114,9 +119,10 @@ counts-after-requires : tie.Need-counts-after-requires
 counts-after-requires c κs = room-here (past-23 (c .before .before .before .before))
 
 returns-6 : tie.Need-returns-6
-returns-6 c = let p = c .before .before .before in let q = p .before in let e = past-23 (q .before) in let d = past-22 e in let b = past-15 d in let a = past-14 b in
-    (λ ch L s w. attempt-taken L _ _ _ _ s w (a .if1 .left) (b .if2 .left) (d .if3 .left) (e .if4 .left) _ (q .tests-met .ensures) (not-false _ (p .if5 .left)) _ (c .counts-after .ensures),
-    next-small _ _ _ _ _ (start e .pre .1) (e .if4 .left) (c .counts-after .ensures))
+returns-6 c = let p = c .before .before .before in let q = p .before in let e = past-23 (q .before) in let d = past-22 e in let b = past-15 d in let a = past-14 b in (
+  λ ch L s w. attempt-taken L _ _ _ _ s w (a .if1 .left) (b .if2 .left) (d .if3 .left) (e .if4 .left) _ (q .tests-met .ensures) (not-false _ (p .if5 .left)) _ (c .counts-after .ensures),
+  next-small _ _ _ _ _ (start e .pre .1) (e .if4 .left) (c .counts-after .ensures),
+)
 
 pub step-spec : {M : Type 1} → statement M
 step-spec =

@@ -18,7 +18,7 @@ abbrev Inv-loop : tie.InvT-loop
 Inv-loop timers codes constants first many counts passed end k₀ k =
     SomeTests first many timers codes constants × Room counts passed × (end ≡ first + many) × (first ≤ k) × (k ≤ end)
     × ((ts : List Test) → TestsFrom ts first timers codes constants → length ts ≡ many → (v : Counts) → Agree counts v
-      → allMet ts (grown passed v) ≡ allMet (drop (k - first) ts) (grown passed v))
+    → allMet ts (grown passed v) ≡ allMet (drop (k - first) ts) (grown passed v))
 
 abbrev μ-loop : tie.MeasureT-loop
 μ-loop timers codes constants first many counts passed end k₀ k = end - k
