@@ -11,11 +11,15 @@ use Rattle.file_format.specs.Parse.{Parsed, value, refusal, bind, byte, number,
 use Rattle.file_format.proofs.Reading as reading
 use Rattle.fields.specs.declared.Field.{Field}
 use Rattle.fields.specs.declared.Field.the-variants as field
-use Rattle.fields.specs.Meaning.{meant, refusalAs, NumberAt}
+use Rattle.fields.specs.Meaning.{meant, refusalAs, refusalOf, NumberAt}
 
 -- an answer that is known says what its reader found
 pub told : {A R : Type 0} (m : R → Parsed A) {r q : R} {a : Parsed A} → r ≡ q → m r ≡ a → a ≡ m q
 told m e k = sym k ∙ ap m e
+
+-- the same where the answer is refused and its refusal is taken from it
+pub turned : (s : List ℕ) {a : Field} {f r : Refusal} {p : Parsed ℕ} → a ≡ field.Refused f → r ≡ refusalOf a → meant s a ≡ p → p ≡ refusalAs r
+turned s e k h = told (meant s) e h ∙ ap refusalAs (ap refusalOf (sym e) ∙ sym k)
 
 same-value : {x y n m : ℕ} → field.Value x n ≡ field.Value y m → x ≡ y
 same-value e = cc

@@ -1,4 +1,13 @@
+use mathlib.Core.Path.{_≡_}
+use native.Mathlib.Omega.{arith}
+use lib.ListN.{drop}
+use denote.Ref.{now}
 use borrow.Author.Needs.{needs}
+use Rattle.file_format.specs.Parse.{value, number, below}
+use Rattle.file_format.proofs.Parsed.{below-limit}
+use Rattle.fields.specs.Meaning.{meant}
+use Rattle.fields.proofs.Answers.{told, turned}
+use Rattle.fields.proofs.Steps.{ends-length, ends-source, ends-target, ends-event, ends-whole}
 use Rattle.fields.proofs.ends_at.Statement.{statement}
 use Rattle.fields.proofs.ends_at.Tie as tie
 use Rattle.fields.proofs.ends_at.Reads as reads
@@ -7,6 +16,23 @@ use Rattle.fields.proofs.byte_at.Reads as byte-at-reads
 use Rattle.fields.proofs.pair_at.Reads as pair-at-reads
 use Rattle.fields.proofs.pair_below.Reads as pair-below-reads
 use Rattle.fields.proofs.refusal_of.Reads as refusal-of-reads
+
+-- what each field is where its value was bound
+length-at : (c : tie.After-known-told) → let a = c .before .before .before .before .before .args in
+    number 2 (drop (a .at) (now (a .s))) ≡ value (c .before .a .given .0 .0) (drop (c .before .a .given .0 .1 .0) (now (a .s)))
+length-at c = told (meant (now (c .before .before .before .before .before .args .s))) (c .before .a .given .1) (c .before .before .before .pair-at .ensures .reads)
+
+source-at : (c : tie.After-known-told2) → let a = c .before .before .before .before .before .before .before .before .before .args in
+    below 2 (a .locations) 5 (a .place) (drop (c .before .before .before .before .before .a .given .0 .1 .0) (now (a .s))) ≡ value (c .before .b .given .0 .0) (drop (c .before .b .given .0 .1 .0) (now (a .s)))
+source-at c = told (meant (now (c .before .before .before .before .before .before .before .before .before .args .s))) (c .before .b .given .1) (c .before .before .before .pair-below .ensures)
+
+target-at : (c : tie.After-known-told3) → let a = c .before .before .before .before .before .before .before .before .before .before .before .before .before .args in
+    below 2 (a .locations) 5 (a .place) (drop (c .before .before .before .before .before .b .given .0 .1 .0) (now (a .s))) ≡ value (c .before .d .given .0 .0) (drop (c .before .d .given .0 .1 .0) (now (a .s)))
+target-at c = told (meant (now (c .before .before .before .before .before .before .before .before .before .before .before .before .before .args .s))) (c .before .d .given .1) (c .before .before .before .pair-below2 .ensures)
+
+event-at : (c : tie.After-known-told4) → let a = c .before .before .before .before .before .before .before .before .before .before .before .before .before .before .before .before .before .args in
+    number 1 (drop (c .before .before .before .before .before .d .given .0 .1 .0) (now (a .s))) ≡ value (c .before .e .given .0 .0) (drop (c .before .e .given .0 .1 .0) (now (a .s)))
+event-at c = told (meant (now (c .before .before .before .before .before .before .before .before .before .before .before .before .before .before .before .before .before .args .s))) (c .before .e .given .1) (c .before .before .before .byte-at .ensures .reads)
 
 -- src/lib.rt:198:9
 pair-at-requires : tie.Need-pair-at-requires
@@ -26,7 +52,9 @@ refusal-of-requires c κs = search needs
 
 -- src/lib.rt:200:9
 returns : tie.Need-returns
-returns c = ?
+returns c =
+    let a = c .before .before .before .before .before .args in
+    ends-length (a .locations) (a .place) _ (turned (now (a .s)) (c .before .enum-told .given .1) (c .refusal-of .ensures) (c .before .before .before .pair-at .ensures .reads))
 
 -- src/lib.rt:202:9
 pair-below-requires : tie.Need-pair-below-requires
@@ -46,7 +74,9 @@ refusal-of-requires-2 c κs = search needs
 
 -- src/lib.rt:204:9
 returns-2 : tie.Need-returns-2
-returns-2 c = ?
+returns-2 c =
+    let a = c .before .before .before .before .before .before .before .before .before .args in
+    ends-source (a .locations) (a .place) _ (length-at (c .before .before .before .before)) (turned (now (a .s)) (c .before .enum-told2 .given .1) (c .refusal-of2 .ensures) (c .before .before .before .pair-below .ensures))
 
 -- src/lib.rt:206:9
 pair-below-requires-2 : tie.Need-pair-below-requires-2
@@ -66,7 +96,9 @@ refusal-of-requires-3 c κs = search needs
 
 -- src/lib.rt:208:9
 returns-3 : tie.Need-returns-3
-returns-3 c = ?
+returns-3 c =
+    let a = c .before .before .before .before .before .before .before .before .before .before .before .before .before .args in
+    ends-target (a .locations) (a .place) _ (length-at (c .before .before .before .before .before .before .before .before)) (source-at (c .before .before .before .before)) (turned (now (a .s)) (c .before .enum-told3 .given .1) (c .refusal-of3 .ensures) (c .before .before .before .pair-below2 .ensures))
 
 -- src/lib.rt:210:9
 byte-at-requires : tie.Need-byte-at-requires
@@ -86,27 +118,29 @@ refusal-of-requires-4 c κs = search needs
 
 -- src/lib.rt:212:9
 returns-4 : tie.Need-returns-4
-returns-4 c = ?
+returns-4 c =
+    let a = c .before .before .before .before .before .before .before .before .before .before .before .before .before .before .before .before .before .args in
+    ends-event (a .locations) (a .place) _ (length-at (c .before .before .before .before .before .before .before .before .before .before .before .before)) (source-at (c .before .before .before .before .before .before .before .before)) (target-at (c .before .before .before .before)) (turned (now (a .s)) (c .before .enum-told4 .given .1) (c .refusal-of4 .ensures) (c .before .before .before .byte-at .ensures .reads))
 
 -- src/lib.rt:215:17
 cast-t22 : tie.Need-cast-t22
-cast-t22 c = ?
+cast-t22 c = let d = c .before .before .before .before .before .before .before .before .before .before .before .before in record { fits = omega (arith, d .before .before .before .pair-at .ensures .small _ _ (d .before .a .given .1)) }
 
 -- src/lib.rt:216:17
 cast-t23 : tie.Need-cast-t23
-cast-t23 c = ?
+cast-t23 c = record { fits = omega (arith, below-limit _ _ _ _ _ (source-at (c .before .before .before .before .before .before .before .before)), c .before .before .before .before .before .before .before .before .before .before .before .before .before .before .before .before .before .good) }
 
 -- src/lib.rt:217:17
 cast-t24 : tie.Need-cast-t24
-cast-t24 c = ?
+cast-t24 c = record { fits = omega (arith, below-limit _ _ _ _ _ (target-at (c .before .before .before .before)), c .before .before .before .before .before .before .before .before .before .before .before .before .before .before .before .before .before .good) }
 
 -- src/lib.rt:218:16
 cast-t25 : tie.Need-cast-t25
-cast-t25 c = ?
+cast-t25 c = record { fits = omega (arith, c .before .before .before .byte-at .ensures .small _ _ (c .before .e .given .1)) }
 
 -- src/lib.rt:195:1
 returns-5 : tie.Need-returns-5
-returns-5 c = ?
+returns-5 c = let a = c .before .before .before .before .before .before .before .before .before .before .before .before .before .before .before .before .before .args in ends-whole (a .locations) (a .place) _ (length-at (c .before .before .before .before .before .before .before .before .before .before .before .before)) (source-at (c .before .before .before .before .before .before .before .before)) (target-at (c .before .before .before .before)) (event-at c)
 
 pub ends-at-spec : {M : Type 1} → statement M
 ends-at-spec =
