@@ -1,23 +1,77 @@
 // The judgement that all calls share: reads a file into arrays of the largest size and judges 1 to 10.
 ghost use mathlib.Core.Path.{_≡_};
-ghost use Rattle.model.specs.Answer.{result};
-ghost use Rattle.file_format.specs.File.{chartIn};
-ghost use Rattle.chart_lists.specs.Lists.{lists};
-ghost use Rattle.reader.specs.Reading.{listsAfter, meantRead};
-ghost use Rattle.judgement.specs.Judging.{judgedIn, judgedNumbers, largest, testedAfter};
-use reader::Read;
+ghost use mathlib.Core.List.{List, map};
+ghost use Prim.Native.Nat.{ℕ, _+_, _≤_, _<_};
+ghost use lib.ListN.{length, getD, take, drop};
+ghost use Rattle.timer_set.specs.Members.{setOf};
+ghost use Rattle.lists.specs.Lists.{lowest, firstOf};
+ghost use Rattle.model.specs.Chart.{Transition};
+ghost use Rattle.model.specs.Live.{testsSet, isEmpty};
+ghost use Rattle.chart_lists.specs.Lists.{put};
+ghost use Rattle.judgement.specs.Tested.{TimersFor, TestsOf, testsIn};
+use timer_set::TimerSet;
 
-// A file's chart in arrays of the largest size, with the answer: its numbers, or a refusal.
-pub struct Judged {
-    pub answer: Read,
-    pub accepting: [u16; 256],
-    pub sources: [u16; 512],
-    pub targets: [u16; 512],
-    pub events: [u8; 512],
-    pub starts: [u64; 512],
-    pub counts: [u8; 512],
-    pub timers: [u8; 4096],
-    pub codes: [u8; 4096],
-    pub constants: [u16; 4096],
-    pub tested: [u64; 512],
+// The set of so many timers from the entry base on.
+fn set_of(timers: &[u8], base: usize, count: u8) -> u64
+    requires { ⌜ (base + count ≤ length (now timers)) × ((i : ℕ) → getD (now timers) i 0 < 64) ⌝ }
+    ensures { λ r. ⌜ r ≡ setOf (take count (drop base (now (timers .entry)))) ⌝ }
+{
+    let mut set = TimerSet::EMPTY;
+    let mut k: u8 = 0;
+    while k < count {
+        set = set.with(timers[base + k as usize]);
+        k += 1;
+    }
+    set.bits
+}
+
+// The set of the timers that each transition tests, over the front of `tested`.
+fn tested_sets(counts: &[u8], timers: &[u8], tested: &mut [u64])
+    requires { ⌜ TimersFor (now counts) (now timers) × (length (now counts) ≤ length (now tested)) ⌝ }
+    ensures { λ _. ⌜ ((rs : List Transition) → TestsOf rs (now (counts .entry)) (now (timers .entry)) → now (tested .exit) ≡ put (map testsSet rs) (now (tested .entry))) ⌝ }
+{
+    let n = counts.len();
+    let mut base: usize = 0;
+    let mut i: usize = 0;
+    while i < n {
+        let count = counts[i];
+        tested[i] = set_of(timers, base, count);
+        base += count as usize;
+        i += 1;
+    }
+}
+
+// The first set that is empty, or their number.
+fn first_empty(sets: &[u64]) -> usize
+    ensures { λ r. ⌜ r ≡ lowest (λ q. isEmpty (getD (now (sets .entry)) q 0)) (length (now (sets .entry))) ⌝ }
+{
+    let n = sets.len();
+    let mut q: usize = 0;
+    while q < n {
+        let set = TimerSet { bits: sets[q] };
+        if set.is_empty() {
+            return q;
+        }
+        q += 1;
+    }
+    n
+}
+
+// The first transition that tests a timer of its source's set, or their number.
+fn first_testing(sources: &[u16], tested: &[u64], sets: &[u64]) -> usize
+    requires { ⌜ (length (now tested) ≡ length (now sources)) × ((i : ℕ) → i < length (now sources) → getD (now sources) i 0 < length (now sets)) ⌝ }
+    ensures { λ r. ⌜ ((rs : List Transition) → now (sources .entry) ≡ map (λ (r : Transition). r .source) rs → now (tested .entry) ≡ map testsSet rs
+        → r ≡ firstOf (testsIn (now (sets .entry))) rs) ⌝ }
+{
+    let n = sources.len();
+    let mut i: usize = 0;
+    while i < n {
+        let q = sources[i] as usize;
+        let both = TimerSet { bits: tested[i] }.common(TimerSet { bits: sets[q] });
+        if !both.is_empty() {
+            return i;
+        }
+        i += 1;
+    }
+    n
 }
