@@ -2,7 +2,7 @@
 use mathlib.Core.Path.{_≡_, refl, sym, ap, _∙_}
 use mathlib.Core.Option.{some, Option·some-injective}
 use mathlib.Core.List.{List, [], _∷_}
-use Prim.Native.Nat.{ℕ, zero, suc, _≤_, _<_, _^_}
+use Prim.Native.Nat.{ℕ, zero, suc, _*_, _≤_, _<_}
 use native.Mathlib.Omega.{arith}
 use lib.ListN.{length, getD, getElem?, set}
 use lib.Seq.{ext-getD}
@@ -13,6 +13,7 @@ use Rattle.model.specs.Flow.{Edge, Flow, brings, round}
 use Rattle.model.proofs.Edges.{roundTo, roundTo-start, roundTo-step, roundTo-end}
 use Rattle.model.proofs.Flow.{Shaped}
 use Rattle.model.proofs.Rounds.{Words}
+use Rattle.model.proofs.Settled.{Changes, few-changes}
 use Rattle.model.proofs.Transitions.{nth-below, below-nth}
 use Rattle.flow.specs.Edges.{edgeAt, flowOf, Matching}
 
@@ -68,3 +69,12 @@ module _ (into from cut gain own : List ℕ) where
 
       is : (i : ℕ) {e : Edge} → getElem? (flowOf into from cut gain own .edges) i ≡ some e → e ≡ edgeAt into from cut gain i
       is i n = Option·some-injective _ _ (sym n ∙ nth-edge i (below i n))
+
+  -- the number of rounds that change a set
+  pub few-rounds : Shaped (flowOf into from cut gain own) → (k : ℕ) → Changes (flowOf into from cut gain own) k → k ≤ 64 * length own
+  unfolding flowOf
+  few-rounds s k m = few-changes (flowOf into from cut gain own) s k m
+
+  pub locations-are : flowOf into from cut gain own .locations ≡ length own
+  unfolding flowOf
+  locations-are = refl

@@ -7,6 +7,7 @@ ghost use Rattle.model.specs.Flow.{round as Flow·round, sameSets, settled, rou
 ghost use Rattle.flow.specs.Edges.{flowOf, Matching};
 use timer_set::TimerSet;
 
+// `to` becomes `from`.
 fn copy(from: &[u64], to: &mut [u64])
     requires { ⌜ length (now to) ≡ length (now from) ⌝ }
     ensures { λ _. ⌜ now (to .exit) ≡ now (from .entry) ⌝ }
@@ -18,6 +19,7 @@ fn copy(from: &[u64], to: &mut [u64])
     }
 }
 
+// Whether no set differs.
 fn same(a: &[u64], b: &[u64]) -> bool
     requires { ⌜ length (now b) ≡ length (now a) ⌝ }
     ensures { λ r. ⌜ r ≡ sameSets (now (a .entry)) (now (b .entry)) ⌝ }
@@ -77,8 +79,8 @@ pub fn settle<'a>(
 ) -> u32
     requires { ⌜ Matching (now into) (now from) (now cut) (now gain) (now own) ⌝ }
     requires { ⌜ length (now sets) ≡ length (now own) ⌝ }
-    ensures { λ _. ⌜ now (sets .exit) ≡ settled (flowOf (now (into .entry)) (now (from .entry)) (now (cut .entry)) (now (gain .entry)) (now (own .entry))) ⌝ }
-    ensures { λ r. ⌜ r ≡ rounds (flowOf (now (into .entry)) (now (from .entry)) (now (cut .entry)) (now (gain .entry)) (now (own .entry))) ⌝ }
+    ensures sets { λ _. ⌜ now (sets .exit) ≡ settled (flowOf (now (into .entry)) (now (from .entry)) (now (cut .entry)) (now (gain .entry)) (now (own .entry))) ⌝ }
+    ensures count { λ r. ⌜ r ≡ rounds (flowOf (now (into .entry)) (now (from .entry)) (now (cut .entry)) (now (gain .entry)) (now (own .entry))) ⌝ }
 {
     let n = own.len();
     let mut next = [0u64; 256];

@@ -10,10 +10,6 @@ use Rattle.flow.specs.Edges.{flowOf, Matching}
 use Rattle.flow.proofs.Lists.{round-start, round-step, round-end}
 use Rattle.flow.proofs.round.Statement.{statement}
 use Rattle.flow.proofs.round.Tie as tie
-use Rattle.flow.proofs.round.Reads as reads
-use Rattle.flow.proofs.round.Lts as lts
-use Rattle.flow.proofs.copy.Reads as copy-reads
-use Rattle.flow.proofs.with_edge.Reads as with-edge-reads
 
 abbrev Inv-loop : tie.InvT-loop
 Inv-loop into from cut gain own before after₀ n i₀ after i =
