@@ -1,11 +1,11 @@
 -- A loop that reads a strictly rising list of numbers of w bytes, whatever it keeps of them: the definition says this is how the list is read,
 -- and this is what each turn shows of it. Assumes nothing.
-use mathlib.Core.Path.{_≡_, subst}
+use mathlib.Core.Path.{_≡_}
 use mathlib.Core.List.{List, [], _∷_, _++_}
 use Prim.Native.Nat.{ℕ, suc, _+_, _≤_, _<_}
 use native.Mathlib.Numerals.{add-one}
 use lib.ListN.{drop}
-use Rattle.file_format.specs.Parse.{Parsed, value, refusal, below, entry, rising}
+use Rattle.file_format.specs.Parse.{value, refusal, below, entry, rising}
 use Rattle.file_format.proofs.Reading.{entry-refused, entry-in, entry-low}
 use Rattle.file_format.proofs.Items.{Turn, rising-first, turn-done, turn-refused, turn-again}
 

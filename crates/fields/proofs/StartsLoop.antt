@@ -1,10 +1,10 @@
 -- The loop that reads a transition's started timers and keeps their set. Assumes nothing.
-use mathlib.Core.Path.{_≡_, refl, sym, ap, _∙_}
+use mathlib.Core.Path.{_≡_, refl, ap, _∙_}
 use mathlib.Core.List.{List, [], _∷_, _++_, foldl}
 use Prim.Native.Nat.{ℕ, _+_, _≤_, _<_}
 use lib.ListN.{drop}
 use Rattle.timer_set.specs.Members.{added, setOf}
-use Rattle.file_format.specs.Parse.{Parsed, value, refusal, below, rising}
+use Rattle.file_format.specs.Parse.{value, refusal, below}
 use Rattle.fields.specs.Parts.{readStarts}
 use Rattle.fields.proofs.RisingLoop.{Rising, rises-first, rises-done, rises-refused, rises-low, rises-again}
 

@@ -1,16 +1,14 @@
 -- The fields of a test, of a record's ends and of its head, front to back: what each field's answer says of the whole. Assumes nothing.
-use mathlib.Core.Path.{_≡_, refl, sym, ap, _∙_}
-use mathlib.Core.Option.{Option, none, some}
+use mathlib.Core.Path.{_≡_}
+use mathlib.Core.Option.{none, some}
 use mathlib.Core.List.{List}
 use Prim.Native.Nat.{ℕ, _+_, _*_, _≤_, _<_}
 use native.Mathlib.Omega.{arith}
-use lib.Dec.{leb, eqb}
 use borrow.Author.Tests.{le-leb, lt-leb, eq-eqb, ne-eqb}
 use Rattle.comparison.specs.declared.Comparison.{Comparison}
 use Rattle.comparison.specs.Comparison.{comparisonOf}
 use Rattle.model.specs.Answer.{nowhere}
-use Rattle.model.specs.Chart.{Test}
-use Rattle.file_format.specs.Parse.{Parsed, value, refusal, bind, guard, number, below}
+use Rattle.file_format.specs.Parse.{Parsed, value, refusal, number, below}
 use Rattle.file_format.specs.Body.{readComparison, readTest, recordLength}
 use Rattle.fields.specs.Parts.{Ends, readEnds, readStarts, Head, readHead}
 

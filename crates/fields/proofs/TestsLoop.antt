@@ -1,11 +1,11 @@
 -- The loop that passes over a transition's tests. Assumes nothing.
-use mathlib.Core.Path.{_≡_, refl, sym, ap, _∙_}
+use mathlib.Core.Path.{_≡_}
 use mathlib.Core.List.{List, [], _∷_, _++_}
 use Prim.Native.Nat.{ℕ, _+_, _≤_, _<_}
 use native.Mathlib.Omega.{arith}
 use lib.ListN.{length, drop}
 use Rattle.model.specs.Chart.{Test}
-use Rattle.file_format.specs.Parse.{Parsed, value, refusal}
+use Rattle.file_format.specs.Parse.{value, refusal}
 use Rattle.file_format.specs.Body.{readTest, readTests}
 use Rattle.file_format.proofs.Items.{Turn, tests-first, turn-done, turn-refused, turn-again}
 use Rattle.fields.specs.Parts.{passTests}

@@ -6,27 +6,19 @@ use Rattle.fields.proofs.Answers.{number-value, number-refused}
 use borrow.Author.Needs.{needs}
 use Rattle.fields.proofs.byte_at.Statement.{statement}
 use Rattle.fields.proofs.byte_at.Tie as tie
-use Rattle.fields.proofs.byte_at.Reads as reads
-use Rattle.fields.proofs.byte_at.Lts as lts
-use Rattle.fields.proofs.wide.Reads as wide-reads
 
--- src/lib.rt:43:27
 shared-slice-read-wide : tie.Need-shared-slice-read-wide
 shared-slice-read-wide c = search needs
 
--- src/lib.rt:43:22
 wide-requires : tie.Need-wide-requires
 wide-requires c κs = search needs
 
--- src/lib.rt:43:35
 add-t9 : tie.Need-add-t9
 add-t9 c = search needs
 
--- src/lib.rt:39:1
 returns : tie.Need-returns
 returns c = number-value (rw (one-in _ _ (c .before .before .if1 .taken), c .wide .ensures .0)) (c .wide .ensures .1)
 
--- src/lib.rt:39:1
 returns-2 : tie.Need-returns-2
 returns-2 c = let a = c .before .before .args in number-refused refl (one-cut (now (a .s)) (a .at) (omega (arith, c .if1 .left)))
 

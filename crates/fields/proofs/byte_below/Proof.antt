@@ -2,31 +2,22 @@ use Rattle.fields.proofs.Answers.{below-refused, below-found, below-ove
 use borrow.Author.Needs.{needs}
 use Rattle.fields.proofs.byte_below.Statement.{statement}
 use Rattle.fields.proofs.byte_below.Tie as tie
-use Rattle.fields.proofs.byte_below.Reads as reads
-use Rattle.fields.proofs.byte_below.Lts as lts
-use Rattle.fields.proofs.byte_at.Reads as byte-at-reads
 
--- src/lib.rt:86:9
 byte-at-requires : tie.Need-byte-at-requires
 byte-at-requires c κs = search needs
 
--- src/lib.rt:87:22
 enum-known-a : tie.Need-enum-known-a
 enum-known-a c = search needs
 
--- src/lib.rt:88:9
 enum-told : tie.Need-enum-told
 enum-told c = search needs
 
--- src/lib.rt:88:9
 returns : tie.Need-returns
 returns c = below-refused (c .before .before .byte-at .ensures) _ _ _ (c .enum-told .given .1)
 
--- src/lib.rt:91:9
 returns-2 : tie.Need-returns-2
 returns-2 c = let d = c .before .before in below-found (d .before .before .byte-at .ensures) _ _ _ (d .a .given .1) (c .if1 .taken)
 
--- src/lib.rt:83:1
 returns-3 : tie.Need-returns-3
 returns-3 c = let d = c .before .before in below-over (d .before .before .byte-at .ensures) _ _ _ (d .a .given .1) (c .if1 .left)
 

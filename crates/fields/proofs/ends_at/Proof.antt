@@ -10,12 +10,6 @@ use Rattle.fields.proofs.Answers.{told, turned}
 use Rattle.fields.proofs.Steps.{ends-length, ends-source, ends-target, ends-event, ends-whole}
 use Rattle.fields.proofs.ends_at.Statement.{statement}
 use Rattle.fields.proofs.ends_at.Tie as tie
-use Rattle.fields.proofs.ends_at.Reads as reads
-use Rattle.fields.proofs.ends_at.Lts as lts
-use Rattle.fields.proofs.byte_at.Reads as byte-at-reads
-use Rattle.fields.proofs.pair_at.Reads as pair-at-reads
-use Rattle.fields.proofs.pair_below.Reads as pair-below-reads
-use Rattle.fields.proofs.refusal_of.Reads as refusal-of-reads
 
 -- what each field is where its value was bound
 length-at : (c : tie.After-known-told) → let a = c .before .before .before .before .before .args in
@@ -34,111 +28,86 @@ event-at : (c : tie.After-known-told4) → let a = c .before .before .before .be
     number 1 (drop (c .before .before .before .before .before .d .given .0 .1 .0) (now (a .s))) ≡ value (c .before .e .given .0 .0) (drop (c .before .e .given .0 .1 .0) (now (a .s)))
 event-at c = told (meant (now (c .before .before .before .before .before .before .before .before .before .before .before .before .before .before .before .before .before .args .s))) (c .before .e .given .1) (c .before .before .before .byte-at .ensures .reads)
 
--- src/lib.rt:198:9
 pair-at-requires : tie.Need-pair-at-requires
 pair-at-requires c κs = search needs
 
--- src/lib.rt:199:22
 enum-known-a : tie.Need-enum-known-a
 enum-known-a c = search needs
 
--- src/lib.rt:200:35
 enum-told : tie.Need-enum-told
 enum-told c = search needs
 
--- src/lib.rt:200:35
 refusal-of-requires : tie.Need-refusal-of-requires
 refusal-of-requires c κs = search needs
 
--- src/lib.rt:200:9
 returns : tie.Need-returns
 returns c =
     let a = c .before .before .before .before .before .args in
     ends-length (a .locations) (a .place) _ (turned (now (a .s)) (c .before .enum-told .given .1) (c .refusal-of .ensures) (c .before .before .before .pair-at .ensures .reads))
 
--- src/lib.rt:202:9
 pair-below-requires : tie.Need-pair-below-requires
 pair-below-requires c κs = search needs
 
--- src/lib.rt:203:22
 enum-known-b : tie.Need-enum-known-b
 enum-known-b c = search needs
 
--- src/lib.rt:204:35
 enum-told-2 : tie.Need-enum-told-2
 enum-told-2 c = search needs
 
--- src/lib.rt:204:35
 refusal-of-requires-2 : tie.Need-refusal-of-requires-2
 refusal-of-requires-2 c κs = search needs
 
--- src/lib.rt:204:9
 returns-2 : tie.Need-returns-2
 returns-2 c =
     let a = c .before .before .before .before .before .before .before .before .before .args in
     ends-source (a .locations) (a .place) _ (length-at (c .before .before .before .before)) (turned (now (a .s)) (c .before .enum-told2 .given .1) (c .refusal-of2 .ensures) (c .before .before .before .pair-below .ensures))
 
--- src/lib.rt:206:9
 pair-below-requires-2 : tie.Need-pair-below-requires-2
 pair-below-requires-2 c κs = search needs
 
--- src/lib.rt:207:22
 enum-known-d : tie.Need-enum-known-d
 enum-known-d c = search needs
 
--- src/lib.rt:208:35
 enum-told-3 : tie.Need-enum-told-3
 enum-told-3 c = search needs
 
--- src/lib.rt:208:35
 refusal-of-requires-3 : tie.Need-refusal-of-requires-3
 refusal-of-requires-3 c κs = search needs
 
--- src/lib.rt:208:9
 returns-3 : tie.Need-returns-3
 returns-3 c =
     let a = c .before .before .before .before .before .before .before .before .before .before .before .before .before .args in
     ends-target (a .locations) (a .place) _ (length-at (c .before .before .before .before .before .before .before .before)) (source-at (c .before .before .before .before)) (turned (now (a .s)) (c .before .enum-told3 .given .1) (c .refusal-of3 .ensures) (c .before .before .before .pair-below2 .ensures))
 
--- src/lib.rt:210:9
 byte-at-requires : tie.Need-byte-at-requires
 byte-at-requires c κs = search needs
 
--- src/lib.rt:211:22
 enum-known-e : tie.Need-enum-known-e
 enum-known-e c = search needs
 
--- src/lib.rt:212:35
 enum-told-4 : tie.Need-enum-told-4
 enum-told-4 c = search needs
 
--- src/lib.rt:212:35
 refusal-of-requires-4 : tie.Need-refusal-of-requires-4
 refusal-of-requires-4 c κs = search needs
 
--- src/lib.rt:212:9
 returns-4 : tie.Need-returns-4
 returns-4 c =
     let a = c .before .before .before .before .before .before .before .before .before .before .before .before .before .before .before .before .before .args in
     ends-event (a .locations) (a .place) _ (length-at (c .before .before .before .before .before .before .before .before .before .before .before .before)) (source-at (c .before .before .before .before .before .before .before .before)) (target-at (c .before .before .before .before)) (turned (now (a .s)) (c .before .enum-told4 .given .1) (c .refusal-of4 .ensures) (c .before .before .before .byte-at .ensures .reads))
 
--- src/lib.rt:215:17
 cast-t22 : tie.Need-cast-t22
 cast-t22 c = let d = c .before .before .before .before .before .before .before .before .before .before .before .before in record { fits = omega (arith, d .before .before .before .pair-at .ensures .small _ _ (d .before .a .given .1)) }
 
--- src/lib.rt:216:17
 cast-t23 : tie.Need-cast-t23
 cast-t23 c = record { fits = omega (arith, below-limit _ _ _ _ _ (source-at (c .before .before .before .before .before .before .before .before)), c .before .before .before .before .before .before .before .before .before .before .before .before .before .before .before .before .before .good) }
 
--- src/lib.rt:217:17
 cast-t24 : tie.Need-cast-t24
 cast-t24 c = record { fits = omega (arith, below-limit _ _ _ _ _ (target-at (c .before .before .before .before)), c .before .before .before .before .before .before .before .before .before .before .before .before .before .before .before .before .before .good) }
 
--- src/lib.rt:218:16
 cast-t25 : tie.Need-cast-t25
 cast-t25 c = record { fits = omega (arith, c .before .before .before .byte-at .ensures .small _ _ (c .before .e .given .1)) }
 
--- src/lib.rt:195:1
 returns-5 : tie.Need-returns-5
 returns-5 c = let a = c .before .before .before .before .before .before .before .before .before .before .before .before .before .before .before .before .before .args in ends-whole (a .locations) (a .place) _ (length-at (c .before .before .before .before .before .before .before .before .before .before .before .before)) (source-at (c .before .before .before .before .before .before .before .before)) (target-at (c .before .before .before .before)) (event-at c)
 

@@ -2,31 +2,22 @@ use Rattle.fields.proofs.Answers.{below-refused, below-found, below-ove
 use borrow.Author.Needs.{needs}
 use Rattle.fields.proofs.pair_below.Statement.{statement}
 use Rattle.fields.proofs.pair_below.Tie as tie
-use Rattle.fields.proofs.pair_below.Reads as reads
-use Rattle.fields.proofs.pair_below.Lts as lts
-use Rattle.fields.proofs.pair_at.Reads as pair-at-reads
 
--- src/lib.rt:100:9
 pair-at-requires : tie.Need-pair-at-requires
 pair-at-requires c κs = search needs
 
--- src/lib.rt:101:22
 enum-known-a : tie.Need-enum-known-a
 enum-known-a c = search needs
 
--- src/lib.rt:102:9
 enum-told : tie.Need-enum-told
 enum-told c = search needs
 
--- src/lib.rt:102:9
 returns : tie.Need-returns
 returns c = below-refused (c .before .before .pair-at .ensures) _ _ _ (c .enum-told .given .1)
 
--- src/lib.rt:105:9
 returns-2 : tie.Need-returns-2
 returns-2 c = let d = c .before .before in below-found (d .before .before .pair-at .ensures) _ _ _ (d .a .given .1) (c .if1 .taken)
 
--- src/lib.rt:97:1
 returns-3 : tie.Need-returns-3
 returns-3 c = let d = c .before .before in below-over (d .before .before .pair-at .ensures) _ _ _ (d .a .given .1) (c .if1 .left)
 

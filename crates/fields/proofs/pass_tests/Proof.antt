@@ -6,11 +6,6 @@ use Rattle.fields.proofs.Answers.{told}
 use Rattle.fields.proofs.TestsLoop.{Passing, tests-begin, tests-done, tests-refused, tests-again}
 use Rattle.fields.proofs.pass_tests.Statement.{statement}
 use Rattle.fields.proofs.pass_tests.Tie as tie
-use Rattle.fields.proofs.pass_tests.Reads as reads
-use Rattle.fields.proofs.pass_tests.Lts as lts
-use Rattle.fields.proofs.test_at.Reads as test-at-reads
-use Rattle.fields.proofs.test_refusal.Reads as test-refusal-reads
-use Rattle.fields.proofs.wide.Reads as wide-reads
 
 abbrev Inv-loop : tie.InvT-loop
 Inv-loop s at g timers place here₀ k₀ here k = Passing 2 timers place s at g here k
@@ -18,52 +13,41 @@ Inv-loop s at g timers place here₀ k₀ here k = Passing 2 timers place s at g
 abbrev μ-loop : tie.MeasureT-loop
 μ-loop s at g timers place here₀ k₀ here k = g - k
 
--- src/lib.rt:197:5
 loop-holds : tie.Need-loop-holds Inv-loop μ-loop
 loop-holds c = let a = c .before .args in tests-begin 2 (a .timers) (a .place) (now (a .s)) (a .at) (a .g)
 
--- src/lib.rt:198:13
 test-at-requires : tie.Need-test-at-requires Inv-loop μ-loop
 test-at-requires c κs = search needs
 
--- src/lib.rt:203:13
 enum-known-a : tie.Need-enum-known-a Inv-loop μ-loop
 enum-known-a c = search needs
 
--- src/lib.rt:206:35
 enum-told : tie.Need-enum-told Inv-loop μ-loop
 enum-told c = search needs
 
--- src/lib.rt:206:35
 test-refusal-requires : tie.Need-test-refusal-requires Inv-loop μ-loop
 test-refusal-requires c κs = search needs
 
--- src/lib.rt:206:13
 returns : tie.Need-returns Inv-loop μ-loop
 returns c =
     let d = c .before .before .before in
     rw (c .test-refusal .ensures, c .before .enum-told .given .1)
     (tests-refused (d .before .before .loop .inv) (d .before .loop-test .taken) (told (meantTest (now (d .before .before .before .before .args .s))) (c .before .enum-told .given .1) (d .test-at .ensures)))
 
--- src/lib.rt:209:9
 add-k : tie.Need-add-k Inv-loop μ-loop
 add-k c = search needs
 
--- src/lib.rt:197:5
 loop-less : tie.Need-loop-less Inv-loop μ-loop
 loop-less c = search needs
 
--- src/lib.rt:197:5
 loop-again : tie.Need-loop-again Inv-loop μ-loop
 loop-again c =
     let d = c .before .before .before in
     tests-again (d .before .before .loop .inv) (d .before .loop-test .taken) (told (meantTest (now (d .before .before .before .before .args .s))) (c .before .a .given .1) (d .test-at .ensures))
 
--- src/lib.rt:211:18
 wide-requires : tie.Need-wide-requires Inv-loop μ-loop
 wide-requires c κs = search needs
 
--- src/lib.rt:192:1
 returns-2 : tie.Need-returns-2 Inv-loop μ-loop
 returns-2 c = rw (c .wide .ensures .0) (tests-done (c .before .before .loop .inv) (c .before .loop-test .left))
 

@@ -3,53 +3,39 @@ use Rattle.fields.proofs.Answers.{first-refused, second-refused, both-f
 use borrow.Author.Needs.{needs}
 use Rattle.fields.proofs.quad_at.Statement.{statement}
 use Rattle.fields.proofs.quad_at.Tie as tie
-use Rattle.fields.proofs.quad_at.Reads as reads
-use Rattle.fields.proofs.quad_at.Lts as lts
-use Rattle.fields.proofs.pair_at.Reads as pair-at-reads
 
--- src/lib.rt:71:9
 pair-at-requires : tie.Need-pair-at-requires
 pair-at-requires c κs = search needs
 
--- src/lib.rt:72:22
 enum-known-a : tie.Need-enum-known-a
 enum-known-a c = search needs
 
--- src/lib.rt:73:9
 enum-told : tie.Need-enum-told
 enum-told c = search needs
 
--- src/lib.rt:73:9
 returns : tie.Need-returns
 returns c = first-refused 2 2 (c .before .before .pair-at .ensures) (c .enum-told .given .1)
 
--- src/lib.rt:75:9
 pair-at-requires-2 : tie.Need-pair-at-requires-2
 pair-at-requires-2 c κs = search needs
 
--- src/lib.rt:76:22
 enum-known-b : tie.Need-enum-known-b
 enum-known-b c = search needs
 
--- src/lib.rt:77:9
 enum-told-2 : tie.Need-enum-told-2
 enum-told-2 c = search needs
 
--- src/lib.rt:77:9
 returns-2 : tie.Need-returns-2
 returns-2 c =
     let d = c .before .before .before .before in
     second-refused 2 2 (d .before .before .pair-at .ensures) (d .a .given .1) (c .before .before .pair-at2 .ensures) (c .enum-told2 .given .1)
 
--- src/lib.rt:79:18
 mul-t9 : tie.Need-mul-t9
 mul-t9 c = let d = c .before .before .before .before .before in record { fits = omega (arith, d .before .before .pair-at .ensures .small _ _ (d .a .given .1)) }
 
--- src/lib.rt:79:18
 add-t10 : tie.Need-add-t10
 add-t10 c = record { fits = omega (arith, mul-t9 c .fits, c .before .before .before .pair-at2 .ensures .small _ _ (c .before .b .given .1)) }
 
--- src/lib.rt:68:1
 returns-3 : tie.Need-returns-3
 returns-3 c =
     let d = c .before .before .before .before .before in

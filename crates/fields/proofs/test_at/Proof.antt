@@ -1,5 +1,5 @@
 use mathlib.Core.Path.{_≡_, sym, ap, _∙_}
-use mathlib.Core.Option.{none, some}
+use mathlib.Core.Option.{some}
 use native.Mathlib.Omega.{arith}
 use lib.ListN.{drop}
 use denote.Ref.{now}
@@ -13,13 +13,6 @@ use Rattle.fields.proofs.Answers.{told, turned}
 use Rattle.fields.proofs.Steps.{test-timer, test-code, test-unknown, test-constant, test-whole}
 use Rattle.fields.proofs.test_at.Statement.{statement}
 use Rattle.fields.proofs.test_at.Tie as tie
-use Rattle.fields.proofs.test_at.Reads as reads
-use Rattle.fields.proofs.test_at.Lts as lts
-use Rattle.comparison.proofs.decode.Reads as decode-reads
-use Rattle.fields.proofs.byte_at.Reads as byte-at-reads
-use Rattle.fields.proofs.byte_below.Reads as byte-below-reads
-use Rattle.fields.proofs.pair_at.Reads as pair-at-reads
-use Rattle.fields.proofs.refusal_of.Reads as refusal-of-reads
 
 -- what each field is where its value was bound
 timer-at : (c : tie.After-known-told) → let a = c .before .before .before .before .before .args in
@@ -37,103 +30,80 @@ constant-at : (c : tie.After-known-told4) → let a = c .before .before .before 
     number 2 (drop (c .before .before .before .before .before .before .before .before .before .b .given .0 .1 .0) (now (a .s))) ≡ value (c .before .e .given .0 .0) (drop (c .before .e .given .0 .1 .0) (now (a .s)))
 constant-at c = told (meant (now (c .before .before .before .before .before .before .before .before .before .before .before .before .before .before .before .before .before .args .s))) (c .before .e .given .1) (c .before .before .before .pair-at .ensures .reads)
 
--- src/lib.rt:167:9
 byte-below-requires : tie.Need-byte-below-requires
 byte-below-requires c κs = search needs
 
--- src/lib.rt:168:22
 enum-known-a : tie.Need-enum-known-a
 enum-known-a c = search needs
 
--- src/lib.rt:169:35
 enum-told : tie.Need-enum-told
 enum-told c = search needs
 
--- src/lib.rt:169:35
 refusal-of-requires : tie.Need-refusal-of-requires
 refusal-of-requires c κs = search needs
 
--- src/lib.rt:169:9
 returns : tie.Need-returns
 returns c =
     let a = c .before .before .before .before .before .args in
     test-timer 2 (a .timers) (a .place) _ (turned (now (a .s)) (c .before .enum-told .given .1) (c .refusal-of .ensures) (c .before .before .before .byte-below .ensures))
 
--- src/lib.rt:171:9
 byte-at-requires : tie.Need-byte-at-requires
 byte-at-requires c κs = search needs
 
--- src/lib.rt:172:22
 enum-known-b : tie.Need-enum-known-b
 enum-known-b c = search needs
 
--- src/lib.rt:173:35
 enum-told-2 : tie.Need-enum-told-2
 enum-told-2 c = search needs
 
--- src/lib.rt:173:35
 refusal-of-requires-2 : tie.Need-refusal-of-requires-2
 refusal-of-requires-2 c κs = search needs
 
--- src/lib.rt:173:9
 returns-2 : tie.Need-returns-2
 returns-2 c =
     let a = c .before .before .before .before .before .before .before .before .before .args in
     test-code 2 (a .timers) (a .place) _ (timer-at (c .before .before .before .before)) (turned (now (a .s)) (c .before .enum-told2 .given .1) (c .refusal-of2 .ensures) (c .before .before .before .byte-at .ensures .reads))
 
--- src/lib.rt:175:32
 cast-decode : tie.Need-cast-decode
 cast-decode c = record { fits = omega (arith, c .before .before .before .byte-at .ensures .small _ _ (c .before .b .given .1)) }
 
--- src/lib.rt:175:9
 decode-requires : tie.Need-decode-requires
 decode-requires c κs = search needs
 
--- src/lib.rt:176:24
 enum-known-d : tie.Need-enum-known-d
 enum-known-d c = search needs
 
--- src/lib.rt:177:35
 enum-told-3 : tie.Need-enum-told-3
 enum-told-3 c = search needs
 
--- src/lib.rt:177:9
 returns-3 : tie.Need-returns-3
 returns-3 c =
     let a = c .before .before .before .before .before .before .before .before .before .before .before .before .args in
     test-unknown 2 (a .timers) (a .place) _ (timer-at (c .before .before .before .before .before .before .before)) (code-at (c .before .before .before)) (sym (c .before .before .decode .ensures) ∙ ap decodedOf (c .enum-told3 .given .1))
 
--- src/lib.rt:179:9
 pair-at-requires : tie.Need-pair-at-requires
 pair-at-requires c κs = search needs
 
--- src/lib.rt:180:22
 enum-known-e : tie.Need-enum-known-e
 enum-known-e c = search needs
 
--- src/lib.rt:181:35
 enum-told-4 : tie.Need-enum-told-4
 enum-told-4 c = search needs
 
--- src/lib.rt:181:35
 refusal-of-requires-3 : tie.Need-refusal-of-requires-3
 refusal-of-requires-3 c κs = search needs
 
--- src/lib.rt:181:9
 returns-4 : tie.Need-returns-4
 returns-4 c =
     let a = c .before .before .before .before .before .before .before .before .before .before .before .before .before .before .before .before .before .args in
     test-constant 2 (a .timers) (a .place) _ (timer-at (c .before .before .before .before .before .before .before .before .before .before .before .before)) (code-at (c .before .before .before .before .before .before .before .before)) (comparison-at (c .before .before .before .before)) (turned (now (a .s)) (c .before .enum-told4 .given .1) (c .refusal-of3 .ensures) (c .before .before .before .pair-at .ensures .reads))
 
--- src/lib.rt:184:16
 cast-t19 : tie.Need-cast-t19
 cast-t19 c = record { fits = omega (arith, below-limit _ _ _ _ _ (timer-at (c .before .before .before .before .before .before .before .before .before .before .before .before)), c .before .before .before .before .before .before .before .before .before .before .before .before .before .before .before .before .before .good) }
 
--- src/lib.rt:186:19
 cast-t22 : tie.Need-cast-t22
 cast-t22 c = record { fits = omega (arith, c .before .before .before .pair-at .ensures .small _ _ (c .before .e .given .1)) }
 
--- src/lib.rt:164:1
 returns-5 : tie.Need-returns-5
 returns-5 c = let a = c .before .before .before .before .before .before .before .before .before .before .before .before .before .before .before .before .before .args in test-whole 2 (a .timers) (a .place) _ (timer-at (c .before .before .before .before .before .before .before .before .before .before .before .before)) (code-at (c .before .before .before .before .before .before .before .before)) (comparison-at (c .before .before .before .before)) (constant-at c)
 
