@@ -2,12 +2,15 @@
 ghost use mathlib.Core.Path.{_≡_};
 ghost use mathlib.Core.List.{List, map};
 ghost use Prim.Native.Nat.{ℕ, _+_, _≤_, _<_};
-ghost use lib.ListN.{length, getD, take, drop};
+ghost use lib.ListN.{length, getD, take, drop, replicate};
 ghost use Rattle.timer_set.specs.Members.{setOf};
 ghost use Rattle.lists.specs.Lists.{lowest, firstOf};
-ghost use Rattle.model.specs.Chart.{Transition};
-ghost use Rattle.model.specs.Live.{testsSet, isEmpty};
+ghost use Rattle.model.specs.Chart.{Transition, Chart};
+ghost use Rattle.model.specs.Live.{testsSet, isEmpty, firstUnreached, firstUnstarted};
+ghost use Rattle.model.specs.Flow.{settled};
+ghost use Rattle.flow.specs.Edges.{flowOf};
 ghost use Rattle.chart_lists.specs.Lists.{put};
+ghost use Rattle.judgement.specs.Drawn.{Drawable, Drawn, ownSets};
 ghost use Rattle.judgement.specs.Tested.{TimersFor, TestsOf, testsIn};
 use timer_set::TimerSet;
 
@@ -74,4 +77,57 @@ fn first_testing(sources: &[u16], tested: &[u64], sets: &[u64]) -> usize
         i += 1;
     }
     n
+}
+
+// The sets that go forwards along the transitions, from all timers at the initial location, but for what each cuts.
+fn forward<'a>(
+    sources: &'a [u16],
+    targets: &'a [u16],
+    cut: &'a [u64],
+    initial: usize,
+    sets: &mut [u64],
+)
+    requires { ⌜ Drawable initial (length (now sets)) (now sources) (now targets) (now cut) ⌝ }
+    ensures { λ _. ⌜ now (sets .exit) ≡ settled (flowOf (now (targets .entry)) (now (sources .entry)) (now (cut .entry)) (replicate (length (now (sources .entry))) 0) (ownSets initial (length (now (sets .entry))))) ⌝ }
+{
+    let none = [0u64; 512];
+    let n = sources.len();
+    let mut own = [0u64; 256];
+    own[initial] = TimerSet::EVERY.bits;
+    let m = sets.len();
+    flow::settle(targets, sources, cut, &none[..n], &own[..m], sets);
+}
+
+// 9: the lowest location that no path reaches, or the number of locations.
+fn first_unreached<'a>(
+    sources: &'a [u16],
+    targets: &'a [u16],
+    initial: usize,
+    locations: usize,
+) -> usize
+    requires { ⌜ Drawable initial locations (now sources) (now targets) (replicate (length (now sources)) 0) ⌝ }
+    ensures { λ r. ⌜ ((c : Chart) (starts tested : List ℕ) → Drawn c initial locations (now (sources .entry)) (now (targets .entry)) starts tested → r ≡ firstUnreached c) ⌝ }
+{
+    let none = [0u64; 512];
+    let n = sources.len();
+    let mut sets = [0u64; 256];
+    forward(sources, targets, &none[..n], initial, &mut sets[..locations]);
+    first_empty(&sets[..locations])
+}
+
+// 10: the lowest transition with an unstarted test, or the number of transitions.
+fn first_unstarted<'a>(
+    sources: &'a [u16],
+    targets: &'a [u16],
+    starts: &'a [u64],
+    tested: &'a [u64],
+    initial: usize,
+    locations: usize,
+) -> usize
+    requires { ⌜ Drawable initial locations (now sources) (now targets) (now starts) × (length (now tested) ≡ length (now sources)) ⌝ }
+    ensures { λ r. ⌜ ((c : Chart) → Drawn c initial locations (now (sources .entry)) (now (targets .entry)) (now (starts .entry)) (now (tested .entry)) → r ≡ firstUnstarted c) ⌝ }
+{
+    let mut sets = [0u64; 256];
+    forward(sources, targets, starts, initial, &mut sets[..locations]);
+    first_testing(sources, tested, &sets[..locations])
 }

@@ -1,0 +1,57 @@
+use borrow.Author.Needs.{needs}
+use Rattle.judgement.proofs.first_unreached.Statement.{statement}
+use Rattle.judgement.proofs.first_unreached.Tie as tie
+use Rattle.judgement.proofs.first_unreached.Reads as reads
+use Rattle.judgement.proofs.first_unreached.Lts as lts
+use Rattle.judgement.proofs.first_empty.Reads as first-empty-reads
+use Rattle.judgement.proofs.forward.Reads as forward-reads
+
+-- src/lib.rt:114:31
+array-share-prefix-none : tie.Need-array-share-prefix-none
+array-share-prefix-none c = search needs
+
+-- src/lib.rt:114:31
+slice-aggregate-forward : tie.Need-slice-aggregate-forward
+slice-aggregate-forward c = ?
+
+-- src/lib.rt:114:52
+array-borrow-prefix-sets : tie.Need-array-borrow-prefix-sets
+array-borrow-prefix-sets c = ?
+
+-- src/lib.rt:114:52
+slice-aggregate-forward-2 : tie.Need-slice-aggregate-forward-2
+slice-aggregate-forward-2 c = ?
+
+-- src/lib.rt:114:5
+forward-requires : tie.Need-forward-requires
+forward-requires c κs = ?
+
+-- src/lib.rt:115:17
+array-share-prefix-sets : tie.Need-array-share-prefix-sets
+array-share-prefix-sets c = ?
+
+-- src/lib.rt:115:17
+slice-aggregate-first-empty : tie.Need-slice-aggregate-first-empty
+slice-aggregate-first-empty c = ?
+
+-- src/lib.rt:115:5
+first-empty-requires : tie.Need-first-empty-requires
+first-empty-requires c κs = search needs
+
+-- src/lib.rt:102:1
+returns : tie.Need-returns
+returns c = ?
+
+pub first-unreached-spec : {M : Type 1} → statement M
+first-unreached-spec =
+    tie.close
+    (tie.spec
+    array-share-prefix-none
+    slice-aggregate-forward
+    array-borrow-prefix-sets
+    slice-aggregate-forward-2
+    forward-requires
+    array-share-prefix-sets
+    slice-aggregate-first-empty
+    first-empty-requires
+    returns)
