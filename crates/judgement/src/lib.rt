@@ -111,7 +111,13 @@ fn first_unreached<'a>(
     let none = [0u64; 512];
     let n = sources.len();
     let mut sets = [0u64; 256];
-    forward(sources, targets, &none[..n], initial, &mut sets[..locations]);
+    forward(
+        sources,
+        targets,
+        &none[..n],
+        initial,
+        &mut sets[..locations],
+    );
     first_empty(&sets[..locations])
 }
 

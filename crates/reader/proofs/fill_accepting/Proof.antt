@@ -42,7 +42,7 @@ same-length c = c .before .before .before .before .loop .inv .0
 
 -- src/lib.rt:290:13
 returns : tie.Need-returns Inv-loop μ-loop
-returns c =     λ xs t e. let h = told (meant (now (c .before .before .before .before .before .before .before .args .s))) (c .enum-told .given .1) (c .before .before .entry-at .ensures) in
+returns c = λ xs t e. let h = told (meant (now (c .before .before .before .before .before .before .before .args .s))) (c .enum-told .given .1) (c .before .before .entry-at .ensures) in
     absurd (filled-never (c .before .before .before .before .loop .inv .1) (c .before .before .before .loop-test .taken) h xs t e)
 
 -- src/lib.rt:292:24
@@ -71,7 +71,7 @@ loop-less c = search needs
 
 -- src/lib.rt:287:5
 loop-again : tie.Need-loop-again Inv-loop μ-loop
-loop-again c =     let h = told (meant (now (c .before .before .before .before .before .before .before .before .args .s))) (c .before .a .given .1) (c .before .before .before .entry-at .ensures) in
+loop-again c = let h = told (meant (now (c .before .before .before .before .before .before .before .before .args .s))) (c .before .a .given .1) (c .before .before .before .entry-at .ensures) in
     (simp length-set (c .before .before .before .before .before .loop .inv .0), filled-again (c .before .before .before .before .before .loop .inv .1) (c .before .before .before .before .loop-test .taken) (c .before .before .before .before .before .before .before .before .pre) h)
 
 -- src/lib.rt:280:1

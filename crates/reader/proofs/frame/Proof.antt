@@ -26,7 +26,7 @@ enum-told c = search needs
 
 -- src/lib.rt:29:9
 returns : tie.Need-returns
-returns c =     let s = now (c .before .before .before .before .args .s) in
+returns c = let s = now (c .before .before .before .before .args .s) in
     no-version s (told (meant s) (c .enum-told .given .1) (c .before .before .byte-at .ensures .reads))
 
 -- src/lib.rt:34:9
@@ -43,7 +43,7 @@ enum-told-2 c = search needs
 
 -- src/lib.rt:36:9
 returns-2 : tie.Need-returns-2
-returns-2 c =     let s = now (c .before .before .before .before .before .before .before .before .args .s) in
+returns-2 c = let s = now (c .before .before .before .before .before .before .before .before .args .s) in
     no-length s (told (meant s) (c .before .before .before .before .a .given .1) (c .before .before .before .before .before .before .byte-at .ensures .reads)) (told (meant s) (c .enum-told2 .given .1) (c .before .before .quad-at .ensures .reads))
 
 -- src/lib.rt:41:8
@@ -52,17 +52,17 @@ add-if1 c = omega (arith, c .before .before .before .quad-at .ensures .small _ _
 
 -- src/lib.rt:42:9
 returns-3 : tie.Need-returns-3
-returns-3 c =     let s = now (c .before .before .before .before .before .before .before .before .before .before .args .s) in
+returns-3 c = let s = now (c .before .before .before .before .before .before .before .before .before .before .args .s) in
     wrong-length s (told (meant s) (c .before .before .before .before .before .before .a .given .1) (c .before .before .before .before .before .before .before .before .byte-at .ensures .reads)) (told (meant s) (c .before .before .b .given .1) (c .before .before .before .before .quad-at .ensures .reads)) (c .if1 .taken)
 
 -- src/lib.rt:48:9
 returns-4 : tie.Need-returns-4
-returns-4 c =     let s = now (c .before .before .before .before .before .before .before .before .before .before .before .args .s) in
+returns-4 c = let s = now (c .before .before .before .before .before .before .before .before .before .before .before .args .s) in
     wrong-version s (told (meant s) (c .before .before .before .before .before .before .before .a .given .1) (c .before .before .before .before .before .before .before .before .before .byte-at .ensures .reads)) (told (meant s) (c .before .before .before .b .given .1) (c .before .before .before .before .before .quad-at .ensures .reads)) (c .before .if1 .left) (c .if2 .taken)
 
 -- src/lib.rt:24:1
 returns-5 : tie.Need-returns-5
-returns-5 c =     let s = now (c .before .before .before .before .before .before .before .before .before .before .before .args .s) in
+returns-5 c = let s = now (c .before .before .before .before .before .before .before .before .before .before .before .args .s) in
     good-frame s (told (meant s) (c .before .before .before .before .before .before .before .a .given .1) (c .before .before .before .before .before .before .before .before .before .byte-at .ensures .reads)) (told (meant s) (c .before .before .before .b .given .1) (c .before .before .before .before .before .quad-at .ensures .reads)) (c .before .if1 .left) (c .if2 .left)
 
 pub frame-spec : {M : Type 1} → statement M

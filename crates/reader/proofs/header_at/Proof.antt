@@ -35,7 +35,7 @@ limits-refusal-requires c κs = search needs
 
 -- src/lib.rt:194:9
 returns : tie.Need-returns
-returns c =     let s = now (c .before .before .before .before .before .args .s) in
+returns c = let s = now (c .before .before .before .before .before .args .s) in
     rw (c .limits-refusal .ensures, c .before .enum-told .given .1) (header₀ s _ (told (meantLimits s) (c .before .enum-told .given .1) (c .before .before .before .limits-at .ensures)))
 
 -- src/lib.rt:196:9
@@ -56,7 +56,7 @@ refusal-of-requires c κs = search needs
 
 -- src/lib.rt:198:9
 returns-2 : tie.Need-returns-2
-returns-2 c =     let s = now (c .before .before .before .before .before .before .before .before .before .args .s) in
+returns-2 c = let s = now (c .before .before .before .before .before .before .before .before .before .args .s) in
     let e₀ = told (meantLimits s) (c .before .before .before .before .before .a .given .1) (c .before .before .before .before .before .before .before .limits-at .ensures) in
     rw (c .refusal-of .ensures, c .before .enum-told2 .given .1) (header₁ s _ _ e₀ (told (meant s) (c .before .enum-told2 .given .1) (c .before .before .before .pass-accepting .ensures)))
 
@@ -78,7 +78,7 @@ refusal-of-requires-2 c κs = search needs
 
 -- src/lib.rt:202:9
 returns-3 : tie.Need-returns-3
-returns-3 c =     let s = now (c .before .before .before .before .before .before .before .before .before .before .before .before .before .args .s) in
+returns-3 c = let s = now (c .before .before .before .before .before .before .before .before .before .before .before .before .before .args .s) in
     let e₀ = told (meantLimits s) (c .before .before .before .before .before .before .before .before .before .a .given .1) (c .before .before .before .before .before .before .before .before .before .before .before .limits-at .ensures) in
     let e₁ = told (meant s) (c .before .before .before .before .before .b .given .1) (c .before .before .before .before .before .before .before .pass-accepting .ensures) in
     rw (c .refusal-of2 .ensures, c .before .enum-told3 .given .1) (header₂ s _ _ e₀ e₁ (told (meant s) (c .before .enum-told3 .given .1) (c .before .before .before .pair-below .ensures)))
@@ -89,7 +89,7 @@ cast-t18 c = omega (arith, below-limit _ _ _ _ _ (told (meant (now (c .before .b
 
 -- src/lib.rt:182:1
 returns-4 : tie.Need-returns-4
-returns-4 c =     let s = now (c .before .before .before .before .before .before .before .before .before .before .before .before .before .args .s) in
+returns-4 c = let s = now (c .before .before .before .before .before .before .before .before .before .before .before .before .before .args .s) in
     let e₀ = told (meantLimits s) (c .before .before .before .before .before .before .before .before .before .a .given .1) (c .before .before .before .before .before .before .before .before .before .before .before .limits-at .ensures) in
     let e₁ = told (meant s) (c .before .before .before .before .before .b .given .1) (c .before .before .before .before .before .before .before .pass-accepting .ensures) in
     header₃ s _ _ e₀ e₁ _ (told (meant s) (c .before .d .given .1) (c .before .before .before .pair-below .ensures))

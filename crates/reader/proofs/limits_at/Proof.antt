@@ -32,12 +32,12 @@ refusal-of-requires c κs = search needs
 
 -- src/lib.rt:91:9
 returns : tie.Need-returns
-returns c =     let s = now (c .before .before .before .before .before .args .s) in
+returns c = let s = now (c .before .before .before .before .before .args .s) in
     rw (c .refusal-of .ensures, c .before .enum-told .given .1) (limits₀ _ (told (meant s) (c .before .enum-told .given .1) (c .before .before .before .pair-below .ensures)))
 
 -- src/lib.rt:94:9
 returns-2 : tie.Need-returns-2
-returns-2 c =     let s = now (c .before .before .before .before .before .before .args .s) in
+returns-2 c = let s = now (c .before .before .before .before .before .before .args .s) in
     limits₁ _ (told (meant s) (c .before .before .a .given .1) (c .before .before .before .before .pair-below .ensures)) (c .if1 .taken)
 
 -- src/lib.rt:99:9
@@ -58,7 +58,7 @@ refusal-of-requires-2 c κs = search needs
 
 -- src/lib.rt:101:9
 returns-3 : tie.Need-returns-3
-returns-3 c =     let s = now (c .before .before .before .before .before .before .before .before .before .before .args .s) in
+returns-3 c = let s = now (c .before .before .before .before .before .before .before .before .before .before .args .s) in
     let e₀ = told (meant s) (c .before .before .before .before .before .before .a .given .1) (c .before .before .before .before .before .before .before .before .pair-below .ensures) in
     rw (c .refusal-of2 .ensures, c .before .enum-told2 .given .1) (limits₂ _ e₀ (c .before .before .before .before .if1 .left) (told (meant s) (c .before .enum-told2 .given .1) (c .before .before .before .pair-below2 .ensures)))
 
@@ -80,7 +80,7 @@ refusal-of-requires-3 c κs = search needs
 
 -- src/lib.rt:105:9
 returns-4 : tie.Need-returns-4
-returns-4 c =     let s = now (c .before .before .before .before .before .before .before .before .before .before .before .before .before .before .args .s) in
+returns-4 c = let s = now (c .before .before .before .before .before .before .before .before .before .before .before .before .before .before .args .s) in
     let e₀ = told (meant s) (c .before .before .before .before .before .before .before .before .before .before .a .given .1) (c .before .before .before .before .before .before .before .before .before .before .before .before .pair-below .ensures) in
     let e₁ = told (meant s) (c .before .before .before .before .before .b .given .1) (c .before .before .before .before .before .before .before .pair-below2 .ensures) in
     rw (c .refusal-of3 .ensures, c .before .enum-told3 .given .1) (limits₃ _ e₀ (c .before .before .before .before .before .before .before .before .if1 .left) e₁ (told (meant s) (c .before .enum-told3 .given .1) (c .before .before .before .byte-below .ensures)))
@@ -103,7 +103,7 @@ refusal-of-requires-4 c κs = search needs
 
 -- src/lib.rt:109:9
 returns-5 : tie.Need-returns-5
-returns-5 c =     let s = now (c .before .before .before .before .before .before .before .before .before .before .before .before .before .before .before .before .before .before .args .s) in
+returns-5 c = let s = now (c .before .before .before .before .before .before .before .before .before .before .before .before .before .before .before .before .before .before .args .s) in
     let e₀ = told (meant s) (c .before .before .before .before .before .before .before .before .before .before .before .before .before .before .a .given .1) (c .before .before .before .before .before .before .before .before .before .before .before .before .before .before .before .before .pair-below .ensures) in
     let e₁ = told (meant s) (c .before .before .before .before .before .before .before .before .before .b .given .1) (c .before .before .before .before .before .before .before .before .before .before .before .pair-below2 .ensures) in
     let e₂ = told (meant s) (c .before .before .before .before .before .d .given .1) (c .before .before .before .before .before .before .before .byte-below .ensures) in
@@ -116,7 +116,7 @@ cast-t21 c = omega (arith, below-limit _ _ _ _ _ (told (meant (now (c .before .b
 
 -- src/lib.rt:113:18
 cast-t22 : tie.Need-cast-t22
-cast-t22 c =     let s = now (c .before .before .before .before .before .before .before .before .before .before .before .before .before .before .before .before .before .before .args .s) in
+cast-t22 c = let s = now (c .before .before .before .before .before .before .before .before .before .before .before .before .before .before .before .before .before .before .args .s) in
     let h = below-limit _ _ _ _ _ (told (meant s) (c .before .before .before .before .before .before .before .before .before .before .before .before .before .before .a .given .1) (c .before .before .before .before .before .before .before .before .before .before .before .before .before .before .before .before .pair-below .ensures)) in
     omega (arith, below-limit _ _ _ _ _ (told (meant s) (c .before .before .before .before .before .before .before .before .before .b .given .1) (c .before .before .before .before .before .before .before .before .before .before .before .pair-below2 .ensures)))
 
@@ -130,7 +130,7 @@ cast-t24 c = omega (arith, c .before .before .before .pair-at .ensures .small _ 
 
 -- src/lib.rt:86:1
 returns-6 : tie.Need-returns-6
-returns-6 c =     let s = now (c .before .before .before .before .before .before .before .before .before .before .before .before .before .before .before .before .before .before .args .s) in
+returns-6 c = let s = now (c .before .before .before .before .before .before .before .before .before .before .before .before .before .before .before .before .before .before .args .s) in
     let e₀ = told (meant s) (c .before .before .before .before .before .before .before .before .before .before .before .before .before .before .a .given .1) (c .before .before .before .before .before .before .before .before .before .before .before .before .before .before .before .before .pair-below .ensures) in
     let e₁ = told (meant s) (c .before .before .before .before .before .before .before .before .before .b .given .1) (c .before .before .before .before .before .before .before .before .before .before .before .pair-below2 .ensures) in
     let e₂ = told (meant s) (c .before .before .before .before .before .d .given .1) (c .before .before .before .before .before .before .before .byte-below .ensures) in
