@@ -2,3 +2,4 @@ pub mod Tested
 pub mod OwnSets
 pub mod Judging
 pub mod Lent
+pub mod Corollaries
