@@ -3,3 +3,4 @@ pub mod OwnSets
 pub mod Judging
 pub mod Lent
 pub mod Corollaries
+pub mod Largest
