@@ -1,9 +1,9 @@
 -- The flows of a chart are those of its lists, one edge for each transition, and these lists match. Assumes nothing.
 use mathlib.Core.Path.{_≡_, refl, sym, ap, _∙_, fun-ext}
-use mathlib.Core.Bool.{Bool, true, false}
-use mathlib.Core.Option.{some, Option·some-injective, Option·none-ne-some}
+use mathlib.Core.Bool.{true, false}
+use mathlib.Core.Option.{some}
 use mathlib.Core.List.{List, [], _∷_, map}
-use Prim.Native.Nat.{ℕ, zero, suc, _≤_, _<_}
+use Prim.Native.Nat.{ℕ, _<_}
 use native.Mathlib.Decide.{ℕ-discrete}
 use native.Mathlib.Omega.{arith}
 use lib.Dec.{eqb}
@@ -16,11 +16,12 @@ use Rattle.lists.proofs.Gather.{length-upTo, getD-upTo}
 use Rattle.lists.proofs.Membership.{nth-map}
 use Rattle.model.specs.Chart.{Transition, Chart}
 use Rattle.model.specs.Valid.{Valid, ValidTransition}
-use Rattle.model.specs.Flow.{Edge, Flow}
+use Rattle.model.specs.Flow.{Edge}
 use Rattle.model.specs.Live.{startsSet, testsSet, atInitial, liveFlow, unstartedFlow, reachedFlow}
 use Rattle.model.proofs.Rounds.{getD-empty}
 use Rattle.model.proofs.Transitions.{nth-below, all-nth}
 use Rattle.flow.specs.Edges.{edgeAt, flowOf, Matching}
+use Rattle.flow.proofs.EdgeLists.{getD-nth}
 
 -- the lists of a chart's transitions: sources, targets, what each starts and what each tests
 pub record Listed (c : Chart) (sources targets starts tests : List ℕ) : Type 0 where
@@ -34,11 +35,6 @@ abbrev pub initialSets : Chart → ℕ → List ℕ
 initialSets c w = set (replicate (c .locations) 0) (c .initial) w
 
 -- ---- lists made of the elements of one list
-
-getD-nth : {A : Type 0} (l : List A) (i : ℕ) {a : A} (d : A) → getElem? l i ≡ some a → getD l i d ≡ a
-getD-nth [] i d e = absurd (Option·none-ne-some _ e)
-getD-nth (x ∷ l) zero d e = Option·some-injective _ _ e
-getD-nth (x ∷ l) (suc i) d e = getD-nth l i d e
 
 module _ {A : Type 0} where
   none-each : (l : List A) → _≡_ {A = List ℕ} (replicate (length l) 0) (map (λ (a : A). 0) l)

@@ -1,3 +1,3 @@
-pub mod Lists
+pub mod EdgeLists
 pub mod Turns
 pub mod ChartFlows

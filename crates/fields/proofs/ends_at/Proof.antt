@@ -59,8 +59,9 @@ refusal-of-requires-2 c κs = search needs
 
 returns-2 : tie.Need-returns-2
 returns-2 c =
-    let a = c .before .before .before .before .before .before .before .before .before .args in
-    ends-source (a .locations) (a .place) _ (length-at (c .before .before .before .before)) (turned (now (a .s)) (c .before .enum-told2 .given .1) (c .refusal-of2 .ensures) (c .before .before .before .pair-below .ensures))
+    let c₁ = c .before .before .before .before in
+    let a = c₁ .before .before .before .before .before .args in
+    ends-source (a .locations) (a .place) _ (length-at c₁) (turned (now (a .s)) (c .before .enum-told2 .given .1) (c .refusal-of2 .ensures) (c .before .before .before .pair-below .ensures))
 
 pair-below-requires-2 : tie.Need-pair-below-requires-2
 pair-below-requires-2 c κs = search needs
@@ -76,8 +77,10 @@ refusal-of-requires-3 c κs = search needs
 
 returns-3 : tie.Need-returns-3
 returns-3 c =
-    let a = c .before .before .before .before .before .before .before .before .before .before .before .before .before .args in
-    ends-target (a .locations) (a .place) _ (length-at (c .before .before .before .before .before .before .before .before)) (source-at (c .before .before .before .before)) (turned (now (a .s)) (c .before .enum-told3 .given .1) (c .refusal-of3 .ensures) (c .before .before .before .pair-below2 .ensures))
+    let c₂ = c .before .before .before .before in
+    let c₁ = c₂ .before .before .before .before in
+    let a = c₁ .before .before .before .before .before .args in
+    ends-target (a .locations) (a .place) _ (length-at c₁) (source-at c₂) (turned (now (a .s)) (c .before .enum-told3 .given .1) (c .refusal-of3 .ensures) (c .before .before .before .pair-below2 .ensures))
 
 byte-at-requires : tie.Need-byte-at-requires
 byte-at-requires c κs = search needs
@@ -93,8 +96,11 @@ refusal-of-requires-4 c κs = search needs
 
 returns-4 : tie.Need-returns-4
 returns-4 c =
-    let a = c .before .before .before .before .before .before .before .before .before .before .before .before .before .before .before .before .before .args in
-    ends-event (a .locations) (a .place) _ (length-at (c .before .before .before .before .before .before .before .before .before .before .before .before)) (source-at (c .before .before .before .before .before .before .before .before)) (target-at (c .before .before .before .before)) (turned (now (a .s)) (c .before .enum-told4 .given .1) (c .refusal-of4 .ensures) (c .before .before .before .byte-at .ensures .reads))
+    let c₃ = c .before .before .before .before in
+    let c₂ = c₃ .before .before .before .before in
+    let c₁ = c₂ .before .before .before .before in
+    let a = c₁ .before .before .before .before .before .args in
+    ends-event (a .locations) (a .place) _ (length-at c₁) (source-at c₂) (target-at c₃) (turned (now (a .s)) (c .before .enum-told4 .given .1) (c .refusal-of4 .ensures) (c .before .before .before .byte-at .ensures .reads))
 
 cast-t22 : tie.Need-cast-t22
 cast-t22 c = let d = c .before .before .before .before .before .before .before .before .before .before .before .before in record { fits = omega (arith, d .before .before .before .pair-at .ensures .small _ _ (d .before .a .given .1)) }
@@ -109,7 +115,12 @@ cast-t25 : tie.Need-cast-t25
 cast-t25 c = record { fits = omega (arith, c .before .before .before .byte-at .ensures .small _ _ (c .before .e .given .1)) }
 
 returns-5 : tie.Need-returns-5
-returns-5 c = let a = c .before .before .before .before .before .before .before .before .before .before .before .before .before .before .before .before .before .args in ends-whole (a .locations) (a .place) _ (length-at (c .before .before .before .before .before .before .before .before .before .before .before .before)) (source-at (c .before .before .before .before .before .before .before .before)) (target-at (c .before .before .before .before)) (event-at c)
+returns-5 c =
+    let c₄ = c in
+    let c₃ = c₄ .before .before .before .before in
+    let c₂ = c₃ .before .before .before .before in
+    let c₁ = c₂ .before .before .before .before in
+    let a = c₁ .before .before .before .before .before .args in ends-whole (a .locations) (a .place) _ (length-at c₁) (source-at c₂) (target-at c₃) (event-at c₄)
 
 pub ends-at-spec : {M : Type 1} → statement M
 ends-at-spec =

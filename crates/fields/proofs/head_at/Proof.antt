@@ -62,8 +62,9 @@ refusal-of-requires c κs = search needs
 
 returns-2 : tie.Need-returns-2
 returns-2 c =
-    let a = c .before .before .before .before .before .before .before .before .before .args in
-    head-count (a .locations) (a .timers) (a .place) _ (ends-at (c .before .before .before .before)) (turned (now (a .s)) (c .before .enum-told2 .given .1) (c .refusal-of .ensures) (c .before .before .before .byte-below .ensures))
+    let c₁ = c .before .before .before .before in
+    let a = c₁ .before .before .before .before .before .args in
+    head-count (a .locations) (a .timers) (a .place) _ (ends-at c₁) (turned (now (a .s)) (c .before .enum-told2 .given .1) (c .refusal-of .ensures) (c .before .before .before .byte-below .ensures))
 
 starts-at-requires : tie.Need-starts-at-requires
 starts-at-requires c κs = search needs
@@ -79,8 +80,10 @@ refusal-of-requires-2 c κs = search needs
 
 returns-3 : tie.Need-returns-3
 returns-3 c =
-    let a = c .before .before .before .before .before .before .before .before .before .before .before .before .before .args in
-    head-starts (a .locations) (a .timers) (a .place) _ (ends-at (c .before .before .before .before .before .before .before .before)) (count-at (c .before .before .before .before)) (turned (now (a .s)) (c .before .enum-told3 .given .1) (c .refusal-of2 .ensures) (c .before .before .before .starts-at .ensures))
+    let c₂ = c .before .before .before .before in
+    let c₁ = c₂ .before .before .before .before in
+    let a = c₁ .before .before .before .before .before .args in
+    head-starts (a .locations) (a .timers) (a .place) _ (ends-at c₁) (count-at c₂) (turned (now (a .s)) (c .before .enum-told3 .given .1) (c .refusal-of2 .ensures) (c .before .before .before .starts-at .ensures))
 
 byte-at-requires : tie.Need-byte-at-requires
 byte-at-requires c κs = search needs
@@ -96,8 +99,11 @@ refusal-of-requires-3 c κs = search needs
 
 returns-4 : tie.Need-returns-4
 returns-4 c =
-    let a = c .before .before .before .before .before .before .before .before .before .before .before .before .before .before .before .before .before .args in
-    head-tests (a .locations) (a .timers) (a .place) _ (ends-at (c .before .before .before .before .before .before .before .before .before .before .before .before)) (count-at (c .before .before .before .before .before .before .before .before)) (starts-at (c .before .before .before .before)) (turned (now (a .s)) (c .before .enum-told4 .given .1) (c .refusal-of3 .ensures) (c .before .before .before .byte-at .ensures .reads))
+    let c₃ = c .before .before .before .before in
+    let c₂ = c₃ .before .before .before .before in
+    let c₁ = c₂ .before .before .before .before in
+    let a = c₁ .before .before .before .before .before .args in
+    head-tests (a .locations) (a .timers) (a .place) _ (ends-at c₁) (count-at c₂) (starts-at c₃) (turned (now (a .s)) (c .before .enum-told4 .given .1) (c .refusal-of3 .ensures) (c .before .before .before .byte-at .ensures .reads))
 
 cast-if1 : tie.Need-cast-if1
 cast-if1 c = search needs
@@ -113,21 +119,33 @@ add-if1-2 c = record { fits = omega (arith, below-limit _ _ _ _ _ (count-at (c .
 
 returns-5 : tie.Need-returns-5
 returns-5 c =
-    let a = c .before .before .before .before .before .before .before .before .before .before .before .before .before .before .before .before .before .before .args in
-    head-length (a .locations) (a .timers) (a .place) _ (ends-at (c .before .before .before .before .before .before .before .before .before .before .before .before .before)) (count-at (c .before .before .before .before .before .before .before .before .before)) (starts-at (c .before .before .before .before .before)) (tests-at (c .before)) (c .if1 .taken)
+    let c₄ = c .before in
+    let c₃ = c₄ .before .before .before .before in
+    let c₂ = c₃ .before .before .before .before in
+    let c₁ = c₂ .before .before .before .before in
+    let a = c₁ .before .before .before .before .before .args in
+    head-length (a .locations) (a .timers) (a .place) _ (ends-at c₁) (count-at c₂) (starts-at c₃) (tests-at c₄) (c .if1 .taken)
 
 returns-6 : tie.Need-returns-6
 returns-6 c =
-    let a = c .before .before .before .before .before .before .before .before .before .before .before .before .before .before .before .before .before .before .before .args in
-    head-most (a .locations) (a .timers) (a .place) _ (ends-at (c .before .before .before .before .before .before .before .before .before .before .before .before .before .before)) (count-at (c .before .before .before .before .before .before .before .before .before .before)) (starts-at (c .before .before .before .before .before .before)) (tests-at (c .before .before)) (c .before .if1 .left) (c .if2 .taken)
+    let c₄ = c .before .before in
+    let c₃ = c₄ .before .before .before .before in
+    let c₂ = c₃ .before .before .before .before in
+    let c₁ = c₂ .before .before .before .before in
+    let a = c₁ .before .before .before .before .before .args in
+    head-most (a .locations) (a .timers) (a .place) _ (ends-at c₁) (count-at c₂) (starts-at c₃) (tests-at c₄) (c .before .if1 .left) (c .if2 .taken)
 
 cast-t32 : tie.Need-cast-t32
 cast-t32 c = search needs
 
 returns-7 : tie.Need-returns-7
 returns-7 c =
-    let a = c .before .before .before .before .before .before .before .before .before .before .before .before .before .before .before .before .before .before .before .args in
-    head-whole (a .locations) (a .timers) (a .place) _ (ends-at (c .before .before .before .before .before .before .before .before .before .before .before .before .before .before)) (count-at (c .before .before .before .before .before .before .before .before .before .before)) (starts-at (c .before .before .before .before .before .before)) (tests-at (c .before .before)) (c .before .if1 .left) (c .if2 .left)
+    let c₄ = c .before .before in
+    let c₃ = c₄ .before .before .before .before in
+    let c₂ = c₃ .before .before .before .before in
+    let c₁ = c₂ .before .before .before .before in
+    let a = c₁ .before .before .before .before .before .args in
+    head-whole (a .locations) (a .timers) (a .place) _ (ends-at c₁) (count-at c₂) (starts-at c₃) (tests-at c₄) (c .before .if1 .left) (c .if2 .left)
 
 pub head-at-spec : {M : Type 1} → statement M
 head-at-spec =

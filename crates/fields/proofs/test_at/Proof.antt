@@ -61,8 +61,9 @@ refusal-of-requires-2 c κs = search needs
 
 returns-2 : tie.Need-returns-2
 returns-2 c =
-    let a = c .before .before .before .before .before .before .before .before .before .args in
-    test-code 2 (a .timers) (a .place) _ (timer-at (c .before .before .before .before)) (turned (now (a .s)) (c .before .enum-told2 .given .1) (c .refusal-of2 .ensures) (c .before .before .before .byte-at .ensures .reads))
+    let c₁ = c .before .before .before .before in
+    let a = c₁ .before .before .before .before .before .args in
+    test-code 2 (a .timers) (a .place) _ (timer-at c₁) (turned (now (a .s)) (c .before .enum-told2 .given .1) (c .refusal-of2 .ensures) (c .before .before .before .byte-at .ensures .reads))
 
 cast-decode : tie.Need-cast-decode
 cast-decode c = record { fits = omega (arith, c .before .before .before .byte-at .ensures .small _ _ (c .before .b .given .1)) }
@@ -78,8 +79,10 @@ enum-told-3 c = search needs
 
 returns-3 : tie.Need-returns-3
 returns-3 c =
-    let a = c .before .before .before .before .before .before .before .before .before .before .before .before .args in
-    test-unknown 2 (a .timers) (a .place) _ (timer-at (c .before .before .before .before .before .before .before)) (code-at (c .before .before .before)) (sym (c .before .before .decode .ensures) ∙ ap decodedOf (c .enum-told3 .given .1))
+    let c₂ = c .before .before .before in
+    let c₁ = c₂ .before .before .before .before in
+    let a = c₁ .before .before .before .before .before .args in
+    test-unknown 2 (a .timers) (a .place) _ (timer-at c₁) (code-at c₂) (sym (c .before .before .decode .ensures) ∙ ap decodedOf (c .enum-told3 .given .1))
 
 pair-at-requires : tie.Need-pair-at-requires
 pair-at-requires c κs = search needs
@@ -95,8 +98,11 @@ refusal-of-requires-3 c κs = search needs
 
 returns-4 : tie.Need-returns-4
 returns-4 c =
-    let a = c .before .before .before .before .before .before .before .before .before .before .before .before .before .before .before .before .before .args in
-    test-constant 2 (a .timers) (a .place) _ (timer-at (c .before .before .before .before .before .before .before .before .before .before .before .before)) (code-at (c .before .before .before .before .before .before .before .before)) (comparison-at (c .before .before .before .before)) (turned (now (a .s)) (c .before .enum-told4 .given .1) (c .refusal-of3 .ensures) (c .before .before .before .pair-at .ensures .reads))
+    let c₃ = c .before .before .before .before in
+    let c₂ = c₃ .before .before .before .before in
+    let c₁ = c₂ .before .before .before .before in
+    let a = c₁ .before .before .before .before .before .args in
+    test-constant 2 (a .timers) (a .place) _ (timer-at c₁) (code-at c₂) (comparison-at c₃) (turned (now (a .s)) (c .before .enum-told4 .given .1) (c .refusal-of3 .ensures) (c .before .before .before .pair-at .ensures .reads))
 
 cast-t19 : tie.Need-cast-t19
 cast-t19 c = record { fits = omega (arith, below-limit _ _ _ _ _ (timer-at (c .before .before .before .before .before .before .before .before .before .before .before .before)), c .before .before .before .before .before .before .before .before .before .before .before .before .before .before .before .before .before .good) }
@@ -105,7 +111,12 @@ cast-t22 : tie.Need-cast-t22
 cast-t22 c = record { fits = omega (arith, c .before .before .before .pair-at .ensures .small _ _ (c .before .e .given .1)) }
 
 returns-5 : tie.Need-returns-5
-returns-5 c = let a = c .before .before .before .before .before .before .before .before .before .before .before .before .before .before .before .before .before .args in test-whole 2 (a .timers) (a .place) _ (timer-at (c .before .before .before .before .before .before .before .before .before .before .before .before)) (code-at (c .before .before .before .before .before .before .before .before)) (comparison-at (c .before .before .before .before)) (constant-at c)
+returns-5 c =
+    let c₄ = c in
+    let c₃ = c₄ .before .before .before .before in
+    let c₂ = c₃ .before .before .before .before in
+    let c₁ = c₂ .before .before .before .before in
+    let a = c₁ .before .before .before .before .before .args in test-whole 2 (a .timers) (a .place) _ (timer-at c₁) (code-at c₂) (comparison-at c₃) (constant-at c₄)
 
 pub test-at-spec : {M : Type 1} → statement M
 test-at-spec =

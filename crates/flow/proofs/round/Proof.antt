@@ -1,13 +1,13 @@
 -- `round` starts from the locations' own sets and joins to them what each edge brings, one edge a turn. Assumes nothing.
 use mathlib.Core.Path.{_≡_, refl, ap, _∙_}
-use Prim.Native.Nat.{ℕ, _-_, _≤_, _<_}
+use Prim.Native.Nat.{_-_, _≤_, _<_}
 use native.Mathlib.Numerals.{add-one}
 use native.Mathlib.Omega.{arith}
 use lib.ListN.{length, getD, length-set}
 use borrow.Author.Needs.{needs}
 use Rattle.model.proofs.Edges.{roundTo}
 use Rattle.flow.specs.Edges.{flowOf, Matching}
-use Rattle.flow.proofs.Lists.{round-start, round-step, round-end}
+use Rattle.flow.proofs.EdgeLists.{round-start, round-step, round-end}
 use Rattle.flow.proofs.round.Statement.{statement}
 use Rattle.flow.proofs.round.Tie as tie
 

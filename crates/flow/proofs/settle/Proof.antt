@@ -11,7 +11,7 @@ use Rattle.model.specs.Flow.{Flow, roundsOf}
 use Rattle.model.proofs.Flow.{Shaped}
 use Rattle.model.proofs.Settled.{Changes}
 use Rattle.flow.specs.Edges.{flowOf, Matching}
-use Rattle.flow.proofs.Lists.{shaped-lists, few-rounds, locations-are}
+use Rattle.flow.proofs.EdgeLists.{shaped-lists, few-rounds, locations-are}
 use Rattle.flow.proofs.Turns.{Turn, take-empty, next-front, goes-on, ends-here}
 use Rattle.flow.proofs.settle.Statement.{statement}
 use Rattle.flow.proofs.settle.Tie as tie

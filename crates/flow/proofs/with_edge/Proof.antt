@@ -1,5 +1,4 @@
 -- `with_edge` joins what an edge brings to a set. Assumes nothing.
-use mathlib.Core.Path.{_≡_}
 use borrow.Author.Needs.{needs}
 use Rattle.flow.proofs.with_edge.Statement.{statement}
 use Rattle.flow.proofs.with_edge.Tie as tie

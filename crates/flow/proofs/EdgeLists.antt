@@ -1,6 +1,6 @@
 -- The flow of lists of code: a round edge by edge, as its loop goes, and what the laws of rounds ask of a flow. Assumes nothing.
 use mathlib.Core.Path.{_≡_, refl, sym, ap, _∙_}
-use mathlib.Core.Option.{some, Option·some-injective}
+use mathlib.Core.Option.{some, Option·some-injective, Option·none-ne-some}
 use mathlib.Core.List.{List, [], _∷_}
 use Prim.Native.Nat.{ℕ, zero, suc, _*_, _≤_, _<_}
 use native.Mathlib.Omega.{arith}
@@ -9,7 +9,7 @@ use lib.Seq.{ext-getD}
 use Rattle.timer_set.specs.Members.{joined, minus}
 use Rattle.lists.specs.Lists.{upTo}
 use Rattle.lists.proofs.Gather.{length-upTo, getD-upTo}
-use Rattle.model.specs.Flow.{Edge, Flow, brings, round}
+use Rattle.model.specs.Flow.{Edge, brings, round}
 use Rattle.model.proofs.Edges.{roundTo, roundTo-start, roundTo-step, roundTo-end}
 use Rattle.model.proofs.Flow.{Shaped}
 use Rattle.model.proofs.Rounds.{Words}
@@ -18,16 +18,17 @@ use Rattle.model.proofs.Transitions.{nth-below, below-nth}
 use Rattle.flow.specs.Edges.{edgeAt, flowOf, Matching}
 
 module _ {A : Type 0} where
-  nth-getD : (l : List A) (i : ℕ) (d : A) → i < length l → getElem? l i ≡ some (getD l i d)
-  nth-getD [] i d h = absurd (omega arith)
-  nth-getD (x ∷ l) zero d h = refl
-  nth-getD (x ∷ l) (suc i) d h = nth-getD l i d (omega arith)
+  pub getD-nth : (l : List A) (i : ℕ) {a : A} (d : A) → getElem? l i ≡ some a → getD l i d ≡ a
+  getD-nth [] i d e = absurd (Option·none-ne-some _ e)
+  getD-nth (x ∷ l) zero d e = Option·some-injective _ _ e
+  getD-nth (x ∷ l) (suc i) d e = getD-nth l i d e
 
   upTo-getD : (l : List A) (d : A) → upTo (λ i. getD l i d) (length l) ≡ l
   upTo-getD l d = ext-getD d _ l (length-upTo _ (length l)) (λ i h. getD-upTo _ (length l) i d (omega (arith, length-upTo (λ i. getD l i d) (length l))))
 
   nth-upTo : (f : ℕ → A) (n i : ℕ) → i < n → getElem? (upTo f n) i ≡ some (f i)
-  nth-upTo f n i h = nth-getD (upTo f n) i (f i) (omega (arith, length-upTo f n)) ∙ ap some (getD-upTo f n i (f i) h)
+  nth-upTo f n i h = let x = nth-below (upTo f n) i (omega (arith, length-upTo f n)) in
+      x .1 ∙ ap some (sym (getD-nth (upTo f n) i (f i) (x .1)) ∙ getD-upTo f n i (f i) h)
 
 module _ (into from cut gain own : List ℕ) where
   nth-edge : (i : ℕ) → i < length into → getElem? (flowOf into from cut gain own .edges) i ≡ some (edgeAt into from cut gain i)
