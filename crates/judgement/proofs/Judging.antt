@@ -1,17 +1,25 @@
 -- What the code finds in a chart's lists is what the chart's definitions say, for any valid chart that they are of. Assumes nothing.
 use mathlib.Core.Path.{_≡_, refl, sym, ap, ap₂, _∙_}
-use mathlib.Core.Bool.{Bool, not}
+use mathlib.Core.Bool.{true}
 use mathlib.Core.List.{List, map}
-use Prim.Native.Nat.{ℕ}
-use lib.ListN.{length, getD, replicate}
+use Prim.Native.Nat.{ℕ, _≤_, _<_}
+use native.Mathlib.Omega.{arith}
+use lib.Dec.{leb}
+use lib.ListN.{length, getD, replicate, length-map}
+use borrow.Author.Tests.{le-leb, lt-leb}
 use Rattle.timer_set.specs.Members.{everyTimer}
 use Rattle.lists.specs.Lists.{lowest, firstOf}
+use Rattle.model.specs.Answer.{result, refused}
 use Rattle.model.specs.Chart.{Transition, Chart}
 use Rattle.model.specs.Flow.{Flow, settled}
 use Rattle.model.specs.Live.{testsSet, reachedFlow, reachedSets, unstartedFlow, unstartedSets, isEmpty, firstUnreached, firstUnstarted}
+use Rattle.model.specs.Judge.{judged}
 use Rattle.model.proofs.Settled.{length-settled}
 use Rattle.flow.specs.Edges.{flowOf}
 use Rattle.flow.proofs.ChartFlows.{Listed, initialSets, reached-flow, unstarted-flow}
+use Rattle.chart_lists.specs.declared.Numbers.{Numbers}
+use Rattle.chart_lists.specs.Numbers.{numbersOf}
+use Rattle.judgement.specs.Judging.{numbersJudged}
 use Rattle.judgement.specs.Drawn.{ownSets, Drawn}
 use Rattle.judgement.specs.Tested.{testsIn}
 
@@ -44,3 +52,25 @@ module _ {c : Chart} {initial locations : ℕ} {sources targets starts tested : 
       → r ≡ firstUnstarted c
   unfolding firstUnstarted testsIn
   unstarted-is sets e f = rw (e ∙ unstarted-are) at (f (c .transitions) (d .listed .sources-are) (d .listed .tests-are))
+
+  -- ---- the answer
+
+  transitions-are : length sources ≡ length (c .transitions)
+  transitions-are = ap length (d .listed .sources-are) ∙ length-map (c .transitions) _
+
+  module _ {lost : ℕ} (l : lost ≡ firstUnreached c) where
+    pub answer-9 : lost < locations → refused 9 lost ≡ numbersJudged c
+    unfolding numbersJudged judged
+    answer-9 h = rw (← l, lt-leb (c .locations) lost (omega (arith, d .locations-are)))
+
+    module _ (h : locations ≤ lost) {early : ℕ} (e : early ≡ firstUnstarted c) where
+      reached : leb (c .locations) (firstUnreached c) ≡ true
+      reached = rw (← l) (le-leb (c .locations) lost (omega (arith, d .locations-are)))
+
+      pub answer-10 : early < length sources → refused 10 early ≡ numbersJudged c
+      unfolding numbersJudged judged
+      answer-10 g = rw (reached, ← e, lt-leb (length (c .transitions)) early (omega (arith, transitions-are)))
+
+      pub answer-chart : {m : Numbers} → length sources ≤ early → m ≡ numbersOf c → result m ≡ numbersJudged c
+      unfolding numbersJudged judged
+      answer-chart g k = rw (reached, ← e, le-leb (length (c .transitions)) early (omega (arith, transitions-are))) (ap result k)

@@ -19,6 +19,13 @@ judgedIn bs = then (chartIn bs) judged
 unfoldable pub judgedNumbers : List ℕ → Answer Numbers
 judgedNumbers bs = then (judgedIn bs) (λ c. result (numbersOf c))
 
+-- the same by parts: of a file 1 to 8 alone, and of a chart 9 and 10
+unfoldable pub numbersRead : List ℕ → Answer Numbers
+numbersRead bs = then (chartIn bs) (λ c. result (numbersOf c))
+
+unfoldable pub numbersJudged : Chart → Answer Numbers
+numbersJudged c = then (judged c) (λ d. result (numbersOf d))
+
 -- lists of the largest size, with zeros
 unfoldable pub largest : Lists
 largest = lists (replicate 256 0) (replicate 512 0) (replicate 512 0) (replicate 512 0) (replicate 512 0) (replicate 512 0) (replicate 4096 0)
