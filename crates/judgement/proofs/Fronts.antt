@@ -4,8 +4,7 @@ use mathlib.Core.List.{List, [], _∷_, map, _++_, map-append}
 use Prim.Native.Nat.{ℕ, zero, suc, _+_, _≤_, _<_}
 use native.Mathlib.Omega.{arith}
 use lib.ListN.{length, getD, take, drop, replicate, length-append, length-map, length-replicate}
-use lib.Seq.{take-at, getD-drop}
-use Rattle.timer_set.specs.Members.{everyTimer}
+use lib.Seq.{getD-drop}
 use Rattle.lists.specs.Rising.{All}
 use Rattle.model.specs.Answer.{Answer, result, refused}
 use Rattle.model.specs.Chart.{Test, Transition, Chart}
@@ -19,20 +18,20 @@ use Rattle.file_format.proofs.Answers.{result-refused}
 use Rattle.chart_lists.specs.Lists.{Lists, lists, listsOf, laid, allTests, put}
 use Rattle.chart_lists.specs.Numbers.{numbersOf}
 use Rattle.chart_lists.specs.declared.Numbers.{Numbers}
-use Rattle.chart_lists.proofs.Put.{length-put}
-use Rattle.flow.proofs.ChartFlows.{Listed, unstarted-matching}
+use Rattle.chart_lists.proofs.Put.{length-put, take-put}
+use Rattle.flow.proofs.ChartFlows.{unstarted-matching}
 use Rattle.reader.specs.Reading.{listsAfter}
 use Rattle.judgement.specs.Judging.{largest, numbersRead, numbersJudged, judgedNumbers, judgedIn, testedAfter}
 use Rattle.judgement.specs.Drawn.{Drawable, Drawn}
 use Rattle.judgement.specs.Tested.{total, TimersFor, TestsOf}
 use Rattle.judgement.proofs.Largest.{all-tests}
+use Rattle.judgement.proofs.Judging.{listed}
 
 -- ---- a list over the front of zeros
 
 module _ (xs : List ℕ) {n : ℕ} (size : ℕ) (e : length xs ≡ n) (h : n ≤ size) where
   pub front : {l : List ℕ} → l ≡ put xs (replicate size 0) → take n l ≡ xs
-  unfolding put
-  front f = rw f (take-at xs _ n e)
+  front f = rw f (take-put xs (replicate size 0) n e)
 
   pub front-length : {l : List ℕ} → l ≡ put xs (replicate size 0) → length l ≡ size
   front-length f = ap length f ∙ length-put xs (replicate size 0) (omega (arith, length-replicate {A = ℕ} size 0)) ∙ length-replicate {A = ℕ} size 0
@@ -140,19 +139,17 @@ module _ {bs : List ℕ} {m : Numbers} {sources targets starts counts timers : L
       valid = h .valid;
       initial-is = ap (λ (k : Numbers). k .initial) (h .numbers-are);
       locations-are = ap (λ (k : Numbers). k .locations) (h .numbers-are);
-      listed = record {
-        sources-are = of-all _ (h .sources-are);
-        targets-are = of-all _ (h .targets-are);
-        starts-are = of-all _ (h .starts-are);
-        tests-are = of-all _ e;
-      };
+      sources-are = of-all _ (h .sources-are);
+      targets-are = of-all _ (h .targets-are);
+      starts-are = of-all _ (h .starts-are);
+      tested-are = of-all _ e;
     }
 
     pub drawable : Drawable (m .initial) (m .locations) (take (m .transitions) sources) (take (m .transitions) targets) (take (m .transitions) starts)
     drawable = record {
       few = omega (arith, few, lent-part _ (h .sources-are));
       starts-inside = rw (drawn .initial-is, drawn .locations-are) (h .valid .initial);
-      matching = rw (drawn .initial-is, drawn .locations-are) (unstarted-matching (h .valid) (drawn .listed));
+      matching = rw (drawn .initial-is, drawn .locations-are) (unstarted-matching (h .valid) (listed drawn));
     }
 
     pub same-parts : length (take (m .transitions) tested) ≡ length (take (m .transitions) sources)

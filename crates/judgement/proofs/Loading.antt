@@ -1,15 +1,14 @@
 -- What is read into lists of the largest size. Assumes nothing.
-use mathlib.Core.Path.{_≡_, refl, sym, ap, _∙_}
+use mathlib.Core.Path.{_≡_, refl}
 use mathlib.Core.List.{List, [], _∷_}
 use Prim.Native.Nat.{ℕ, suc, _<_}
 use lib.ListN.{getD}
-use Rattle.model.specs.Answer.{Answer, result, refused, then}
+use Rattle.model.specs.Answer.{Answer, result, refused}
 use Rattle.model.specs.Chart.{Chart}
 use Rattle.file_format.specs.File.{chartIn}
 use Rattle.file_format.proofs.RoundTrip.{Bytes}
 use Rattle.file_format.proofs.File.{reads-valid}
 use Rattle.chart_lists.specs.Lists.{Lists}
-use Rattle.chart_lists.specs.Numbers.{numbersOf}
 use Rattle.chart_lists.specs.declared.Numbers.{Numbers}
 use Rattle.reader.specs.Reading.{readInto, readAnswer, listsAfter}
 use Rattle.judgement.specs.Judging.{largest, numbersRead}

@@ -1,6 +1,6 @@
 -- The judgement that all calls share: a file's refusals 1 to 8, then 9, then 10; and what it hands on: the chart in lists of the largest size, with
 -- the set of the timers that each transition tests. Assumes nothing.
-use mathlib.Core.List.{List, [], _∷_, map}
+use mathlib.Core.List.{List, map}
 use Prim.Native.Nat.{ℕ}
 use lib.ListN.{replicate}
 use Rattle.model.specs.Answer.{Answer, result, refused, then}

@@ -10,10 +10,10 @@ ghost use Rattle.model.specs.Live.{testsSet, isEmpty, firstUnreached, firstUnst
 ghost use Rattle.model.specs.Flow.{settled};
 ghost use Rattle.flow.specs.Edges.{flowOf};
 ghost use Rattle.chart_lists.specs.Lists.{lists, put};
+ghost use Rattle.chart_lists.specs.Numbers.{numbersOf};
 ghost use Rattle.file_format.specs.File.{chartIn};
 ghost use Rattle.reader.specs.Reading.{listsAfter, meantRead};
-ghost use Rattle.judgement.specs.Judging.{judgedIn, judgedNumbers, largest, testedAfter, numbersRead, numbersJudged};
-ghost use Rattle.chart_lists.specs.Numbers.{numbersOf};
+ghost use Rattle.judgement.specs.Judging.{judgedNumbers, numbersRead, numbersJudged, largest, testedAfter};
 ghost use Rattle.judgement.specs.Drawn.{Drawable, Drawn, ownSets};
 ghost use Rattle.judgement.specs.Tested.{TimersFor, TestsOf, testsIn};
 use chart_lists::Numbers;
@@ -155,12 +155,12 @@ fn forward<'a>(
     requires { ⌜ Drawable initial (length (now sets)) (now sources) (now targets) (now cut) ⌝ }
     ensures { λ _. ⌜ now (sets .exit) ≡ settled (flowOf (now (targets .entry)) (now (sources .entry)) (now (cut .entry)) (replicate (length (now (sources .entry))) 0) (ownSets initial (length (now (sets .entry))))) ⌝ }
 {
-    let none = [0u64; 512];
+    let gain = [0u64; 512];
     let n = sources.len();
     let mut own = [0u64; 256];
     own[initial] = TimerSet::EVERY.bits;
     let m = sets.len();
-    flow::settle(targets, sources, cut, &none[..n], &own[..m], sets);
+    flow::settle(targets, sources, cut, &gain[..n], &own[..m], sets);
 }
 
 // 9: the lowest location that no path reaches, or the number of locations.

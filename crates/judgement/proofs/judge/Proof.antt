@@ -1,4 +1,6 @@
-use mathlib.Core.Path.{_≡_, refl, sym, ap, _∙_}
+-- `judge`: a refusal of the file stands; a chart's lists stand in front of the arrays, its tested sets are made, and 9 and 10 are judged of it.
+-- Assumes nothing.
+use mathlib.Core.Path.{_≡_, sym, ap, _∙_}
 use mathlib.Core.List.{List, map}
 use Prim.Native.Nat.{ℕ}
 use native.Mathlib.Omega.{arith}
@@ -12,11 +14,6 @@ use Rattle.judgement.proofs.Fronts.{Holds, holds, few, lent-room, lent-
 use borrow.Author.Needs.{needs}
 use Rattle.judgement.proofs.judge.Statement.{statement}
 use Rattle.judgement.proofs.judge.Tie as tie
-use Rattle.judgement.proofs.judge.Reads as reads
-use Rattle.judgement.proofs.judge.Lts as lts
-use Rattle.judgement.proofs.judge_lists.Reads as judge-lists-reads
-use Rattle.judgement.proofs.load.Reads as load-reads
-use Rattle.judgement.proofs.tested_sets.Reads as tested-sets-reads
 
 -- where the answer is known to be a chart
 abbrev Found : Type 0
@@ -47,46 +44,36 @@ held : (c : Named) → let h = found c .before .before .load .result in
     Holds (file (found c)) (numbers (found c)) (h .sources) (h .targets) (h .starts) (h .counts) (h .timers)
 held c = read (found c)
 
--- src/lib.rt:243:9
 load-requires : tie.Need-load-requires
 load-requires c κs = search needs
 
--- src/lib.rt:245:21
 enum-known-a : tie.Need-enum-known-a
 enum-known-a c = search needs
 
--- src/lib.rt:246:9
 enum-told : tie.Need-enum-told
 enum-told c = search needs
 
--- src/lib.rt:246:9
 returns : tie.Need-returns
 returns c =
     let l = c .before .before .load in
     let e = sym (ap meantRead (c .enum-told .given .1)) ∙ l .ensures .0 in
     (ap meantRead (c .enum-told .given .1) ∙ refused-answer _ e, (l .ensures .1 .0, refused-tested _ e (l .ensures .1 .1)))
 
--- src/lib.rt:248:13
 cast-n : tie.Need-cast-n
 cast-n c = search needs
 
--- src/lib.rt:259:17
 array-share-prefix-counts : tie.Need-array-share-prefix-counts
 array-share-prefix-counts c = let h = held c in lent-room h _ (h .counts-are)
 
--- src/lib.rt:259:17
 slice-aggregate-tested-sets : tie.Need-slice-aggregate-tested-sets
 slice-aggregate-tested-sets c = let h = held (c .before) in sym (lent-part h _ (h .counts-are))
 
--- src/lib.rt:259:31
 slice-aggregate-tested-sets-2 : tie.Need-slice-aggregate-tested-sets-2
 slice-aggregate-tested-sets-2 c = search needs
 
--- src/lib.rt:259:40
 slice-aggregate-tested-sets-3 : tie.Need-slice-aggregate-tested-sets-3
 slice-aggregate-tested-sets-3 c = search needs
 
--- src/lib.rt:259:5
 tested-sets-requires : tie.Need-tested-sets-requires
 tested-sets-requires c κs =
     let h = held (c .before .before .before) in
@@ -99,51 +86,40 @@ named c = c .before .before .before .before .before
 tested-is : (c : tie.After-tested2) → let h = held (named c) in c .before .tested-sets .last .1 .1 .0 ≡ put (map testsSet (h .chart .transitions)) (replicate 512 0)
 tested-is c = let h = held (named c) in c .before .tested-sets .ensures (h .chart .transitions) (tests-of h)
 
--- src/lib.rt:261:9
 array-share-prefix-sources : tie.Need-array-share-prefix-sources
 array-share-prefix-sources c = let h = held (named c) in lent-room h _ (h .sources-are)
 
--- src/lib.rt:261:9
 slice-aggregate-judge-lists : tie.Need-slice-aggregate-judge-lists
 slice-aggregate-judge-lists c = let h = held (named (c .before)) in sym (lent-part h _ (h .sources-are))
 
--- src/lib.rt:262:9
 array-share-prefix-targets : tie.Need-array-share-prefix-targets
 array-share-prefix-targets c = let h = held (named (c .before)) in lent-room h _ (h .targets-are)
 
--- src/lib.rt:262:9
 slice-aggregate-judge-lists-2 : tie.Need-slice-aggregate-judge-lists-2
 slice-aggregate-judge-lists-2 c = let h = held (named (c .before .before)) in sym (lent-part h _ (h .targets-are))
 
--- src/lib.rt:263:9
 array-share-prefix-starts : tie.Need-array-share-prefix-starts
 array-share-prefix-starts c = let h = held (named (c .before .before)) in lent-room h _ (h .starts-are)
 
--- src/lib.rt:263:9
 slice-aggregate-judge-lists-3 : tie.Need-slice-aggregate-judge-lists-3
 slice-aggregate-judge-lists-3 c = let h = held (named (c .before .before .before)) in sym (lent-part h _ (h .starts-are))
 
--- src/lib.rt:264:9
 array-share-prefix-tested : tie.Need-array-share-prefix-tested
 array-share-prefix-tested c = let h = held (named (c .before .before .before)) in lent-room h _ (tested-is (c .before .before .before))
 
--- src/lib.rt:264:9
 slice-aggregate-judge-lists-4 : tie.Need-slice-aggregate-judge-lists-4
 slice-aggregate-judge-lists-4 c = let h = held (named (c .before .before .before .before)) in sym (lent-part h _ (tested-is (c .before .before .before .before)))
 
--- src/lib.rt:260:9
 judge-lists-requires : tie.Need-judge-lists-requires
 judge-lists-requires c κs =
     let t = c .before .before .before .before in
     let h = held (named t) in
     (drawable h (tested-is t), same-parts h (tested-is t))
 
--- src/lib.rt:238:1
 returns-2 : tie.Need-returns-2
 returns-2 c =
     let t = c .before .before .before .before .before in
-    let h = held (named t) in
-    (
+    let h = held (named t) in (
       judged-after h (c .judge-lists .ensures (h .chart) (drawn h (tested-is t)) (h .numbers-are)),
       (found (named t) .before .before .load .ensures .1 .0, tested-after h (tested-is t)),
     )
