@@ -7,3 +7,4 @@ pub mod Store
 pub mod FillingTests
 pub mod RecordParts
 pub mod JudgeParts
+pub mod ReadParts
