@@ -55,6 +55,7 @@ pub record HeaderIs (s bs : List ℕ) (m : Numbers) (entries transitions : ℕ) 
   pub header : Header
   pub is : readHeader bs ≡ value header (drop transitions s)
   pub numbers : m ≡ headerNumbers header
+  pub few-timers : m .timers ≤ 64
   pub end : List ℕ
   pub accepting : rising 2 (m .locations) 5 nowhere (m .accepting) (drop entries s) ≡ value (header .accepting) end
 
@@ -90,9 +91,9 @@ pub record ChartIs (s : List ℕ) (m : Numbers) (entries transitions tests : ℕ
   pub few-timers : m .timers ≤ 64
   pub number-of-tests : tests ≡ length (allTests (chart .transitions))
   pub accepting-end : List ℕ
-  pub accepting : rising 2 (m .locations) 5 nowhere (m .accepting) (drop entries s) ≡ value (chart .accepting) accepting-end
+  pub accepting-are : rising 2 (m .locations) 5 nowhere (m .accepting) (drop entries s) ≡ value (chart .accepting) accepting-end
   pub transitions-end : List ℕ
-  pub transitions : readTransitions 2 (m .locations) (m .timers) (m .transitions) (drop transitions s) ≡ value (chart .transitions) transitions-end
+  pub transitions-are : readTransitions 2 (m .locations) (m .timers) (m .transitions) (drop transitions s) ≡ value (chart .transitions) transitions-end
 
 pub record FileJudged (s : List ℕ) (r : Judged) : Type 0 where
   pub good : (m : Numbers) (entries transitions tests : ℕ) → r ≡ judged.Good m entries transitions tests → ChartIs s m entries transitions tests
