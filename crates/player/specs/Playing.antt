@@ -1,12 +1,8 @@
 -- What the player answers, called on a chart file. Assumes nothing.
 use mathlib.Core.List.{List}
 use Prim.Native.Nat.{ℕ}
-use lib.Dec.{eqb}
-use lib.ListN.{length, getD}
-use Rattle.model.specs.Answer.{Answer, result, refused, then, unless, nowhere}
-use Rattle.model.specs.Chart.{Chart}
-use Rattle.model.specs.Run.{playerTime}
-use Rattle.model.specs.Player.{Arrival, answerOf, countsJudged, stepsOf, played}
+use Rattle.model.specs.Answer.{Answer, result, refused, then}
+use Rattle.model.specs.Player.{Arrival, played}
 use Rattle.file_format.specs.File.{chartIn}
 use Rattle.chart_lists.specs.declared.Refusal.{Refusal}
 use Rattle.chart_lists.specs.Numbers.{refusedAs}
@@ -24,13 +20,7 @@ abbrev pub meantPlayed : Played → Answer Arrival
 meantPlayed (played·.Arrived q t b) = result (record { location = q; time = t; accepting = b })
 meantPlayed (played·.Refused f) = refusedAs f
 
--- the same on a chart that is judged: 12, 13, then the steps
-abbrev pub playedOn : (counts transitions times : List ℕ) → Chart → Answer Arrival
-playedOn counts is ts c =
-    countsJudged c counts (
-    unless (eqb (length is) (length ts)) 13 nowhere (
-    answerOf playerTime c (λ j. getD counts j 0) (stepsOf is ts)))
-
+-- the refusal of an answer that is one
 abbrev pub readRefusal : Read → Refusal
 readRefusal (read.Refused f) = f
 readRefusal (read.Chart m) = record { number = 0; place = 0 }

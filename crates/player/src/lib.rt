@@ -5,7 +5,8 @@ ghost use Rattle.model.specs.Chart.{Chart};
 ghost use Rattle.model.specs.Run.{Counts, Step, outcome, playerTime};
 ghost use Rattle.model.specs.Player.{answerOf};
 ghost use Rattle.steps.specs.Stepping.{Answered};
-ghost use Rattle.player.specs.Playing.{playAnswer, playedOn, meantPlayed, readRefusal};
+ghost use Rattle.model.proofs.PlayerNumbers.{playedOn};
+ghost use Rattle.player.specs.Playing.{playAnswer, meantPlayed, readRefusal};
 ghost use Rattle.player.specs.Lent.{Lent, SomeLent};
 use chart_lists::Numbers;
 use chart_lists::Refusal;
@@ -65,9 +66,9 @@ fn play_chart<'a>(
     codes: &'a [u8],
     constants: &'a [u16],
     numbers: Numbers,
-    counts: &'a [u32],
-    transitions: &'a [u32],
-    times: &'a [u64],
+    counts: &[u32],
+    transitions: &[u32],
+    times: &[u64],
 ) -> Played
     requires { ⌜ SomeLent numbers (now accepting) (now sources) (now targets) (now starts) (now tests) (now timers) (now codes) (now constants) ⌝ }
     ensures { λ r. ⌜ ((c : Chart) → Lent c numbers (now (accepting .entry)) (now (sources .entry)) (now (targets .entry)) (now (starts .entry)) (now (tests .entry)) (now (timers .entry)) (now (codes .entry)) (now (constants .entry))

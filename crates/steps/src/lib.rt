@@ -188,8 +188,8 @@ pub fn take_steps<'a>(
     codes: &'a [u8],
     constants: &'a [u16],
     first: State,
-    transitions: &'a [u32],
-    times: &'a [u64],
+    transitions: &[u32],
+    times: &[u64],
 ) -> Stepped
     requires { ⌜ SomeChart (now sources) (now targets) (now starts) (now tests) (now firsts) (now timers) (now codes) (now constants) ⌝ }
     requires { ⌜ Small first ⌝ }
@@ -284,9 +284,9 @@ pub fn play_steps<'a>(
     constants: &'a [u16],
     n: usize,
     initial: u16,
-    counts: &'a [u32],
-    transitions: &'a [u32],
-    times: &'a [u64],
+    counts: &[u32],
+    transitions: &[u32],
+    times: &[u64],
 ) -> Stepped
     requires { ⌜ SomeFronts n (now sources) (now targets) (now starts) (now tests) (now timers) (now codes) (now constants) ⌝ }
     requires { ⌜ Allowed (now counts) ⌝ }

@@ -1,0 +1,103 @@
+-- What the judgement of a file leaves is what the steps are taken by, and a refusal of it is the player's. Assumes nothing.
+use mathlib.Core.Path.{_≡_, refl, sym, ap, ap₂, _∙_}
+use mathlib.Core.List.{List, map}
+use Prim.Native.Nat.{ℕ}
+use lib.ListN.{length, take, length-map}
+use Rattle.model.specs.Answer.{Answer, result, refused, then}
+use Rattle.model.specs.Chart.{Test, Transition, Chart}
+use Rattle.model.specs.Judge.{judged}
+use Rattle.model.specs.Live.{startsSet}
+use Rattle.model.specs.Player.{Arrival}
+use Rattle.model.proofs.Answers.{not-result, result-same, refused-same}
+use Rattle.model.proofs.PlayerNumbers.{playedOn, judged-is, played-judged, played-refused}
+use Rattle.file_format.specs.File.{chartIn}
+use Rattle.file_format.proofs.RoundTrip.{Bytes}
+use Rattle.file_format.proofs.File.{reads-valid}
+use Rattle.file_format.proofs.Answers.{result-refused}
+use Rattle.comparison.specs.Comparison.{codeOf}
+use Rattle.chart_lists.specs.Lists.{Lists, lists, listsOf, laid, allTests, put}
+use Rattle.chart_lists.specs.declared.Numbers.{Numbers}
+use Rattle.chart_lists.specs.Numbers.{numbersOf}
+use Rattle.chart_lists.proofs.Put.{take-put}
+use Rattle.reader.specs.Reading.{listsAfter}
+use Rattle.judgement.specs.Judging.{judgedIn, judgedNumbers, largest}
+use Rattle.player.specs.Playing.{playAnswer}
+use Rattle.player.specs.Lent.{Lent}
+
+-- the file's chart, judged, with its numbers
+pub record Accepted (bs : List ℕ) (m : Numbers) : Type 0 where
+  pub chart : Chart
+  pub reads : chartIn bs ≡ result chart
+  pub passes : judged chart ≡ result chart
+  pub numbers-are : m ≡ numbersOf chart
+
+pub accepted : (bs : List ℕ) (m : Numbers) → result m ≡ judgedNumbers bs → Accepted bs m
+unfolding judgedNumbers judgedIn
+accepted bs m e = go (chartIn bs) refl
+  where
+    of : (c : Chart) → chartIn bs ≡ result c → (y : Answer Chart) → judged c ≡ y → result m ≡ then y (λ d. result (numbersOf d)) → Accepted bs m
+    of c p (result d) q f =
+        let r = judged-is c q in
+        let same : d ≡ c = result-same (sym q ∙ r) in
+        record { chart = c; reads = p; passes = r; numbers-are = result-same f ∙ ap numbersOf same }
+    of c p (refused n i) q f = absurd (result-refused refl f)
+
+    go : (x : Answer Chart) → chartIn bs ≡ x → Accepted bs m
+    go (result c) p = of c p (judged c) refl (rw p at e)
+    go (refused n i) p = let z : result m ≡ refused n i = rw p at e in absurd (result-refused refl z)
+
+-- ---- the lists
+
+module _ (bs : List ℕ) (bytes : Bytes bs) {m : Numbers} (h : Accepted bs m) {a s t e w g j x k : List ℕ}
+    (left : lists a s t e w g j x k ≡ listsAfter (chartIn bs) largest) where
+  laid-out : lists a s t e w g j x k ≡ laid (listsOf (h .chart)) largest
+  laid-out = rw (h .reads) at left
+
+  pub lent : Lent (h .chart) m a s t w g j x k
+  unfolding laid listsOf numbersOf
+  lent = record {
+    numbers-are = h .numbers-are;
+    accepting-are = front (h .chart .accepting) refl (ap (λ (y : Lists). y .accepting) laid-out);
+    fronts = record {
+      W = 2;
+      valid = reads-valid bs (h .chart) bytes (h .reads);
+      transitions-are = sym transitions-are;
+      sources-are = each (λ (r : Transition). r .source) (ap (λ (y : Lists). y .sources) laid-out);
+      targets-are = each (λ (r : Transition). r .target) (ap (λ (y : Lists). y .targets) laid-out);
+      starts-are = each startsSet (ap (λ (y : Lists). y .starts) laid-out);
+      tests-are = each (λ (r : Transition). length (r .tests)) (ap (λ (y : Lists). y .counts) laid-out);
+      timers-are = test (λ (t : Test). t .timer) (ap (λ (y : Lists). y .timers) laid-out);
+      codes-are = test (λ (t : Test). codeOf (t .comparison)) (ap (λ (y : Lists). y .codes) laid-out);
+      constants-are = test (λ (t : Test). t .constant) (ap (λ (y : Lists). y .constants) laid-out);
+    };
+  }
+    where
+      transitions-are : m .transitions ≡ length (h .chart .transitions)
+      transitions-are = ap (λ (k : Numbers). k .transitions) (h .numbers-are)
+
+      front : (xs : List ℕ) {n : ℕ} {l rest : List ℕ} → length xs ≡ n → l ≡ put xs rest → take n l ≡ xs
+      front xs {n} {l} {rest} p q = ap (take n) q ∙ take-put xs rest n p
+
+      each : (f : Transition → ℕ) {l rest : List ℕ} → l ≡ put (map f (h .chart .transitions)) rest → take (m .transitions) l ≡ map f (h .chart .transitions)
+      each f q = front (map f (h .chart .transitions)) (length-map (h .chart .transitions) f ∙ sym transitions-are) q
+
+      test : (f : Test → ℕ) {l rest : List ℕ} → l ≡ put (map f (allTests (h .chart .transitions))) rest
+          → take (length (allTests (h .chart .transitions))) l ≡ map f (allTests (h .chart .transitions))
+      test f q = front (map f (allTests (h .chart .transitions))) (length-map (allTests (h .chart .transitions)) f) q
+
+module _ (bs counts is ts : List ℕ) where
+  pub accepted-answer : {m : Numbers} (h : Accepted bs m) {y : Answer Arrival} → y ≡ playedOn counts is ts (h .chart) → y ≡ playAnswer bs counts is ts
+  unfolding playAnswer
+  accepted-answer h f = f ∙ sym (rw (h .reads) (played-judged (h .chart) counts is ts (h .passes)))
+
+  pub refused-answer : {n p : ℕ} → refused n p ≡ judgedNumbers bs → refused n p ≡ playAnswer bs counts is ts
+  unfolding playAnswer judgedNumbers judgedIn
+  refused-answer {n} {p} e = go (chartIn bs) refl
+    where
+      of : (c : Chart) (x : Answer Chart) → judged c ≡ x → refused n p ≡ then x (λ d. result (numbersOf d)) → judged c ≡ refused n p
+      of c (result d) q z = absurd (not-result z)
+      of c (refused k i) q z = let y = refused-same z in q ∙ sym (ap₂ refused (y .0) (y .1))
+
+      go : (x : Answer Chart) → chartIn bs ≡ x → refused n p ≡ playAnswer bs counts is ts
+      go (result c) q = let z : refused n p ≡ then (judged c) (λ d. result (numbersOf d)) = rw q at e in sym (rw q (played-refused c counts is ts (of c (judged c) refl z)))
+      go (refused k i) q = let z : _≡_ {A = Answer Numbers} (refused n p) (refused k i) = rw q at e in let y = refused-same z in rw q (ap₂ refused (y .0) (y .1))
