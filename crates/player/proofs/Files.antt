@@ -1,12 +1,14 @@
 -- What the judgement of a file leaves is what the steps are taken by, and a refusal of it is the player's. Assumes nothing.
 use mathlib.Core.Path.{_≡_, refl, sym, ap, ap₂, _∙_}
 use mathlib.Core.List.{List, map}
-use Prim.Native.Nat.{ℕ}
-use lib.ListN.{length, take, length-map}
+use Prim.Native.Nat.{ℕ, _≤_}
+use native.Mathlib.Omega.{arith}
+use lib.ListN.{length, take, replicate, length-map}
+use Rattle.lists.proofs.Gather.{rising-length}
 use Rattle.model.specs.Answer.{Answer, result, refused, then}
 use Rattle.model.specs.Chart.{Test, Transition, Chart}
 use Rattle.model.specs.Judge.{judged}
-use Rattle.model.specs.Live.{startsSet}
+use Rattle.model.specs.Valid.{Valid}
 use Rattle.model.specs.Player.{Arrival}
 use Rattle.model.proofs.Answers.{not-result, result-same, refused-same}
 use Rattle.model.proofs.PlayerNumbers.{playedOn, judged-is, played-judged, played-refused}
@@ -14,14 +16,17 @@ use Rattle.file_format.specs.File.{chartIn}
 use Rattle.file_format.proofs.RoundTrip.{Bytes}
 use Rattle.file_format.proofs.File.{reads-valid}
 use Rattle.file_format.proofs.Answers.{result-refused}
-use Rattle.comparison.specs.Comparison.{codeOf}
 use Rattle.chart_lists.specs.Lists.{Lists, lists, listsOf, laid, allTests, put}
 use Rattle.chart_lists.specs.declared.Numbers.{Numbers}
-use Rattle.chart_lists.specs.Numbers.{numbersOf}
-use Rattle.chart_lists.proofs.Put.{take-put}
-use Rattle.reader.specs.Reading.{listsAfter}
+use Rattle.chart_lists.specs.declared.Refusal.{Refusal}
+use Rattle.chart_lists.specs.Numbers.{numbersOf, refusedAs}
+use Rattle.reader.specs.declared.Read.{Read}
+use Rattle.reader.specs.declared.Read.the-variants as read
+use Rattle.reader.specs.Reading.{listsAfter, meantRead}
 use Rattle.judgement.specs.Judging.{judgedIn, judgedNumbers, largest}
-use Rattle.player.specs.Playing.{playAnswer}
+use Rattle.judgement.proofs.Largest.{all-tests}
+use Rattle.judgement.proofs.Fronts.{front, front-length}
+use Rattle.player.specs.Playing.{playAnswer, readRefusal}
 use Rattle.player.specs.Lent.{Lent}
 
 -- the file's chart, judged, with its numbers
@@ -46,44 +51,84 @@ accepted bs m e = go (chartIn bs) refl
     go (result c) p = of c p (judged c) refl (rw p at e)
     go (refused n i) p = let z : result m ≡ refused n i = rw p at e in absurd (result-refused refl z)
 
+-- ---- an answer of the judgement
+
+module _ (bs : List ℕ) (r : Read) (e : meantRead r ≡ judgedNumbers bs) where
+  pub read-accepted : (m : Numbers) → r ≡ read.Chart m → Accepted bs m
+  read-accepted m f = accepted bs m (ap meantRead (sym f) ∙ e)
+
+  pub read-refused : (g f : Refusal) → r ≡ read.Refused g → f ≡ readRefusal r → refused (f .number) (f .place) ≡ judgedNumbers bs
+  read-refused g f h k = ap refusedAs (k ∙ ap readRefusal h) ∙ ap meantRead (sym h) ∙ e
+
 -- ---- the lists
 
 module _ (bs : List ℕ) (bytes : Bytes bs) {m : Numbers} (h : Accepted bs m) {a s t e w g j x k : List ℕ}
     (left : lists a s t e w g j x k ≡ listsAfter (chartIn bs) largest) where
+  abbrev ts : List Transition
+  ts = h .chart .transitions
+
   laid-out : lists a s t e w g j x k ≡ laid (listsOf (h .chart)) largest
   laid-out = rw (h .reads) at left
 
+  valid : Valid 2 (h .chart)
+  valid = reads-valid bs (h .chart) bytes (h .reads)
+
+  number : length ts ≡ m .transitions
+  unfolding numbersOf
+  number = sym (ap (λ (y : Numbers). y .transitions) (h .numbers-are))
+
+  few : m .transitions ≤ 512
+  few = omega (arith, number, valid .few-transitions)
+
+  -- a list with an entry for each transition, and one with an entry for each test
+  module _ (f : Transition → ℕ) {l : List ℕ} (p : l ≡ put (map f ts) (replicate 512 0)) where
+    each : take (m .transitions) l ≡ map f ts
+    each = front (map f ts) 512 (length-map ts f ∙ number) few p
+
+    each-size : 512 ≡ length l
+    each-size = sym (front-length (map f ts) 512 (length-map ts f ∙ number) few p)
+
+  module _ (f : Test → ℕ) {l : List ℕ} (p : l ≡ put (map f (allTests ts)) (replicate 4096 0)) where
+    test : take (length (allTests ts)) l ≡ map f (allTests ts)
+    test = front (map f (allTests ts)) 4096 (length-map (allTests ts) f) (all-tests valid) p
+
+    test-size : 4096 ≡ length l
+    test-size = sym (front-length (map f (allTests ts)) 4096 (length-map (allTests ts) f) (all-tests valid) p)
+
+  few-accepting : length (h .chart .accepting) ≤ 256
+  few-accepting = omega (arith, rising-length (h .chart .locations) 0 (h .chart .accepting) (valid .accepting) (omega arith), valid .few-locations)
+
   pub lent : Lent (h .chart) m a s t w g j x k
-  unfolding laid listsOf numbersOf
+  unfolding laid listsOf largest
   lent = record {
     numbers-are = h .numbers-are;
-    accepting-are = front (h .chart .accepting) refl (ap (λ (y : Lists). y .accepting) laid-out);
+    accepting-are = front (h .chart .accepting) 256 refl few-accepting (ap (λ (y : Lists). y .accepting) laid-out);
     fronts = record {
       W = 2;
-      valid = reads-valid bs (h .chart) bytes (h .reads);
-      transitions-are = sym transitions-are;
-      sources-are = each (λ (r : Transition). r .source) (ap (λ (y : Lists). y .sources) laid-out);
-      targets-are = each (λ (r : Transition). r .target) (ap (λ (y : Lists). y .targets) laid-out);
-      starts-are = each startsSet (ap (λ (y : Lists). y .starts) laid-out);
-      tests-are = each (λ (r : Transition). length (r .tests)) (ap (λ (y : Lists). y .counts) laid-out);
-      timers-are = test (λ (t : Test). t .timer) (ap (λ (y : Lists). y .timers) laid-out);
-      codes-are = test (λ (t : Test). codeOf (t .comparison)) (ap (λ (y : Lists). y .codes) laid-out);
-      constants-are = test (λ (t : Test). t .constant) (ap (λ (y : Lists). y .constants) laid-out);
+      valid = valid;
+      transitions-are = number;
+      sources-are = each _ (ap (λ (y : Lists). y .sources) laid-out);
+      targets-are = each _ (ap (λ (y : Lists). y .targets) laid-out);
+      starts-are = each _ (ap (λ (y : Lists). y .starts) laid-out);
+      tests-are = each _ (ap (λ (y : Lists). y .counts) laid-out);
+      timers-are = test _ (ap (λ (y : Lists). y .timers) laid-out);
+      codes-are = test _ (ap (λ (y : Lists). y .codes) laid-out);
+      constants-are = test _ (ap (λ (y : Lists). y .constants) laid-out);
     };
   }
-    where
-      transitions-are : m .transitions ≡ length (h .chart .transitions)
-      transitions-are = ap (λ (k : Numbers). k .transitions) (h .numbers-are)
 
-      front : (xs : List ℕ) {n : ℕ} {l rest : List ℕ} → length xs ≡ n → l ≡ put xs rest → take n l ≡ xs
-      front xs {n} {l} {rest} p q = ap (take n) q ∙ take-put xs rest n p
+  -- the sizes of the arrays
+  pub sizes : (512 ≡ length w) × (512 ≡ length g) × (4096 ≡ length j) × (4096 ≡ length x) × (4096 ≡ length k)
+  unfolding laid listsOf largest
+  sizes = (
+    each-size _ (ap (λ (y : Lists). y .starts) laid-out),
+    each-size _ (ap (λ (y : Lists). y .counts) laid-out),
+    test-size _ (ap (λ (y : Lists). y .timers) laid-out),
+    test-size _ (ap (λ (y : Lists). y .codes) laid-out),
+    test-size _ (ap (λ (y : Lists). y .constants) laid-out),
+  )
 
-      each : (f : Transition → ℕ) {l rest : List ℕ} → l ≡ put (map f (h .chart .transitions)) rest → take (m .transitions) l ≡ map f (h .chart .transitions)
-      each f q = front (map f (h .chart .transitions)) (length-map (h .chart .transitions) f ∙ sym transitions-are) q
-
-      test : (f : Test → ℕ) {l rest : List ℕ} → l ≡ put (map f (allTests (h .chart .transitions))) rest
-          → take (length (allTests (h .chart .transitions))) l ≡ map f (allTests (h .chart .transitions))
-      test f q = front (map f (allTests (h .chart .transitions))) (length-map (allTests (h .chart .transitions)) f) q
+-- ---- the answer
 
 module _ (bs counts is ts : List ℕ) where
   pub accepted-answer : {m : Numbers} (h : Accepted bs m) {y : Answer Arrival} → y ≡ playedOn counts is ts (h .chart) → y ≡ playAnswer bs counts is ts
