@@ -3,7 +3,6 @@ use mathlib.Core.Path.{_≡_, refl, sym, ap, _∙_}
 use mathlib.Core.List.{List}
 use Prim.Native.Nat.{ℕ, _≤_, _<_}
 use native.Mathlib.Omega.{arith}
-use lib.Dec.{leb}
 use lib.ListN.{length, getD}
 use borrow.Author.Tests.{leb-true, lt-leb, eq-eqb, ne-eqb}
 use Rattle.lists.specs.Lists.{lowest}
@@ -14,7 +13,7 @@ use Rattle.model.specs.Chart.{Chart}
 use Rattle.model.specs.Run.{playerTime}
 use Rattle.model.specs.Player.{Arrival, answerOf, tooLarge, countsJudged, stepsOf}
 use Rattle.model.proofs.PlayerNumbers.{playedOn}
-use Rattle.model.proofs.PlayerLaws.{CountsAllowed, counts-pass}
+use Rattle.model.proofs.PlayerLaws.{counts-pass}
 use Rattle.steps.specs.Fronts.{Allowed}
 
 module _ (c : Chart) (counts is ts : List ℕ) where

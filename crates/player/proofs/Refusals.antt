@@ -13,11 +13,10 @@ use Rattle.lists.specs.Rising.{All}
 use Rattle.lists.proofs.Membership.{memb-nil, memb-cases, memb-tail}
 use Rattle.model.specs.Answer.{Answer, result, refused, then, unless, nowhere}
 use Rattle.model.specs.Chart.{Chart}
-use Rattle.model.specs.Valid.{Valid}
 use Rattle.model.specs.Run.{playerTime}
 use Rattle.model.specs.Judge.{judged}
 use Rattle.model.specs.Player.{Arrival, answerOf, tooLarge, countsJudged, stepsOf, played}
-use Rattle.model.proofs.Answers.{not-result, refused-same, number-is}
+use Rattle.model.proofs.Answers.{refused-same, number-is}
 use Rattle.model.proofs.PlayerNumbers.{playedOn, after-numbers}
 use Rattle.model.proofs.Judgement.{LowestUnreached, LowestUnstarted}
 use Rattle.file_format.specs.File.{chartIn}

@@ -1,7 +1,7 @@
 -- What the player answers, called on a chart file. Assumes nothing.
 use mathlib.Core.List.{List}
 use Prim.Native.Nat.{ℕ}
-use Rattle.model.specs.Answer.{Answer, result, refused, then}
+use Rattle.model.specs.Answer.{Answer, result, then}
 use Rattle.model.specs.Player.{Arrival, played}
 use Rattle.file_format.specs.File.{chartIn}
 use Rattle.chart_lists.specs.declared.Refusal.{Refusal}

@@ -1,5 +1,5 @@
 -- The fronts of the lent lists are the lists of the chart, once the places of the first tests are found. Assumes nothing.
-use mathlib.Core.Path.{_≡_, refl, sym, ap, subst, _∙_}
+use mathlib.Core.Path.{_≡_, refl, sym, ap, _∙_}
 use mathlib.Core.Logic.{_⊎_, inl, inr}
 use mathlib.Core.List.{List, [], _∷_, _++_, map}
 use Prim.Native.Nat.{ℕ, _*_, _≤_, _<_}
@@ -9,10 +9,9 @@ use lib.Seq.{take-at}
 use Rattle.lists.specs.Rising.{All}
 use Rattle.lists.proofs.Bools.{lt-or-le}
 use Rattle.model.specs.Chart.{Test, Transition, Chart}
-use Rattle.model.specs.Valid.{Valid, ValidTransition}
-use Rattle.model.specs.Run.{Counts, begin}
+use Rattle.model.specs.Valid.{ValidTransition}
+use Rattle.model.specs.Run.{begin}
 use Rattle.chart_lists.specs.Lists.{allTests, listsOf}
-use Rattle.steps.specs.declared.State.{State}
 use Rattle.steps.specs.InLists.{InLists, sumOf}
 use Rattle.steps.specs.Stepping.{Shows, Small}
 use Rattle.steps.specs.Fronts.{Fronts, Allowed, Starting}

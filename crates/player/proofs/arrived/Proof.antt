@@ -1,5 +1,5 @@
 -- `arrived` hands a refusal on, or asks whether the last location accepts. Assumes nothing.
-use mathlib.Core.Path.{_≡_, refl, ap, _∙_}
+use mathlib.Core.Path.{_≡_, ap, _∙_}
 use mathlib.Core.Bool.{Bool}
 use mathlib.Core.List.{List}
 use Prim.Native.Nat.{ℕ}
@@ -15,9 +15,6 @@ use Rattle.steps.proofs.Arrivals.{taken-answer, refused-answer}
 use borrow.Author.Needs.{needs}
 use Rattle.player.proofs.arrived.Statement.{statement}
 use Rattle.player.proofs.arrived.Tie as tie
-use Rattle.player.proofs.arrived.Reads as reads
-use Rattle.player.proofs.arrived.Lts as lts
-use Rattle.steps.proofs.accepts.Reads as accepts-reads
 
 enum-known-verdict : tie.Need-enum-known-verdict
 enum-known-verdict c = search needs

@@ -1,18 +1,10 @@
 -- `play` judges the file, and plays on the chart that is left. Assumes nothing.
-use mathlib.Core.Path.{_≡_, sym, ap, _∙_}
-use native.Mathlib.Omega.{arith}
 use Rattle.file_format.proofs.RoundTrip.{Bytes}
 use Rattle.judgement.proofs.Loading.{bytes-are}
-use Rattle.chart_lists.specs.declared.Numbers.{Numbers}
 use Rattle.player.proofs.Files.{Accepted, read-accepted, read-refused, lent, sizes, accepted-answer, refused-answer}
 use borrow.Author.Needs.{needs}
 use Rattle.player.proofs.play.Statement.{statement}
 use Rattle.player.proofs.play.Tie as tie
-use Rattle.player.proofs.play.Reads as reads
-use Rattle.player.proofs.play.Lts as lts
-use Rattle.judgement.proofs.judge.Reads as judge-reads
-use Rattle.player.proofs.play_chart.Reads as play-chart-reads
-use Rattle.player.proofs.read_refusal.Reads as read-refusal-reads
 
 abbrev start : tie.After-judge → tie.Start
 start a = a .before .before .before .before .before

@@ -8,11 +8,6 @@ use Rattle.player.proofs.Inputs.{number-refused, count-refused, allowed
 use borrow.Author.Needs.{needs}
 use Rattle.player.proofs.play_chart.Statement.{statement}
 use Rattle.player.proofs.play_chart.Tie as tie
-use Rattle.player.proofs.play_chart.Reads as reads
-use Rattle.player.proofs.play_chart.Lts as lts
-use Rattle.player.proofs.arrived.Reads as arrived-reads
-use Rattle.steps.proofs.first_too_large.Reads as first-too-large-reads
-use Rattle.steps.proofs.play_steps.Reads as play-steps-reads
 
 abbrev start : tie.After-struct-known → tie.Start
 start a = a .before .before .before .before .before .before .before .before .before .before .before .before
@@ -46,9 +41,10 @@ cast-n : tie.Need-cast-n
 cast-n c = search needs
 
 play-steps-requires : tie.Need-play-steps-requires
-play-steps-requires c κs = let d = c .before in let b = d .before in let f = b .before in let q = start (f .before .before) in let p = q .pre in let x = q .args in
-    (record { chart = p .chart; is = p .is .fronts },
-    (allowed (p .chart) (x .counts .now) (x .transitions .now) (x .times .now) (one-each (f .before) (p .chart) (p .is)) (f .first-too-large .ensures) (b .if2 .left) (p .is .fronts .valid .few-timers), sym (d .if3 .left)))
+play-steps-requires c κs = let d = c .before in let b = d .before in let f = b .before in let q = start (f .before .before) in let p = q .pre in let x = q .args in (
+  record { chart = p .chart; is = p .is .fronts },
+  (allowed (p .chart) (x .counts .now) (x .transitions .now) (x .times .now) (one-each (f .before) (p .chart) (p .is)) (f .first-too-large .ensures) (b .if2 .left) (p .is .fronts .valid .few-timers), sym (d .if3 .left)),
+)
 
 cast-a : tie.Need-cast-a
 cast-a c = search needs

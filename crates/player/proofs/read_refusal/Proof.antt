@@ -4,8 +4,6 @@ use Rattle.player.specs.Playing.{readRefusal}
 use borrow.Author.Needs.{needs}
 use Rattle.player.proofs.read_refusal.Statement.{statement}
 use Rattle.player.proofs.read_refusal.Tie as tie
-use Rattle.player.proofs.read_refusal.Reads as reads
-use Rattle.player.proofs.read_refusal.Lts as lts
 
 enum-known-a : tie.Need-enum-known-a
 enum-known-a c = search needs

@@ -1,9 +1,8 @@
 -- `play_steps` finds where the tests begin and takes the steps from tick 0 on. Assumes nothing.
-use mathlib.Core.Path.{_≡_, refl, sym, _∙_}
+use mathlib.Core.Path.{_≡_, sym, _∙_}
 use mathlib.Core.List.{List}
-use Prim.Native.Nat.{ℕ, _<_}
-use native.Mathlib.Omega.{arith}
-use lib.ListN.{length, getD, take}
+use Prim.Native.Nat.{ℕ}
+use lib.ListN.{length, take}
 use lib.Seq.{length-take-le}
 use Rattle.model.specs.Run.{outcome}
 use Rattle.steps.specs.InLists.{sumOf}
@@ -12,11 +11,6 @@ use Rattle.steps.proofs.ChartFronts.{found-within, found-long, few-tran
 use borrow.Author.Needs.{needs}
 use Rattle.steps.proofs.play_steps.Statement.{statement}
 use Rattle.steps.proofs.play_steps.Tie as tie
-use Rattle.steps.proofs.play_steps.Reads as reads
-use Rattle.steps.proofs.play_steps.Lts as lts
-use Rattle.steps.proofs.find_firsts.Reads as find-firsts-reads
-use Rattle.steps.proofs.starting_counts.Reads as starting-counts-reads
-use Rattle.steps.proofs.take_steps.Reads as take-steps-reads
 
 abbrev start : tie.After-find-firsts-arg → tie.Start
 start a = a .before .before .before .before .before .before .before .before .before .before .before
