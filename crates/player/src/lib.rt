@@ -24,6 +24,7 @@ pub enum Played {
     Refused(Refusal),
 }
 
+// The refusal of an answer that is one.
 fn read_refusal(a: Read) -> Refusal
     ensures { λ r. ⌜ r ≡ readRefusal a ⌝ }
 {

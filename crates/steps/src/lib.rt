@@ -16,6 +16,7 @@ use chart_lists::Refusal;
 use comparison::Decoded;
 use timer_set::TimerSet;
 
+// Where the player is: the location, the time of the last step, and the counts of all 64 timers at that time.
 pub struct State {
     pub location: u16,
     pub time: u64,
@@ -97,6 +98,7 @@ fn count_after(count: u64, passed: u64, starts: u64, j: u8) -> u64
     if started.has(j) { 0 } else { count + passed }
 }
 
+// All 64 counts after a step.
 fn counts_after(counts: [u64; 64], passed: u64, starts: u64) -> [u64; 64]
     requires { ⌜ Room counts passed ⌝ }
     ensures { λ r. ⌜ MovedOn starts passed counts r ⌝ }
@@ -111,6 +113,7 @@ fn counts_after(counts: [u64; 64], passed: u64, starts: u64) -> [u64; 64]
     next
 }
 
+// Step number n is refused, and the state stays.
 fn refused(number: u16, n: u64, state: State) -> Stepped
     ensures { λ r. ⌜ r ≡ refusedAt number n state ⌝ }
 {
