@@ -1,7 +1,7 @@
 // The fields of a chart file and the parts of a transition's record, each read at a place and answered by its value with the next place, or by
 // its refusal. Nothing is asked of a place: past the end of the file a field is cut, and that is 3.
 ghost use mathlib.Core.Path.{_≡_};
-ghost use Prim.Native.Nat.{_≤_};
+ghost use Prim.Native.Nat.{_≤_, _<_};
 ghost use lib.ListN.{drop};
 ghost use Rattle.file_format.specs.Parse.{below};
 ghost use Rattle.file_format.specs.Body.{readTest};
@@ -11,6 +11,12 @@ use chart_lists::Refusal;
 use comparison::Comparison;
 use comparison::Decoded;
 use timer_set::TimerSet;
+
+// The file ends inside a field, or a record's length is wrong.
+const CUT: Refusal = Refusal {
+    number: 3,
+    place: 65535,
+};
 
 // A number or a set, as a word, with the place after it.
 pub enum Field {
@@ -32,7 +38,7 @@ pub fn refusal_of(a: Field) -> Refusal
 }
 
 fn wide(x: u8) -> u64
-    ensures { λ r. ⌜ r ≡ x ⌝ }
+    ensures { λ r. ⌜ (r ≡ x) × (r < 256) ⌝ }
 {
     x as u64
 }
@@ -43,10 +49,7 @@ pub fn byte_at(s: &[u8], at: usize) -> Field
     if at < s.len() {
         Field::Value(wide(s[at]), at + 1)
     } else {
-        Field::Refused(Refusal {
-            number: 3,
-            place: 65535,
-        })
+        Field::Refused(CUT)
     }
 }
 
@@ -211,15 +214,9 @@ pub fn pass_tests(s: &[u8], at: usize, g: u8, timers: u8, place: u64) -> Field
     Field::Value(wide(g), here)
 }
 
-// The first four fields of a record.
+// The first four fields of a record, length, source, target and event, with the place after them.
 pub enum EndsField {
-    Found {
-        length: u16,
-        source: u16,
-        target: u16,
-        event: u8,
-        next: usize,
-    },
+    Found(u16, u16, u16, u8, usize),
     Refused(Refusal),
 }
 
@@ -228,13 +225,7 @@ fn ends_refusal(a: EndsField) -> Refusal
 {
     match a {
         EndsField::Refused(f) => f,
-        EndsField::Found {
-            length: _,
-            source: _,
-            target: _,
-            event: _,
-            next: _,
-        } => Refusal {
+        EndsField::Found(_, _, _, _, _) => Refusal {
             number: 0,
             place: 0,
         },
@@ -260,13 +251,13 @@ fn ends_at(s: &[u8], at: usize, locations: u16, place: u64) -> EndsField
     let Field::Value(event, next) = e else {
         return EndsField::Refused(refusal_of(e));
     };
-    EndsField::Found {
-        length: length as u16,
-        source: source as u16,
-        target: target as u16,
-        event: event as u8,
+    EndsField::Found(
+        length as u16,
+        source as u16,
+        target as u16,
+        event as u8,
         next,
-    }
+    )
 }
 
 // A record up to its tests, with their number and the place where they begin.
@@ -306,14 +297,7 @@ pub fn head_at(s: &[u8], at: usize, locations: u16, timers: u8, place: u64) -> H
     ensures { λ r. ⌜ meantHead (now (s .entry)) r ≡ readHead 2 locations timers place (drop at (now (s .entry))) ⌝ }
 {
     let a = ends_at(s, at, locations, place);
-    let EndsField::Found {
-        length,
-        source,
-        target,
-        event,
-        next: at1,
-    } = a
-    else {
+    let EndsField::Found(length, source, target, event, at1) = a else {
         return HeadField::Refused(ends_refusal(a));
     };
     let b = byte_below(s, at1, 65, 4, place);
@@ -329,10 +313,7 @@ pub fn head_at(s: &[u8], at: usize, locations: u16, timers: u8, place: u64) -> H
         return HeadField::Refused(refusal_of(e));
     };
     if length as u64 != 7 + n + 4 * g {
-        return HeadField::Refused(Refusal {
-            number: 3,
-            place: 65535,
-        });
+        return HeadField::Refused(CUT);
     }
     if g > 8 {
         return HeadField::Refused(Refusal { number: 4, place });

@@ -1,18 +1,17 @@
 -- The header and the body are read and written so that each undoes the other, for constants of W bytes. Assumes nothing.
 use mathlib.Core.Path.{_≡_, refl, sym, ap, _∙_, subst}
-use mathlib.Core.Bool.{true}
 use mathlib.Core.List.{List, [], _∷_, _++_, append-nil}
-use Prim.Native.Nat.{ℕ, _^_, _≤_, _<_}
+use Prim.Native.Nat.{ℕ, _≤_, _<_}
 use native.Mathlib.Omega.{arith}
 use lib.Dec.{leb}
 use lib.ListN.{length}
 use borrow.Author.Tests.{leb-true, le-leb}
 use Rattle.lists.specs.Rising.{Rising, All}
 use Rattle.model.specs.Answer.{nowhere}
-use Rattle.model.specs.Chart.{Transition, Chart}
+use Rattle.model.specs.Chart.{Chart}
 use Rattle.model.specs.Valid.{ValidTransition, Valid}
 use Rattle.file_format.specs.Parse.{Parsed, value, refusal, bind, guard, digits, writeAll}
-use Rattle.file_format.specs.Body.{Header, readHeader, readTransitions, chartOf, isEnd, readBody, writeHeader, writeTransition, writeBody}
+use Rattle.file_format.specs.Body.{Header, readHeader, readTransitions, chartOf, isEnd, readBody, writeHeader, writeBody}
 use Rattle.file_format.proofs.Parsed.{same-value, value-refused}
 use Rattle.file_format.proofs.RoundTrip.{Bytes, RoundTrip, restated, field, field-as, condition, end}
 use Rattle.file_format.proofs.Fields.{number-trip, below-trip, rising-trip, rising-most}

@@ -1,7 +1,6 @@
 -- The fields of the file are read and written so that each undoes the other: numbers of any width, rising lists, comparisons. Assumes nothing.
-use mathlib.Core.Path.{_≡_, refl, sym, ap, _∙_, subst}
-use mathlib.Core.Bool.{true}
-use mathlib.Core.Option.{Option, none, some, Option·some-injective, Option·none-ne-some}
+use mathlib.Core.Path.{_≡_, refl, sym, ap, _∙_}
+use mathlib.Core.Option.{Option, none, some}
 use mathlib.Core.List.{List, [], _∷_, _++_, append-nil}
 use Prim.Native.Nat.{ℕ, zero, suc, _+_, _*_, _^_, _/_, _%_, _≤_, _<_}
 use native.Mathlib.Nat.{pow-suc}
@@ -10,14 +9,14 @@ use lib.Dec.{ltb, leb}
 use lib.ListN.{length}
 use borrow.Author.Tests.{ltb-true, lt-ltb, leb-true, le-leb}
 use Rattle.comparison.specs.declared.Comparison.{Comparison}
-use Rattle.comparison.specs.declared.Comparison.the-variants.{AtMost, Below, AtLeast, Above, Equal}
 use Rattle.comparison.specs.Comparison.{comparisonOf, codeOf}
+use Rattle.comparison.proofs.Comparisons.{comparison-code, code-below, code-comparison}
 use Rattle.lists.specs.Rising.{Rising}
 use Rattle.lists.proofs.Gather.{rising-length}
-use Rattle.file_format.specs.Parse.{Parsed, value, refusal, bind, byte, number, below, entry, rising, digits, writeAll}
+use Rattle.file_format.specs.Parse.{value, byte, number, below, entry, rising, digits, writeAll}
 use Rattle.file_format.specs.Body.{known, readComparison}
-use Rattle.file_format.proofs.Parsed.{value-refused, same-value, same-rest, bind-value}
-use Rattle.file_format.proofs.RoundTrip.{Bytes, RoundTrip, restated, field, field-as, condition, end, items}
+use Rattle.file_format.proofs.Parsed.{value-refused, same-value, same-rest}
+use Rattle.file_format.proofs.RoundTrip.{Bytes, RoundTrip, restated, field, condition, end, items}
 
 byte-trip : RoundTrip (λ b. b < 256) (λ b. b ∷ []) byte
 byte-trip = record { reads = λ b t h. refl; written = written }
@@ -71,45 +70,19 @@ rising-most limit most xs h r = omega (arith, rising-length limit 0 xs r (omega 
 
 -- ---- comparisons
 
-code-known : (x : Comparison) → comparisonOf (codeOf x) ≡ some x
-unfolding comparisonOf codeOf
-code-known AtMost = refl
-code-known Below = refl
-code-known AtLeast = refl
-code-known Above = refl
-code-known Equal = refl
-
-code-byte : (x : Comparison) → codeOf x < 256 ^ 1
-unfolding codeOf
-code-byte AtMost = omega arith
-code-byte Below = omega arith
-code-byte AtLeast = omega arith
-code-byte Above = omega arith
-code-byte Equal = omega arith
-
--- a code that has a comparison is that comparison's code
-code-is : (code : ℕ) (x : Comparison) → comparisonOf code ≡ some x → codeOf x ≡ code
-unfolding comparisonOf codeOf
-code-is zero x e = ap codeOf (sym (Option·some-injective _ _ e))
-code-is (suc zero) x e = ap codeOf (sym (Option·some-injective _ _ e))
-code-is (suc (suc zero)) x e = ap codeOf (sym (Option·some-injective _ _ e))
-code-is (suc (suc (suc zero))) x e = ap codeOf (sym (Option·some-injective _ _ e))
-code-is (suc (suc (suc (suc zero)))) x e = ap codeOf (sym (Option·some-injective _ _ e))
-code-is (suc (suc (suc (suc (suc code))))) x e = absurd (Option·none-ne-some _ e)
-
 known-trip : (i code : ℕ) → RoundTrip (λ x. (Unit {0} × (codeOf x ≡ code)) × Unit {0}) (λ x. []) (λ t. known i (comparisonOf code) t)
 known-trip i code = record {
-  reads = λ x t h. let q : comparisonOf code ≡ some x = ap comparisonOf (sym (h .0 .1)) ∙ code-known x in rw q;
+  reads = λ x t h. let q : comparisonOf code ≡ some x = ap comparisonOf (sym (h .0 .1)) ∙ comparison-code x in rw q;
   written = λ bs x t by e. go bs x t (comparisonOf code) refl e;
 }
   where
     go : (bs : List ℕ) (x : Comparison) (t : List ℕ) (o : Option Comparison) → comparisonOf code ≡ o → known i o bs ≡ value x t
         → ((Unit {0} × (codeOf x ≡ code)) × Unit {0}) × (bs ≡ t)
     go bs x t none f e = absurd (value-refused e refl)
-    go bs x t (some y) f e = (((tt, code-is code x (f ∙ ap some (same-value e))), tt), same-rest e)
+    go bs x t (some y) f e = (((tt, sym (code-comparison code x (f ∙ ap some (same-value e)))), tt), same-rest e)
 
 pub comparison-trip : (i : ℕ) → RoundTrip (λ x. Unit {0}) (λ x. digits 1 (codeOf x)) (readComparison i)
 unfolding readComparison
 comparison-trip i =
-    restated {w = λ x. digits 1 (codeOf x) ++ []} (λ x h. tt) (λ x h. (tt, (code-byte x, tt))) (λ x. append-nil _)
+    restated {w = λ x. digits 1 (codeOf x) ++ []} (λ x h. tt) (λ x h. (tt, (omega (arith, code-below x), tt))) (λ x. append-nil _)
     (field (λ x. Unit {0}) codeOf _ (number-trip 1) (λ code h. known-trip i code))

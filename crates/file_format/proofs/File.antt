@@ -1,40 +1,24 @@
 -- Reading and writing a chart file undo one another: what is written for a chart that a file can hold is read as that chart, and a file
 -- that is read as a chart is the one that is written for it. Assumes nothing.
 use mathlib.Core.Path.{_≡_, refl, sym, ap, _∙_, subst}
-use mathlib.Core.Bool.{Bool, true, false}
-use mathlib.Core.List.{List, [], _∷_, _++_, append-assoc, append-nil}
+use mathlib.Core.List.{List, _++_, append-assoc, append-nil}
 use Prim.Native.Nat.{ℕ, _^_, _≤_, _<_}
 use native.Mathlib.Omega.{arith}
 use lib.Dec.{eqb}
 use lib.ListN.{length}
 use Rattle.lists.proofs.Bools.{eqb-self, same-number}
-use Rattle.model.specs.Answer.{Answer, result, refused, then, unless, nowhere}
+use Rattle.model.specs.Answer.{result, nowhere}
 use Rattle.model.specs.Chart.{Chart}
 use Rattle.model.specs.Valid.{Valid}
-use Rattle.file_format.specs.Parse.{Parsed, value, refusal, bind, number, digits}
+use Rattle.file_format.specs.Parse.{Parsed, value, refusal, digits}
 use Rattle.file_format.specs.Body.{readBody, writeBody}
-use Rattle.file_format.specs.File.{Frame, readFrame, judgeFrame, answered, readFile, writeFile, chartIn, fileOf}
-use Rattle.file_format.specs.Lengths.{bodyLength, fileLength}
+use Rattle.file_format.specs.File.{Frame, readFrame, judgeFrame, readFile, writeFile, chartIn, fileOf}
+use Rattle.file_format.specs.Lengths.{fileLength}
+use Rattle.file_format.proofs.Answers.{result-refused, then-result, unless-result, answered-result}
 use Rattle.file_format.proofs.RoundTrip.{Bytes, bytes-rest, RoundTrip, restated, field, end}
 use Rattle.file_format.proofs.Fields.{number-trip}
 use Rattle.file_format.proofs.Body.{body-reads, body-written}
 use Rattle.file_format.proofs.Lengths.{length-body, file-most}
-
--- a result is no refusal
-pub result-refused : {A : Type 0} {x : Answer A} {a : A} {n p : ℕ} → x ≡ result a → x ≡ refused n p → ⊥
-result-refused e f = let z : _≡_ {A = ℕ} 0 1 = cc in omega arith
-
-pub then-result : {A B : Type 0} (x : Answer A) (k : A → Answer B) {b : B} → then x k ≡ result b → (a : A) × (x ≡ result a) × (k a ≡ result b)
-then-result (result a) k e = (a, refl, e)
-then-result (refused n p) k e = absurd (result-refused e refl)
-
-pub unless-result : {A : Type 0} (c : Bool) (n p : ℕ) (x : Answer A) {a : A} → unless c n p x ≡ result a → (c ≡ true) × (x ≡ result a)
-unless-result true n p x e = (refl, e)
-unless-result false n p x e = absurd (result-refused e refl)
-
-pub answered-result : {A : Type 0} (x : Parsed A) {a : A} → answered x ≡ result a → (t : List ℕ) × (x ≡ value a t)
-answered-result (value b t) e = (t, cc)
-answered-result (refusal n p) e = absurd (result-refused e refl)
 
 -- ---- version and length
 
@@ -66,32 +50,31 @@ judged-frame version (value f b) {body} e =
 
 -- ---- the file, for any version byte and constants of W bytes
 
-module _ (version W : ℕ) (narrow : W ≤ 8) where
-  body-fits : (c : Chart) → Valid W c → length (writeBody W c) < 256 ^ 4
-  unfolding fileLength
-  body-fits c v = omega (arith, length-body W c, file-most W c v)
+body-fits : (W : ℕ) → W ≤ 8 → (c : Chart) → Valid W c → length (writeBody W c) < 256 ^ 4
+unfolding fileLength
+body-fits W narrow c v = omega (arith, length-body W c, file-most W c v)
 
-  pub read-written : version < 256 → (c : Chart) → Valid W c → readFile version W (writeFile version W c) ≡ result c
-  unfolding readFile writeFile judgeFrame
-  read-written h c v =
-      let frame : Frame = record { version = version; follow = length (writeBody W c) } in
-      let e : readFrame (digits 1 version ++ (digits 4 (length (writeBody W c)) ++ writeBody W c)) ≡ value frame (writeBody W c) =
-      rw append-assoc at (frame-trip .reads frame (writeBody W c) (record { version = h; follow = body-fits c v })) in
-      rw (e, eqb-self (length (writeBody W c)), eqb-self version, body-reads W narrow c v)
+pub read-written : (version W : ℕ) → version < 256 → W ≤ 8 → (c : Chart) → Valid W c → readFile version W (writeFile version W c) ≡ result c
+unfolding readFile writeFile judgeFrame
+read-written version W h narrow c v =
+    let frame : Frame = record { version = version; follow = length (writeBody W c) } in
+    let e : readFrame (digits 1 version ++ (digits 4 (length (writeBody W c)) ++ writeBody W c)) ≡ value frame (writeBody W c) =
+    rw append-assoc at (frame-trip .reads frame (writeBody W c) (record { version = h; follow = body-fits W narrow c v })) in
+    rw (e, eqb-self (length (writeBody W c)), eqb-self version, body-reads W narrow c v)
 
-  pub written-read : (bs : List ℕ) (c : Chart) → Bytes bs → readFile version W bs ≡ result c → Valid W c × (bs ≡ writeFile version W c)
-  unfolding readFile writeFile
-  written-read bs c by e =
-      let i = then-result (judgeFrame version (readFrame bs)) _ e in
-      let f = judged-frame version (readFrame bs) (i .1) in
-      let j = frame-trip .written bs (f .0) (i .0) by (f .1) in
-      let b = answered-result (readBody W (i .0)) (i .2) in
-      let k = body-written W narrow (i .0) c (b .0) (bytes-rest (writeFrame (f .0)) (i .0) (subst Bytes (j .1) by)) (b .1) in
-      (k .0, put (f .0) (i .0) (f .2) (f .3) (j .1) (k .1))
-    where
-      put : (f : Frame) (body : List ℕ) → f .follow ≡ length body → f .version ≡ version → bs ≡ writeFrame f ++ body → body ≡ writeBody W c
-          → bs ≡ digits 1 version ++ (digits 4 (length (writeBody W c)) ++ writeBody W c)
-      put f body l v e q = rw (← q, ← l, ← v, ← append-assoc) e
+pub written-read : (version W : ℕ) → W ≤ 8 → (bs : List ℕ) (c : Chart) → Bytes bs → readFile version W bs ≡ result c → Valid W c × (bs ≡ writeFile version W c)
+unfolding readFile writeFile
+written-read version W narrow bs c by e =
+    let i = then-result (judgeFrame version (readFrame bs)) _ e in
+    let f = judged-frame version (readFrame bs) (i .1) in
+    let j = frame-trip .written bs (f .0) (i .0) by (f .1) in
+    let b = answered-result (readBody W (i .0)) (i .2) in
+    let k = body-written W narrow (i .0) c (b .0) (bytes-rest (writeFrame (f .0)) (i .0) (subst Bytes (j .1) by)) (b .1) in
+    (k .0, joined (f .0) (i .0) (f .2) (f .3) (j .1) (k .1))
+  where
+    joined : (f : Frame) (body : List ℕ) → f .follow ≡ length body → f .version ≡ version → bs ≡ writeFrame f ++ body → body ≡ writeBody W c
+        → bs ≡ digits 1 version ++ (digits 4 (length (writeBody W c)) ++ writeBody W c)
+    joined f body l v e q = rw (← q, ← l, ← v, ← append-assoc) e
 
 -- ---- version 1
 

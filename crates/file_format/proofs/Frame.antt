@@ -1,20 +1,18 @@
 -- What a file's first five bytes say of its reading: 1, 2, or the body, in the terms that code has. Assumes nothing.
-use mathlib.Core.Path.{_≡_, refl, sym, ap, _∙_}
+use mathlib.Core.Path.{_≡_}
 use mathlib.Core.Logic.{_⊎_, inl, inr}
 use mathlib.Core.Bool.{true, false}
-use mathlib.Core.List.{List, [], _∷_}
+use mathlib.Core.List.{List}
 use Prim.Native.Nat.{ℕ, _+_, _*_, _-_, _≤_, _<_}
 use native.Mathlib.Omega.{arith}
-use lib.Dec.{eqb}
 use lib.ListN.{length, getD, drop, drop-of-length-le, length-drop}
 use lib.Seq.{drop-cons}
 use borrow.Author.Tests.{eq-eqb, ne-eqb}
 use Rattle.lists.proofs.Bools.{lt-or-le}
-use Rattle.model.specs.Answer.{Answer, result, refused, then, unless, nowhere}
-use Rattle.model.specs.Chart.{Chart}
-use Rattle.file_format.specs.Parse.{Parsed, value, refusal, bind, number}
+use Rattle.model.specs.Answer.{refused, nowhere}
+use Rattle.file_format.specs.Parse.{value}
 use Rattle.file_format.specs.Body.{isEnd, readBody}
-use Rattle.file_format.specs.File.{Frame, readFrame, judgeFrame, answered, readFile}
+use Rattle.file_format.specs.File.{readFrame, judgeFrame, answered, readFile}
 use Rattle.file_format.proofs.Reading.{one-in, one-cut, four-in, four-cut}
 
 -- no byte is left, or one is

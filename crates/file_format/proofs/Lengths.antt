@@ -1,12 +1,11 @@
 -- How many bytes a written chart has, and how many at most. Assumes nothing.
-use mathlib.Core.Path.{_≡_, refl, sym, ap, _∙_}
+use mathlib.Core.Path.{_≡_, refl, _∙_}
 use mathlib.Core.List.{List, [], _∷_, _++_, append-assoc}
-use Prim.Native.Nat.{ℕ, zero, suc, _+_, _*_, _^_, _/_, _≤_, _<_}
+use Prim.Native.Nat.{ℕ, zero, suc, _+_, _*_, _/_, _≤_}
 use native.Mathlib.Nat.{mul-le-mul, mul-suc, le-refl}
 use native.Mathlib.Numerals.{add-one}
 use native.Mathlib.Omega.{arith}
 use lib.ListN.{length, length-append}
-use Rattle.comparison.specs.Comparison.{codeOf}
 use Rattle.lists.specs.Rising.{All}
 use Rattle.model.specs.Chart.{Test, Transition, Chart}
 use Rattle.model.specs.Valid.{ValidTransition, Valid}

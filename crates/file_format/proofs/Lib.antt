@@ -1,10 +1,14 @@
 pub mod Parsed
+pub mod Answers
 pub mod Reading
 pub mod Items
 pub mod Frame
+pub mod Steps
 pub mod RoundTrip
 pub mod Fields
 pub mod Transitions
 pub mod Body
 pub mod Lengths
 pub mod File
+pub mod Bytes
+pub mod Refusals

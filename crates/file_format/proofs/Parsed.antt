@@ -2,11 +2,11 @@
 use mathlib.Core.Path.{_≡_, refl}
 use mathlib.Core.Bool.{Bool, true, false}
 use mathlib.Core.List.{List}
-use Prim.Native.Nat.{ℕ, _≤_, _<_}
+use Prim.Native.Nat.{ℕ, _<_}
 use native.Mathlib.Omega.{arith}
-use lib.Dec.{ltb, leb}
-use borrow.Author.Tests.{ltb-true, leb-true}
-use Rattle.file_format.specs.Parse.{Parsed, value, refusal, bind, guard, number, below, entry}
+use lib.Dec.{ltb}
+use borrow.Author.Tests.{ltb-true}
+use Rattle.file_format.specs.Parse.{Parsed, value, refusal, bind, guard, number, below}
 
 -- a value is no refusal
 pub value-refused : {A : Type 0} {x : Parsed A} {a : A} {t : List ℕ} {n p : ℕ} → x ≡ value a t → x ≡ refusal n p → ⊥

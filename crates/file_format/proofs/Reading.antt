@@ -1,5 +1,5 @@
 -- What the definitions' readers find at a place of a list, in the terms that code has: an index, elements and a length. Assumes nothing.
-use mathlib.Core.Path.{_≡_, refl, sym, ap, _∙_}
+use mathlib.Core.Path.{_≡_, _∙_}
 use mathlib.Core.Logic.{_⊎_, inl, inr}
 use mathlib.Core.Option.{none, some}
 use mathlib.Core.List.{List, [], _∷_}
@@ -7,7 +7,6 @@ use Prim.Native.Nat.{ℕ, zero, suc, _+_, _*_, _≤_, _<_}
 use native.Mathlib.Nat.{zero-add, add-zero, zero-mul}
 use native.Mathlib.Numerals.{add-one}
 use native.Mathlib.Omega.{arith}
-use lib.Dec.{ltb, leb}
 use lib.ListN.{length, getD, drop, drop-of-length-le}
 use lib.Seq.{drop-cons}
 use borrow.Author.Tests.{lt-ltb, le-ltb, le-leb, lt-leb}
@@ -16,7 +15,7 @@ use Rattle.comparison.specs.Comparison.{comparisonOf}
 use Rattle.lists.specs.Rising.{All}
 use Rattle.lists.proofs.Bools.{lt-or-le}
 use Rattle.model.specs.Answer.{nowhere}
-use Rattle.file_format.specs.Parse.{Parsed, value, refusal, bind, guard, byte, number, below, entry}
+use Rattle.file_format.specs.Parse.{value, refusal, byte, number, below, entry}
 use Rattle.file_format.specs.Body.{readComparison}
 
 module _ (s : List ℕ) (at : ℕ) where

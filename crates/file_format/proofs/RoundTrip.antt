@@ -5,7 +5,7 @@ use mathlib.Core.List.{List, [], _∷_, _++_, append-assoc}
 use Prim.Native.Nat.{ℕ, zero, suc, _<_}
 use lib.ListN.{length}
 use Rattle.lists.specs.Rising.{All}
-use Rattle.file_format.specs.Parse.{Parsed, value, refusal, bind, guard, many, writeAll}
+use Rattle.file_format.specs.Parse.{Parsed, value, bind, guard, many, writeAll}
 use Rattle.file_format.proofs.Parsed.{bind-value, guard-value, same-value, same-rest}
 
 -- each element is a byte

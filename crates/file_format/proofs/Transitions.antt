@@ -1,20 +1,18 @@
 -- Tests and transitions are read and written so that each undoes the other, for constants of W bytes. Assumes nothing.
-use mathlib.Core.Path.{_≡_, refl, sym, ap, _∙_, subst}
-use mathlib.Core.Bool.{Bool, true}
-use mathlib.Core.List.{List, [], _∷_, _++_, append-nil}
-use Prim.Native.Nat.{ℕ, zero, suc, _+_, _*_, _^_, _≤_, _<_}
+use mathlib.Core.Path.{_≡_, refl, ap}
+use mathlib.Core.List.{append-nil}
+use Prim.Native.Nat.{ℕ, suc, _+_, _*_, _^_, _≤_, _<_}
 use native.Mathlib.Nat.{mul-le-mul}
 use native.Mathlib.Omega.{arith}
 use lib.Dec.{leb, eqb}
 use lib.ListN.{length}
 use borrow.Author.Tests.{leb-true, le-leb, eqb-true}
-use Rattle.comparison.specs.Comparison.{codeOf}
 use Rattle.lists.specs.Rising.{Rising, All}
 use Rattle.lists.proofs.Bools.{eqb-self}
 use Rattle.model.specs.Answer.{nowhere}
 use Rattle.model.specs.Chart.{Test, Transition}
 use Rattle.model.specs.Valid.{ValidTest, ValidTransition}
-use Rattle.file_format.specs.Parse.{Parsed, value, bind, number, below, rising, digits, writeAll}
+use Rattle.file_format.specs.Parse.{writeAll}
 use Rattle.file_format.specs.Body.{readTest, readTests, recordLength, readTransition, readTransitions, writeTest, writeTransition}
 use Rattle.file_format.proofs.RoundTrip.{RoundTrip, restated, field, field-as, condition, end, items}
 use Rattle.file_format.proofs.Fields.{number-trip, below-trip, rising-trip, rising-most, comparison-trip}

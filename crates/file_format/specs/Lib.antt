@@ -2,3 +2,4 @@ pub mod Parse
 pub mod Body
 pub mod File
 pub mod Lengths
+pub mod Refusals

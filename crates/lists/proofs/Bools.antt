@@ -23,6 +23,14 @@ pub is-yes : (b : Bool) → (b ≡ false → ⊥) → b ≡ true
 is-yes true h = refl
 is-yes false h = absurd (h refl)
 
+pub not-true : (b : Bool) → not b ≡ true → b ≡ false
+not-true true h = sym h
+not-true false h = refl
+
+pub not-false : (b : Bool) → not b ≡ false → b ≡ true
+not-false true h = refl
+not-false false h = sym h
+
 -- two that are yes together are equal
 pub same-bool : (a b : Bool) → (a ≡ true → b ≡ true) → (b ≡ true → a ≡ true) → a ≡ b
 same-bool true b f g = sym (f refl)

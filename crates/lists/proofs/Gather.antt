@@ -65,7 +65,7 @@ module _ (f : ℕ → Bool) where
       go (inl h) ih = let r = ih h in (omega (arith, r .0), r .1)
       go (inr h) ih = last (f n) refl h
 
-rising-append : (limit lo mid : ℕ) (xs ys : List ℕ) → Rising mid lo xs → mid ≤ limit → lo ≤ mid → Rising limit mid ys → Rising limit lo (xs ++ ys)
+pub rising-append : (limit lo mid : ℕ) (xs ys : List ℕ) → Rising mid lo xs → mid ≤ limit → lo ≤ mid → Rising limit mid ys → Rising limit lo (xs ++ ys)
 rising-append limit lo mid [] [] a h l b = tt
 rising-append limit lo mid [] (y ∷ ys) a h l b = ((omega (arith, b .0 .0), b .0 .1), b .1)
 rising-append limit lo mid (x ∷ xs) ys a h l b =

@@ -3,3 +3,4 @@ pub mod Membership
 pub mod Lowest
 pub mod Gather
 pub mod Rising
+pub mod Elements

@@ -1,6 +1,6 @@
--- The cases that document 01 marks ★ hold: the definitions compute the replies that it gives. Assumes nothing.
+-- The cases that document 01 marks ★ hold, and those that go wrong unnoticed: the definitions compute the replies that it gives. Assumes nothing.
 use mathlib.Core.Path.{_≡_, refl}
-use mathlib.Core.List.{map, filterMap}
+use mathlib.Core.List.{_++_, map, filterMap}
 use lib.Count.{ones, onesIn}
 use Rattle.timer_set.specs.Members.{member, joined, common, minus, added, everyTimer, setOf}
 use Rattle.comparison.specs.Comparison.{met}
@@ -13,10 +13,10 @@ use Rattle.model.specs.FirstFit.{held, free, place, firstFit, usedBy, nu
 use Rattle.model.specs.Rewrite.{numbering, renamed, newTests, newStarts, newTransition, rewrittenBy}
 use Rattle.model.specs.Judge.{judged, fitted, rewriting}
 use Rattle.model.specs.Player.{arrival, answerOf, tooLarge, countsJudged, stepsOf, played}
-use Rattle.model.specs.Cases.{arrow, test, drawn, A, B, C, selfLoop, neverStarted, B′, C′, selfLoop′, numbersOf, ask, Case, case, starred}
+use Rattle.model.specs.Cases.{arrow, test, drawn, A, B, C, selfLoop, neverStarted, restart, ownStart, B′, C′, selfLoop′, numbersOf, ask, Case, case, starred, unnoticed}
 
-pub starred-hold : map (λ (x : Case). ask (x .question)) starred ≡ map (λ (x : Case). x .reply) starred
-unfolding arrow test drawn A B C selfLoop neverStarted B′ C′ selfLoop′ numbersOf ask case starred
+pub starred-hold : map (λ (x : Case). ask (x .question)) (starred ++ unnoticed) ≡ map (λ (x : Case). x .reply) (starred ++ unnoticed)
+unfolding arrow test drawn A B C selfLoop neverStarted restart ownStart B′ C′ selfLoop′ numbersOf ask case starred unnoticed
     member joined common minus added everyTimer met ones onesIn filterMap
     memb anyOf firstOf lowest gather upTo pick top
     grown restarted allMet after attempt steps begin outcome playerTime accepts

@@ -59,6 +59,18 @@ selfLoop = drawn 1 0 1 (arrow 0 0 (0 ∷ []) [] ∷ [])
 unfoldable pub neverStarted : Chart
 neverStarted = drawn 2 1 1 (arrow 0 0 (0 ∷ []) [] ∷ arrow 0 1 [] (test 0 AtLeast 0 ∷ []) ∷ [])
 
+-- "0→1 starting 0, 1→2 testing and starting 0, 2→3 testing 0"
+unfoldable pub restart : Chart
+restart = drawn 4 3 1 (
+    arrow 0 1 (0 ∷ []) []
+    ∷ arrow 1 2 (0 ∷ []) (test 0 AtMost 1 ∷ [])
+    ∷ arrow 2 3 [] (test 0 AtMost 1 ∷ [])
+    ∷ [])
+
+-- the only start of the tested timer is on the transition that tests it
+unfoldable pub ownStart : Chart
+ownStart = drawn 2 1 1 (arrow 0 1 (0 ∷ []) (test 0 AtLeast 0 ∷ []) ∷ [])
+
 -- B rewritten: transition 1 tests board timer 0 and then starts it
 unfoldable pub B′ : Chart
 B′ = drawn 4 3 1 (
@@ -123,4 +135,12 @@ starred =
     ∷ case (rewrite neverStarted 64) (rewriting-is (refused 10 1))
     ∷ case (play B (0 ∷ 0 ∷ []) (0 ∷ 1 ∷ 2 ∷ []) (5 ∷ 7 ∷ 8 ∷ [])) (played-is (result (record { location = 3; time = 8; accepting = true })))
     ∷ case (play B (0 ∷ 0 ∷ []) (0 ∷ 1 ∷ []) (5 ∷ 8 ∷ [])) (played-is (refused 24 1))
+    ∷ []
+
+-- what "goes wrong unnoticed", beside the cases above: a timer started anew begins a family of its own; a start on the same transition does not
+-- come before its test
+unfoldable pub unnoticed : List Case
+unnoticed =
+    case (numbers restart) (given ((64, 0) ∷ (128, 0) ∷ []) 1 1)
+    ∷ case (rewrite ownStart 64) (rewriting-is (refused 10 0))
     ∷ []

@@ -1,1 +1,5 @@
 pub mod Reading
+pub mod Parts
+pub mod Meaning
+pub mod Stored
+pub mod Refusals

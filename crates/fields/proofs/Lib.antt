@@ -1,0 +1,6 @@
+pub mod Answers
+pub mod RisingLoop
+pub mod StartsLoop
+pub mod TestsLoop
+pub mod Steps
+pub mod Parts

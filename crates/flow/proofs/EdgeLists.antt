@@ -1,0 +1,81 @@
+-- The flow of lists of code: a round edge by edge, as its loop goes, and what the laws of rounds ask of a flow. Assumes nothing.
+use mathlib.Core.Path.{_≡_, refl, sym, ap, _∙_}
+use mathlib.Core.Option.{some, Option·some-injective, Option·none-ne-some}
+use mathlib.Core.List.{List, [], _∷_}
+use Prim.Native.Nat.{ℕ, zero, suc, _*_, _≤_, _<_}
+use native.Mathlib.Omega.{arith}
+use lib.ListN.{length, getD, getElem?, set}
+use lib.Seq.{ext-getD}
+use Rattle.timer_set.specs.Members.{joined, minus}
+use Rattle.lists.specs.Lists.{upTo}
+use Rattle.lists.proofs.Gather.{length-upTo, getD-upTo}
+use Rattle.model.specs.Flow.{Edge, brings, round}
+use Rattle.model.proofs.Edges.{roundTo, roundTo-start, roundTo-step, roundTo-end}
+use Rattle.model.proofs.Flow.{Shaped}
+use Rattle.model.proofs.Rounds.{Words}
+use Rattle.model.proofs.Settled.{Changes, few-changes}
+use Rattle.model.proofs.Transitions.{nth-below, below-nth}
+use Rattle.flow.specs.Edges.{edgeAt, flowOf, Matching}
+
+module _ {A : Type 0} where
+  pub getD-nth : (l : List A) (i : ℕ) {a : A} (d : A) → getElem? l i ≡ some a → getD l i d ≡ a
+  getD-nth [] i d e = absurd (Option·none-ne-some _ e)
+  getD-nth (x ∷ l) zero d e = Option·some-injective _ _ e
+  getD-nth (x ∷ l) (suc i) d e = getD-nth l i d e
+
+  upTo-getD : (l : List A) (d : A) → upTo (λ i. getD l i d) (length l) ≡ l
+  upTo-getD l d = ext-getD d _ l (length-upTo _ (length l)) (λ i h. getD-upTo _ (length l) i d (omega (arith, length-upTo (λ i. getD l i d) (length l))))
+
+  nth-upTo : (f : ℕ → A) (n i : ℕ) → i < n → getElem? (upTo f n) i ≡ some (f i)
+  nth-upTo f n i h = let x = nth-below (upTo f n) i (omega (arith, length-upTo f n)) in
+      x .1 ∙ ap some (sym (getD-nth (upTo f n) i (f i) (x .1)) ∙ getD-upTo f n i (f i) h)
+
+module _ (into from cut gain own : List ℕ) where
+  nth-edge : (i : ℕ) → i < length into → getElem? (flowOf into from cut gain own .edges) i ≡ some (edgeAt into from cut gain i)
+  unfolding flowOf
+  nth-edge i h = nth-upTo (edgeAt into from cut gain) (length into) i h
+
+  length-edges : length (flowOf into from cut gain own .edges) ≡ length into
+  unfolding flowOf
+  length-edges = length-upTo (edgeAt into from cut gain) (length into)
+
+  module _ (before : List ℕ) where
+    pub round-start : own ≡ roundTo (flowOf into from cut gain own) before 0
+    unfolding flowOf
+    round-start = sym (roundTo-start (flowOf into from cut gain own) before ∙ upTo-getD own 0)
+
+    -- the sets after the first i edges, with what edge number i brings to the set w that it leads into
+    pub round-step : (i : ℕ) (after : List ℕ) (w : ℕ) → i < length into → after ≡ roundTo (flowOf into from cut gain own) before i
+        → w ≡ joined (getD after (getD into i 0) 0) (joined (getD gain i 0) (minus (getD before (getD from i 0) 0) (getD cut i 0)))
+        → set after (getD into i 0) w ≡ roundTo (flowOf into from cut gain own) before (suc i)
+    unfolding edgeAt brings
+    round-step i after w h e j = rw (j, e) (sym (roundTo-step (flowOf into from cut gain own) before i (edgeAt into from cut gain i) (nth-edge i h)))
+
+    pub round-end : (i : ℕ) (after : List ℕ) → i ≡ length into → after ≡ roundTo (flowOf into from cut gain own) before i
+        → after ≡ round (flowOf into from cut gain own) before
+    round-end i after l e = e ∙ ap (roundTo (flowOf into from cut gain own) before) (l ∙ sym length-edges) ∙ roundTo-end (flowOf into from cut gain own) before
+
+  -- where the lists match and hold words of 64 the laws of rounds hold
+  pub shaped-lists : Matching into from cut gain own → Words gain → Words own → Shaped (flowOf into from cut gain own)
+  unfolding flowOf edgeAt
+  shaped-lists m g o = record {
+    into-below = λ i {e} n. rw (is i n) (m .into-below i (below i n));
+    from-below = λ i {e} n. rw (is i n) (m .from-below i (below i n));
+    own-word = o;
+    gain-word = λ i {e} n. rw (is i n) (g i);
+  }
+    where
+      below : (i : ℕ) {e : Edge} → getElem? (flowOf into from cut gain own .edges) i ≡ some e → i < length into
+      below i n = omega (arith, below-nth (flowOf into from cut gain own .edges) i n, length-edges)
+
+      is : (i : ℕ) {e : Edge} → getElem? (flowOf into from cut gain own .edges) i ≡ some e → e ≡ edgeAt into from cut gain i
+      is i n = Option·some-injective _ _ (sym n ∙ nth-edge i (below i n))
+
+  -- the number of rounds that change a set
+  pub few-rounds : Shaped (flowOf into from cut gain own) → (k : ℕ) → Changes (flowOf into from cut gain own) k → k ≤ 64 * length own
+  unfolding flowOf
+  few-rounds s k m = few-changes (flowOf into from cut gain own) s k m
+
+  pub locations-are : flowOf into from cut gain own .locations ≡ length own
+  unfolding flowOf
+  locations-are = refl

@@ -1,0 +1,3 @@
+pub mod EdgeLists
+pub mod Turns
+pub mod ChartFlows

@@ -1,0 +1,27 @@
+-- The flow that lists of code describe: of each location its own set; of each edge the location that it leads into, the one that it comes from, the
+-- timers that it cuts and those that it gains. Assumes nothing.
+use mathlib.Core.Path.{_≡_}
+use mathlib.Core.List.{List}
+use Prim.Native.Nat.{ℕ, _≤_, _<_}
+use lib.ListN.{length, getD}
+use Rattle.lists.specs.Lists.{upTo}
+use Rattle.model.specs.Flow.{Edge, Flow}
+
+unfoldable pub edgeAt : (into from cut gain : List ℕ) → ℕ → Edge
+edgeAt into from cut gain i = record { into = getD into i 0; from = getD from i 0; cut = getD cut i 0; gain = getD gain i 0 }
+
+unfoldable pub flowOf : (into from cut gain own : List ℕ) → Flow
+flowOf into from cut gain own = record {
+  locations = length own;
+  own = λ q. getD own q 0;
+  edges = upTo (edgeAt into from cut gain) (length into);
+}
+
+-- what the code asks for its safety: lists of one length, and every edge between two locations
+pub record Matching (into from cut gain own : List ℕ) : Type 0 where
+  pub froms : length from ≡ length into
+  pub cuts : length cut ≡ length into
+  pub gains : length gain ≡ length into
+  pub locations : length own ≤ 256
+  pub into-below : (i : ℕ) → i < length into → getD into i 0 < length own
+  pub from-below : (i : ℕ) → i < length into → getD from i 0 < length own

@@ -1,0 +1,94 @@
+-- Answers: two of them that match, and which refusal numbers they can hold. Assumes nothing.
+use mathlib.Core.Path.{_≡_, refl, sym, ap₂, subst}
+use mathlib.Core.Bool.{Bool, true, false}
+use mathlib.Core.List.{List}
+use Prim.Native.Nat.{ℕ}
+use Rattle.lists.specs.Lists.{memb}
+use Rattle.model.specs.Answer.{Answer, result, refused, then, unless}
+
+module _ {A : Type 0} where
+  IsResult : Answer A → Type 0
+  IsResult (result a) = Unit {0}
+  IsResult (refused n p) = ⊥
+
+  pub not-result : {a : A} {n p : ℕ} → refused n p ≡ result a → ⊥
+  unfolding IsResult
+  not-result e = subst IsResult (sym e) tt
+
+  pub result-same : {a b : A} → result a ≡ result b → a ≡ b
+  result-same e = cc
+
+  pub refused-same : {n n′ p p′ : ℕ} → _≡_ {A = Answer A} (refused n p) (refused n′ p′) → (n ≡ n′) × (p ≡ p′)
+  refused-same e = (cc, cc)
+
+  -- a result passed the test
+  pub unless-passed : (b : Bool) (n p : ℕ) (x : Answer A) {a : A} → unless b n p x ≡ result a → (b ≡ true) × (x ≡ result a)
+  unless-passed true n p x e = (refl, e)
+  unless-passed false n p x e = absurd (not-result e)
+
+-- ---- two answers match: results that R relates, or the same refusal
+
+abbrev pub Matching : {A B : Type 0} → (A → B → Type 0) → Answer A → Answer B → Type 0
+Matching R (result a) (result b) = R a b
+Matching R (result a) (refused n p) = ⊥
+Matching R (refused n p) (result b) = ⊥
+Matching R (refused n p) (refused n′ p′) = (n ≡ n′) × (p ≡ p′)
+
+module _ {A B : Type 0} (R : A → B → Type 0) where
+  -- one test before both
+  pub match-unless : {b b′ : Bool} (n p : ℕ) (x : Answer A) (y : Answer B) → b ≡ b′ → (b ≡ true → Matching R x y)
+      → Matching R (unless b n p x) (unless b′ n p y)
+  match-unless {b} {b′} n p x y e h = rw (← e) (go b refl)
+    where
+      go : (t : Bool) → b ≡ t → Matching R (unless b n p x) (unless b n p y)
+      go true e = rw e (h e)
+      go false e = rw e (refl, refl)
+
+  module _ {C D : Type 0} (Q : C → D → Type 0) where
+    pub match-then : (x : Answer A) (y : Answer B) (f : A → Answer C) (g : B → Answer D) → ((a : A) (b : B) → R a b → Matching Q (f a) (g b))
+        → Matching R x y → Matching Q (then x f) (then y g)
+    match-then (result a) (result b) f g h m = h a b m
+    match-then (result a) (refused n p) f g h m = absurd m
+    match-then (refused n p) (result b) f g h m = absurd m
+    match-then (refused n p) (refused n′ p′) f g h m = m
+
+  pub match-weaken : (Q : A → B → Type 0) (x : Answer A) (y : Answer B) → ((a : A) (b : B) → R a b → Q a b) → Matching R x y → Matching Q x y
+  match-weaken Q (result a) (result b) f m = f a b m
+  match-weaken Q (result a) (refused n p) f m = m
+  match-weaken Q (refused n p) (result b) f m = m
+  match-weaken Q (refused n p) (refused n′ p′) f m = m
+
+  -- what matches a result is a result
+  pub match-result : {a : A} (y : Answer B) → Matching R (result a) y → (b : B) × (y ≡ result b) × R a b
+  match-result (result b) m = (b, refl, m)
+  match-result (refused n p) m = absurd m
+
+  pub match-result′ : (x : Answer A) {b : B} → Matching R x (result b) → (a : A) × (x ≡ result a) × R a b
+  match-result′ (result a) m = (a, refl, m)
+  match-result′ (refused n p) m = absurd m
+
+  -- results that R relates, turned into equal answers, make equal answers
+  pub match-same : {C : Type 0} (x : Answer A) (y : Answer B) (f : A → Answer C) (g : B → Answer C) → ((a : A) (b : B) → R a b → f a ≡ g b)
+      → Matching R x y → then x f ≡ then y g
+  match-same (result a) (result b) f g h m = h a b m
+  match-same (result a) (refused n p) f g h m = absurd m
+  match-same (refused n p) (result b) f g h m = absurd m
+  match-same (refused n p) (refused n′ p′) f g h m = ap₂ refused (m .0) (m .1)
+
+-- ---- the number of a refusal is one of a list
+
+abbrev pub NumberIn : {A : Type 0} → List ℕ → Answer A → Type 0
+NumberIn l (result a) = Unit {0}
+NumberIn l (refused n p) = memb n l ≡ true
+
+module _ (l : List ℕ) {A : Type 0} where
+  pub number-unless : (b : Bool) (n p : ℕ) (x : Answer A) → (b ≡ false → memb n l ≡ true) → NumberIn l x → NumberIn l (unless b n p x)
+  number-unless true n p x m h = h
+  number-unless false n p x m h = m refl
+
+  pub number-then : {B : Type 0} (x : Answer A) (f : A → Answer B) → NumberIn l x → ((a : A) → NumberIn l (f a)) → NumberIn l (then x f)
+  number-then (result a) f m h = h a
+  number-then (refused n p) f m h = m
+
+  pub number-is : {n p : ℕ} (x : Answer A) → NumberIn l x → x ≡ refused n p → memb n l ≡ true
+  number-is x h e = rw e at h

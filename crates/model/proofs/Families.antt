@@ -1,0 +1,118 @@
+-- The family computed of a pair is the family by chains of links: its locations, its number, the same for each of its pairs, and which ones meet.
+-- Assumes nothing.
+use mathlib.Core.Path.{_≡_, refl, sym, _∙_, subst}
+use mathlib.Core.Logic.{_↔_}
+use mathlib.Core.Bool.{true}
+use Prim.Native.Nat.{ℕ, _+_, _*_, _≤_, _<_}
+use native.Mathlib.Nat.{le-antisymm}
+use native.Mathlib.Omega.{arith}
+use lib.ListN.{getD}
+use Rattle.timer_set.specs.Members.{member}
+use Rattle.lists.specs.Lists.{memb}
+use Rattle.lists.specs.Rising.{Rising}
+use Rattle.lists.proofs.Bools.{same-bool}
+use Rattle.lists.proofs.Membership.{any-memb-in, any-memb-out}
+use Rattle.lists.proofs.Lowest.{lowest-passes, lowest-most}
+use Rattle.lists.proofs.Gather.{pick-in, pick-out, pick-rising}
+use Rattle.lists.proofs.Rising.{rising-same}
+use Rattle.model.specs.Flow.{settled}
+use Rattle.model.specs.Family.{Pairs, isPair, Linked, Joined, Family, familyNumber, linkFlow, familyOf, meets}
+use Rattle.model.proofs.Joined.{WellFormed, joined-refl, joined-trans, joined-sym, joined-carries, joined-pair}
+use Rattle.model.proofs.LinkFlow.{link-flow-iff}
+
+-- n is the number of the family of (q, j): the smallest 64 times location plus timer among its pairs
+pub record NumberOfFamily (p : Pairs) (q j n : ℕ) : Type 0 where
+  pub location : ℕ
+  pub joined : Joined p j q location
+  pub is-its : n ≡ 64 * location + j
+  pub smallest : (s : ℕ) → Joined p j q s → n ≤ 64 * s + j
+
+-- the families of (q, j) and (s, k) contain a common location
+pub record Meet (p : Pairs) (q j s k : ℕ) : Type 0 where
+  pub location : ℕ
+  pub left : Joined p j q location
+  pub right : Joined p k s location
+
+same-family : (f g : Family) → f .timer ≡ g .timer → f .first ≡ g .first → f .locations ≡ g .locations → f ≡ g
+same-family f g t a l = λ i. record { timer = t i; first = a i; locations = l i }
+
+pub family-timer : (p : Pairs) (q j : ℕ) → familyOf p q j .timer ≡ j
+unfolding familyOf
+family-timer p q j = refl
+
+module _ {p : Pairs} (formed : WellFormed p) (q j : ℕ) (pair : isPair p q j ≡ true) where
+  in-family : (s : ℕ) → Joined p j q s → (s < p .locations) × (member (getD (settled (linkFlow p j q)) s 0) j ≡ true)
+  in-family s a = let l = formed .location s j (joined-pair formed a pair) in (l, link-flow-iff formed q j pair s l .1 a)
+
+  pub family-has : (s : ℕ) → (memb s (familyOf p q j .locations) ≡ true) ↔ Joined p j q s
+  unfolding familyOf
+  family-has s = (
+    λ m. let x = pick-out _ (p .locations) s m in link-flow-iff formed q j pair s (x .0) .0 (x .1),
+    λ a. let x = in-family s a in pick-in _ (p .locations) s (x .0) (x .1),
+  )
+
+  -- the lowest location of the family
+  pub first-least : (s : ℕ) → Joined p j q s → familyOf p q j .first ≤ s
+  unfolding familyOf
+  first-least s a = lowest-most _ (p .locations) s (in-family s a .1)
+
+  pub first-joined : Joined p j q (familyOf p q j .first)
+  unfolding familyOf
+  first-joined =
+      let below : familyOf p q j .first < p .locations = omega (arith, first-least q (joined-refl q), formed .location q j pair) in
+      link-flow-iff formed q j pair (familyOf p q j .first) below .0 (lowest-passes _ (p .locations) below)
+
+  pub family-number : NumberOfFamily p q j (familyNumber (familyOf p q j))
+  unfolding familyNumber
+  family-number = record {
+    location = familyOf p q j .first;
+    joined = first-joined;
+    is-its = rw (family-timer p q j) refl;
+    smallest = λ s a. rw (family-timer p q j) (let l = first-least s a in omega arith);
+  }
+
+  pub family-rising : Rising (p .locations) 0 (familyOf p q j .locations)
+  unfolding familyOf
+  family-rising = pick-rising _ (p .locations)
+
+module _ {p : Pairs} (formed : WellFormed p) {j : ℕ} where
+  -- the pairs of a family have the same one
+  pub family-same : {q s : ℕ} → isPair p q j ≡ true → Joined p j q s → familyOf p q j ≡ familyOf p s j
+  family-same {q} {s} pair a =
+      same-family (familyOf p q j) (familyOf p s j) (family-timer p q j ∙ sym (family-timer p s j))
+      (le-antisymm (first-least formed q j pair _ (joined-trans a (first-joined formed s j pair′)))
+      (first-least formed s j pair′ _ (joined-trans (joined-sym a) (first-joined formed q j pair))))
+      (rising-same (p .locations) (p .locations) 0 _ _ (family-rising formed q j pair) (family-rising formed s j pair′) (λ x. same-bool _ _
+      (λ m. family-has formed s j pair′ x .1 (joined-trans (joined-sym a) (family-has formed q j pair x .0 m)))
+      (λ m. family-has formed q j pair x .1 (joined-trans a (family-has formed s j pair′ x .0 m)))))
+    where
+      pair′ : isPair p s j ≡ true
+      pair′ = joined-pair formed a pair
+
+  -- two pairs of a timer are of one family if the first locations of theirs are equal
+  pub same-first : {q s : ℕ} → isPair p q j ≡ true → isPair p s j ≡ true → familyOf p q j .first ≡ familyOf p s j .first → Joined p j q s
+  same-first {q} {s} pair pair′ e =
+      joined-trans (first-joined formed q j pair) (subst (λ (x : ℕ). Joined p j x s) (sym e) (joined-sym (first-joined formed s j pair′)))
+
+  -- labels that are of the family, are no higher than their own location and agree over links are the first locations: what passing on
+  -- smallest labels ends with
+  pub labels-first : (label : ℕ → ℕ) → ((q : ℕ) → isPair p q j ≡ true → Joined p j q (label q)) → ((q : ℕ) → isPair p q j ≡ true → label q ≤ q)
+      → ((q s : ℕ) → Linked p j q s → label q ≡ label s) → (q : ℕ) → isPair p q j ≡ true → label q ≡ familyOf p q j .first
+  labels-first label joined low agree q pair =
+      let x = familyOf p q j .first in
+      let a : Joined p j q x = first-joined formed q j pair in
+      let e : label q ≡ label x = joined-carries (λ (y : ℕ). label q ≡ label y) (λ y z l h. h ∙ agree y z l) a refl in
+      le-antisymm (subst (λ (n : ℕ). n ≤ x) (sym e) (low x (joined-pair formed a pair))) (first-least formed q j pair (label q) (joined q pair))
+
+-- the test of a common location is right
+pub meets-iff : {p : Pairs} → WellFormed p → (q j s k : ℕ) → isPair p q j ≡ true → isPair p s k ≡ true
+    → (meets (familyOf p q j) (familyOf p s k) ≡ true) ↔ Meet p q j s k
+unfolding meets
+meets-iff {p} formed q j s k pair pair′ = (
+  λ h.
+      let x = any-memb-out (λ y. memb y (familyOf p s k .locations)) (familyOf p q j .locations) h in
+      record { location = x .0; left = family-has formed q j pair (x .0) .0 (x .1); right = family-has formed s k pair′ (x .0) .0 (x .2) },
+  λ m.
+      any-memb-in (λ y. memb y (familyOf p s k .locations)) (m .location) (familyOf p q j .locations)
+      (family-has formed q j pair (m .location) .1 (m .left)) (family-has formed s k pair′ (m .location) .1 (m .right)),
+)

@@ -1,0 +1,74 @@
+-- Pairs that are well formed, and chains of links between them: of one family is an equivalence, and stays among the pairs. Assumes nothing.
+use mathlib.Core.Path.{_≡_, refl, sym, subst}
+use mathlib.Core.Logic.{_⊎_, inl, inr}
+use mathlib.Core.Bool.{true}
+use mathlib.Core.Option.{some}
+use mathlib.Core.List.{List, [], _∷_, _++_}
+use Prim.Native.Nat.{ℕ, _≤_, _<_}
+use lib.ListN.{getElem?}
+use Rattle.timer_set.specs.Members.{member}
+use Rattle.model.specs.Family.{Link, Pairs, isPair, Linked, Chain, Joined}
+
+-- the link's ends are locations, and each of its timers is a pair at both
+pub record WellFormedLink (p : Pairs) (l : Link) : Type 0 where
+  pub one : l .one < p .locations
+  pub other : l .other < p .locations
+  pub pair-one : (j : ℕ) → member (l .timers) j ≡ true → isPair p (l .one) j ≡ true
+  pub pair-other : (j : ℕ) → member (l .timers) j ≡ true → isPair p (l .other) j ≡ true
+
+pub record WellFormed (p : Pairs) : Type 0 where
+  pub few-timers : p .timers ≤ 64
+  pub location : (q j : ℕ) → isPair p q j ≡ true → q < p .locations
+  pub timer : (q j : ℕ) → isPair p q j ≡ true → j < p .timers
+  pub link : (i : ℕ) (l : Link) → getElem? (p .links) i ≡ some l → WellFormedLink p l
+
+pub chain-append : (p : Pairs) (j : ℕ) (v w : List ℕ) (q s t : ℕ) → Chain p j q v s → Chain p j s w t → Chain p j q (v ++ w) t
+chain-append p j [] w q s t a b = subst (λ (x : ℕ). Chain p j x w t) (sym a) b
+chain-append p j (x ∷ v) w q s t a b = (a .0, chain-append p j v w x s t (a .1) b)
+
+module _ {p : Pairs} {j : ℕ} where
+  pub linked-sym : {q s : ℕ} → Linked p j q s → Linked p j s q
+  linked-sym {q} {s} l = record { number = l .number; link = l .link; is-nth = l .is-nth; holds = l .holds; ends = turn (l .ends) }
+    where
+      turn : ((l .link .one ≡ q) × (l .link .other ≡ s)) ⊎ ((l .link .one ≡ s) × (l .link .other ≡ q))
+          → ((l .link .one ≡ s) × (l .link .other ≡ q)) ⊎ ((l .link .one ≡ q) × (l .link .other ≡ s))
+      turn (inl e) = inr e
+      turn (inr e) = inl e
+
+  pub joined-refl : (q : ℕ) → Joined p j q q
+  joined-refl q = record { way = []; chain = refl }
+
+  pub joined-one : {q s : ℕ} → Linked p j q s → Joined p j q s
+  joined-one {s = s} l = record { way = s ∷ []; chain = (l, refl) }
+
+  pub joined-trans : {q s t : ℕ} → Joined p j q s → Joined p j s t → Joined p j q t
+  joined-trans {q} {s} {t} a b = record { way = a .way ++ b .way; chain = chain-append p j (a .way) (b .way) q s t (a .chain) (b .chain) }
+
+  pub joined-sym : {q s : ℕ} → Joined p j q s → Joined p j s q
+  joined-sym {q} {s} a = go (a .way) q (a .chain)
+    where
+      go : (w : List ℕ) (x : ℕ) → Chain p j x w s → Joined p j s x
+      go [] x e = subst (λ (y : ℕ). Joined p j y x) e (joined-refl x)
+      go (y ∷ w) x c = joined-trans (go w y (c .1)) (joined-one (linked-sym (c .0)))
+
+  -- what every link hands on, a chain hands on
+  pub joined-carries : (L : ℕ → Type 0) → ((q s : ℕ) → Linked p j q s → L q → L s) → {q s : ℕ} → Joined p j q s → L q → L s
+  joined-carries L step {q} {s} a l = go (a .way) q (a .chain) l
+    where
+      go : (w : List ℕ) (x : ℕ) → Chain p j x w s → L x → L s
+      go [] x e l = subst L e l
+      go (y ∷ w) x c l = go w y (c .1) (step x y (c .0) l)
+
+module _ {p : Pairs} (formed : WellFormed p) {j : ℕ} where
+  pub linked-pair : {q s : ℕ} → Linked p j q s → isPair p s j ≡ true
+  linked-pair {q} {s} l = go (l .ends)
+    where
+      w : WellFormedLink p (l .link)
+      w = formed .link (l .number) (l .link) (l .is-nth)
+
+      go : ((l .link .one ≡ q) × (l .link .other ≡ s)) ⊎ ((l .link .one ≡ s) × (l .link .other ≡ q)) → isPair p s j ≡ true
+      go (inl e) = subst (λ (x : ℕ). isPair p x j ≡ true) (e .1) (w .pair-other j (l .holds))
+      go (inr e) = subst (λ (x : ℕ). isPair p x j ≡ true) (e .0) (w .pair-one j (l .holds))
+
+  pub joined-pair : {q s : ℕ} → Joined p j q s → isPair p q j ≡ true → isPair p s j ≡ true
+  joined-pair a h = joined-carries (λ (x : ℕ). isPair p x j ≡ true) (λ q s l h. linked-pair l) a h

@@ -1,0 +1,180 @@
+-- What the judgement of a chart says, by paths: 9 at the lowest location that no path reaches, else 10 at the lowest transition with an unstarted
+-- test, else the chart. Assumes nothing.
+use mathlib.Core.Path.{_≡_, refl, sym, ap, _∙_, subst}
+use mathlib.Core.Logic.{_⊎_, inl, inr, _↔_}
+use mathlib.Core.Bool.{Bool, true, false, not}
+use Prim.Native.Nat.{ℕ, _≤_, _<_}
+use native.Mathlib.Omega.{arith}
+use lib.Dec.{leb}
+use lib.ListN.{length, getD}
+use borrow.Author.Tests.{leb-true, leb-false, not-true}
+use Rattle.timer_set.specs.Members.{member, common}
+use Rattle.timer_set.proofs.Members.{member-common, common-lt}
+use Rattle.lists.proofs.Bools.{not-both, and-left, and-right, and-both, lt-or-le}
+use Rattle.lists.proofs.Lowest.{lowest-passes, lowest-before}
+use Rattle.lists.proofs.Membership.{first-passes, first-before}
+use Rattle.model.specs.Answer.{result, refused}
+use Rattle.model.specs.Chart.{Transition, Chart, Nth}
+use Rattle.model.specs.Valid.{Valid}
+use Rattle.model.specs.Path.{Reached, UnstartedTest}
+use Rattle.model.specs.Live.{testsSet, unstartedSets, reachedSets, isEmpty, firstUnreached, firstUnstarted}
+use Rattle.model.specs.Judge.{judged}
+use Rattle.model.proofs.Transitions.{nth-valid, tested-below, below-nth}
+use Rattle.model.proofs.TransitionSets.{member-tests, tests-word}
+use Rattle.model.proofs.Paths.{UnstartedAt}
+use Rattle.model.proofs.Forward.{member-filled, filled-member, unstarted-iff, reached-iff}
+
+-- ---- what the three answers say
+
+-- q is the lowest location that no path reaches
+pub record LowestUnreached (c : Chart) (q : ℕ) : Type 0 where
+  pub below : q < c .locations
+  pub unreached : Reached c q → ⊥
+  pub lower-reached : (p : ℕ) → p < q → Reached c p
+
+abbrev pub AllReached : Chart → Type 0
+AllReached c = (q : ℕ) → q < c .locations → Reached c q
+
+-- every location is reached, and i is the lowest transition with an unstarted test
+pub record LowestUnstarted (c : Chart) (i : ℕ) : Type 0 where
+  pub all-reached : AllReached c
+  pub unstarted-test : UnstartedAt c i
+  pub none-lower : (k : ℕ) → k < i → UnstartedAt c k → ⊥
+
+-- every location is reached, and no transition has an unstarted test
+pub record Accepted (c : Chart) : Type 0 where
+  pub all-reached : AllReached c
+  pub no-unstarted-test : (i : ℕ) → UnstartedAt c i → ⊥
+
+-- the answer, with what it says
+pub data Judgement (c : Chart) : Type 0 where
+  is-unreached : (q : ℕ) → judged c ≡ refused 9 q → LowestUnreached c q → Judgement c
+  is-unstarted : (i : ℕ) → judged c ≡ refused 10 i → LowestUnstarted c i → Judgement c
+  is-accepted : judged c ≡ result c → Accepted c → Judgement c
+
+-- ---- one of them is given
+
+module _ {W : ℕ} {c : Chart} (valid : Valid W c) where
+  -- transition r tests a timer of the unstarted set at its source
+  abbrev meets : Transition → Bool
+  meets r = not (isEmpty (common (testsSet r) (getD (unstartedSets c) (r .source) 0)))
+
+  meets-iff : {i : ℕ} {r : Transition} → Nth c i r → (meets r ≡ true) ↔ UnstartedTest c r
+  meets-iff {i} {r} n = (
+    (λ h.
+        let x =
+        filled-member (common (testsSet r) sets) (common-lt 64 (testsSet r) sets (tests-word valid n)) (not-true (isEmpty (common (testsSet r) sets)) h)
+        in
+        let m = sym (member-common (testsSet r) sets (x .0)) ∙ x .2 in
+        record {
+          timer = x .0;
+          tests-it = sym (member-tests r (x .0)) ∙ and-left (member (testsSet r) (x .0)) (member sets (x .0)) m;
+          unstarted = unstarted-iff valid (r .source) (x .0) source (x .1) .0 (and-right (member (testsSet r) (x .0)) (member sets (x .0)) m);
+        }),
+    (λ u.
+        let j = u .timer in
+        let l : j < 64 = omega (arith, valid .few-timers, tested-below valid j n (u .tests-it)) in
+        ap not
+        (member-filled (common (testsSet r) sets) j
+        (member-common (testsSet r) sets j ∙ and-both (member-tests r j ∙ u .tests-it) (unstarted-iff valid (r .source) j source l .1 (u .unstarted))))),
+  )
+    where
+      sets : ℕ
+      sets = getD (unstartedSets c) (r .source) 0
+
+      source : r .source < c .locations
+      source = nth-valid valid n .source
+
+  -- 9
+  lost-reached : (q : ℕ) → q < c .locations → q < firstUnreached c → Reached c q
+  unfolding firstUnreached
+  lost-reached q b l = reached-iff valid q b .0 (lowest-before (λ p. isEmpty (getD (reachedSets c) p 0)) (c .locations) q l)
+
+  lost-lowest : firstUnreached c < c .locations → LowestUnreached c (firstUnreached c)
+  unfolding firstUnreached
+  lost-lowest l = record {
+    below = l;
+    unreached = λ x. not-both (lowest-passes (λ p. isEmpty (getD (reachedSets c) p 0)) (c .locations) l) (reached-iff valid (firstUnreached c) l .1 x);
+    lower-reached = λ p h. lost-reached p (omega arith) h;
+  }
+
+  all-reached : c .locations ≤ firstUnreached c → AllReached c
+  all-reached h q b = lost-reached q b (omega arith)
+
+  -- 10
+  early-none : (k : ℕ) → k < firstUnstarted c → UnstartedAt c k → ⊥
+  unfolding firstUnstarted
+  early-none k l u = not-both (meets-iff (u .is-nth) .1 (u .test)) (first-before meets (c .transitions) k (u .transition) l (u .is-nth .there))
+
+  early-lowest : AllReached c → firstUnstarted c < length (c .transitions) → LowestUnstarted c (firstUnstarted c)
+  unfolding firstUnstarted
+  early-lowest reached l =
+      let x = first-passes meets (c .transitions) l in
+      let n : Nth c (firstUnstarted c) (x .0) = record { there = x .1 } in
+      record { all-reached = reached; unstarted-test = record { transition = x .0; is-nth = n; test = meets-iff n .0 (x .2) }; none-lower = early-none }
+
+  early-accepted : AllReached c → length (c .transitions) ≤ firstUnstarted c → Accepted c
+  early-accepted reached h =
+      record { all-reached = reached; no-unstarted-test = λ i u. early-none i (omega (arith, below-nth (c .transitions) i (u .is-nth .there))) u }
+
+  pub judged-cases : Judgement c
+  unfolding judged
+  judged-cases = go (leb (c .locations) (firstUnreached c)) refl (leb (length (c .transitions)) (firstUnstarted c)) refl
+    where
+      go : (a : Bool) → leb (c .locations) (firstUnreached c) ≡ a → (b : Bool) → leb (length (c .transitions)) (firstUnstarted c) ≡ b → Judgement c
+      go false e b f = is-unreached (firstUnreached c) (rw (e, judged)) (lost-lowest (leb-false _ _ e))
+      go true e false f = is-unstarted (firstUnstarted c) (rw (e, f, judged)) (early-lowest (all-reached (leb-true _ _ e)) (leb-false _ _ f))
+      go true e true f = is-accepted (rw (e, f, judged)) (early-accepted (all-reached (leb-true _ _ e)) (leb-true _ _ f))
+
+-- ---- each answer is given exactly where what it says holds
+
+-- two numbers of which neither is lower than the other are the same
+neither-lower : (a b : ℕ) → (a < b → ⊥) → (b < a → ⊥) → a ≡ b
+neither-lower a b f g = go (lt-or-le a b) (lt-or-le b a)
+  where
+    go : (a < b) ⊎ (b ≤ a) → (b < a) ⊎ (a ≤ b) → a ≡ b
+    go (inl l) y = absurd (f l)
+    go (inr h) (inl l) = absurd (g l)
+    go (inr h) (inr h′) = omega arith
+
+module _ {W : ℕ} {c : Chart} (valid : Valid W c) where
+  pub refused-9 : (q : ℕ) → (judged c ≡ refused 9 q) ↔ LowestUnreached c q
+  refused-9 q = (out (judged-cases valid), into (judged-cases valid))
+    where
+      out : Judgement c → judged c ≡ refused 9 q → LowestUnreached c q
+      out (is-unreached p e l) h = let z : p ≡ q = cc in subst (LowestUnreached c) z l
+      out (is-unstarted i e l) h = let z : _≡_ {A = ℕ} 10 9 = cc in absurd (omega arith)
+      out (is-accepted e a) h = let z : _≡_ {A = ℕ} 0 1 = cc in absurd (omega arith)
+
+      into : Judgement c → LowestUnreached c q → judged c ≡ refused 9 q
+      into (is-unreached p e l) u =
+          e ∙ ap (refused 9) (neither-lower p q (λ b. l .unreached (u .lower-reached p b)) (λ b. u .unreached (l .lower-reached q b)))
+      into (is-unstarted i e l) u = absurd (u .unreached (l .all-reached q (u .below)))
+      into (is-accepted e a) u = absurd (u .unreached (a .all-reached q (u .below)))
+
+  pub refused-10 : (i : ℕ) → (judged c ≡ refused 10 i) ↔ LowestUnstarted c i
+  refused-10 i = (out (judged-cases valid), into (judged-cases valid))
+    where
+      out : Judgement c → judged c ≡ refused 10 i → LowestUnstarted c i
+      out (is-unreached p e l) h = let z : _≡_ {A = ℕ} 10 9 = cc in absurd (omega arith)
+      out (is-unstarted k e l) h = let z : k ≡ i = cc in subst (LowestUnstarted c) z l
+      out (is-accepted e a) h = let z : _≡_ {A = ℕ} 0 1 = cc in absurd (omega arith)
+
+      into : Judgement c → LowestUnstarted c i → judged c ≡ refused 10 i
+      into (is-unreached p e l) u = absurd (l .unreached (u .all-reached p (l .below)))
+      into (is-unstarted k e l) u =
+          e ∙ ap (refused 10) (neither-lower k i (λ b. u .none-lower k b (l .unstarted-test)) (λ b. l .none-lower i b (u .unstarted-test)))
+      into (is-accepted e a) u = absurd (a .no-unstarted-test i (u .unstarted-test))
+
+  pub accepted : (judged c ≡ result c) ↔ Accepted c
+  accepted = (out (judged-cases valid), into (judged-cases valid))
+    where
+      out : Judgement c → judged c ≡ result c → Accepted c
+      out (is-unreached p e l) h = let z : _≡_ {A = ℕ} 0 1 = cc in absurd (omega arith)
+      out (is-unstarted k e l) h = let z : _≡_ {A = ℕ} 0 1 = cc in absurd (omega arith)
+      out (is-accepted e a) h = a
+
+      into : Judgement c → Accepted c → judged c ≡ result c
+      into (is-unreached p e l) u = absurd (l .unreached (u .all-reached p (l .below)))
+      into (is-unstarted k e l) u = absurd (u .no-unstarted-test k (l .unstarted-test))
+      into (is-accepted e a) u = e

@@ -1,0 +1,159 @@
+-- The player's answer is the step list's own answer, except that it is 15 at step n exactly when the steps before n are taken, step n names a
+-- transition, and its time is over 16,777,215 (and no earlier step has that). Assumes nothing.
+use mathlib.Core.Path.{_≡_, refl, sym, ap, _∙_, subst}
+use mathlib.Core.Logic.{_⊎_, inl, inr, _↔_}
+use mathlib.Core.Bool.{true≢false}
+use mathlib.Core.Option.{Option, none, some, Option·some-injective, Option·none-ne-some}
+use mathlib.Core.List.{List, [], _∷_}
+use Prim.Native.Nat.{ℕ, zero, suc, _+_, _≤_, _<_}
+use native.Mathlib.Omega.{arith}
+use lib.Dec.{leb}
+use lib.ListN.{getElem?, take}
+use borrow.Author.Tests.{le-leb, lt-leb}
+use Rattle.lists.specs.Lists.{memb}
+use Rattle.lists.proofs.Bools.{lt-or-le}
+use Rattle.model.specs.Answer.{Answer, result, refused, then, unless}
+use Rattle.model.specs.Chart.{Transition, Chart, Nth}
+use Rattle.model.specs.Run.{Counts, State, Step, attempt, steps, begin, outcome, everyTime, playerTime}
+use Rattle.model.specs.Player.{arrival, answerOf}
+use Rattle.model.specs.Equivalence.{IsRun}
+use Rattle.model.proofs.Answers.{not-result, refused-same, number-is}
+use Rattle.model.proofs.Steps.{judgedStep, attempt-none, attempt-some}
+use Rattle.model.proofs.PlayerNumbers.{list-numbers}
+
+-- step n of the list names a transition, and is the first whose time is over 16,777,215
+pub record TooLate (c : Chart) (es : List Step) (n : ℕ) : Type 0 where
+  pub step : Step
+  pub is-step : getElem? es n ≡ some step
+  pub transition : Transition
+  pub names : Nth c (step .transition) transition
+  pub over : 16777215 < step .time
+  pub first : (i : ℕ) (e : Step) → i < n → getElem? es i ≡ some e → e .time ≤ 16777215
+
+-- and the steps before it are taken
+pub record LateStep (c : Chart) (v : Counts) (es : List Step) (n : ℕ) : Type 0 where
+  pub too-late : TooLate c es n
+  pub taken : IsRun c v (take n es)
+
+module _ {c : Chart} where
+  late-here : (e : Step) (es : List Step) {r : Transition} → Nth c (e .transition) r → 16777215 < e .time → TooLate c (e ∷ es) 0
+  late-here e es {r} n l = record { step = e; is-step = refl; transition = r; names = n; over = l; first = λ i e k x. absurd (omega arith) }
+
+  late-later : (e : Step) (es : List Step) (n : ℕ) → e .time ≤ 16777215 → TooLate c es n → TooLate c (e ∷ es) (suc n)
+  late-later e es n l x =
+      record { step = x .step; is-step = x .is-step; transition = x .transition; names = x .names; over = x .over; first = before }
+    where
+      before : (i : ℕ) (d : Step) → i < suc n → getElem? (e ∷ es) i ≡ some d → d .time ≤ 16777215
+      before zero d k h = subst (λ (y : Step). y .time ≤ 16777215) (Option·some-injective _ _ h) l
+      before (suc i) d k h = x .first i d (omega arith) h
+
+  late-tail : (e : Step) (es : List Step) (n : ℕ) → TooLate c (e ∷ es) (suc n) → TooLate c es n
+  late-tail e es n x = record {
+    step = x .step;
+    is-step = x .is-step;
+    transition = x .transition;
+    names = x .names;
+    over = x .over;
+    first = λ i d k h. x .first (suc i) d (omega arith) h;
+  }
+
+-- ---- one step
+
+module _ (c : Chart) (n : ℕ) (s : State) (e : Step) where
+  player-some : {r : Transition} → Nth c (e .transition) r → attempt playerTime c n s e ≡ unless (leb (e .time) 16777215) 15 n (judgedStep n r s (e .time))
+  unfolding playerTime
+  player-some m = attempt-some playerTime c n s e m
+
+  every-some : {r : Transition} → Nth c (e .transition) r → attempt everyTime c n s e ≡ judgedStep n r s (e .time)
+  unfolding everyTime
+  every-some m = attempt-some everyTime c n s e m
+
+  -- a time that the player allows is judged alike
+  allowed-alike : e .time ≤ 16777215 → attempt playerTime c n s e ≡ attempt everyTime c n s e
+  allowed-alike l = go (getElem? (c .transitions) (e .transition)) refl
+    where
+      go : (o : Option Transition) → getElem? (c .transitions) (e .transition) ≡ o → attempt playerTime c n s e ≡ attempt everyTime c n s e
+      go none h = attempt-none playerTime c n s e h ∙ sym (attempt-none everyTime c n s e h)
+      go (some r) h = let m : Nth c (e .transition) r = record { there = h } in
+          player-some m ∙ rw (le-leb (e .time) 16777215 l) (sym (every-some m))
+
+  late-refused : {r : Transition} → Nth c (e .transition) r → 16777215 < e .time → attempt playerTime c n s e ≡ refused 15 n
+  late-refused m l = player-some m ∙ rw (lt-leb (e .time) 16777215 l) refl
+
+-- ---- a list of steps
+
+module _ (c : Chart) where
+  abbrev Taken : ℕ → State → List Step → Type 0
+  Taken n s es = (t : State) × (steps everyTime c n s es ≡ result t)
+
+  -- the first step that is too late is where the player stops, with 15, if the steps before it are taken
+  late-stops : (es : List Step) (n : ℕ) (s : State) (m : ℕ) → TooLate c es m → Taken n s (take m es) → steps playerTime c n s es ≡ refused 15 (n + m)
+  unfolding steps
+  late-stops [] n s m x k = absurd (Option·none-ne-some _ (x .is-step))
+  late-stops (e ∷ es) n s zero x k =
+      let p : e ≡ x .step = Option·some-injective _ _ (x .is-step) in
+      rw (late-refused c n s e (subst (λ (y : Step). Nth c (y .transition) (x .transition)) (sym p) (x .names)) (rw p (x .over))) (ap (refused 15) (omega arith))
+  late-stops (e ∷ es) n s (suc m) x k = rw (allowed-alike c n s e (x .first 0 e (omega arith) refl))
+      (go (attempt everyTime c n s e) (λ (t : State). late-stops es (suc n) t m (late-tail e es m x)) k)
+    where
+      go : (y : Answer State) → ((t : State) → Taken (suc n) t (take m es) → steps playerTime c (suc n) t es ≡ refused 15 (suc n + m))
+          → ((t : State) × (then y (λ t′. steps everyTime c (suc n) t′ (take m es)) ≡ result t)) → then y (λ t. steps playerTime c (suc n) t es) ≡ refused 15 (n + suc m)
+      go (result t) f z = f t z ∙ ap (refused 15) (omega arith)
+      go (refused i p) f z = absurd (not-result (z .1))
+
+  -- and where there is none, it answers as the step list
+  abbrev LateOrSame : ℕ → State → List Step → Type 0
+  LateOrSame n s es = ((m : ℕ) × TooLate c es m × Taken n s (take m es)) ⊎ (steps playerTime c n s es ≡ steps everyTime c n s es)
+
+  late-or-same : (es : List Step) (n : ℕ) (s : State) → LateOrSame n s es
+  unfolding steps
+  late-or-same [] n s = inr refl
+  late-or-same (e ∷ es) n s = named (getElem? (c .transitions) (e .transition)) refl (lt-or-le 16777215 (e .time)) (late-or-same es (suc n))
+    where
+      onward : e .time ≤ 16777215 → (t : State) → attempt everyTime c n s e ≡ result t → LateOrSame (suc n) t es → LateOrSame n s (e ∷ es)
+      onward l t h (inl x) = inl (suc (x .0), late-later e es (x .0) l (x .1), (x .2 .0, rw h (x .2 .1)))
+      onward l t h (inr p) = inr (rw (allowed-alike c n s e l, h) p)
+
+      allowed : e .time ≤ 16777215 → (y : Answer State) → attempt everyTime c n s e ≡ y → ((t : State) → LateOrSame (suc n) t es) → LateOrSame n s (e ∷ es)
+      allowed l (result t) h ih = onward l t h (ih t)
+      allowed l (refused i p) h ih = inr (rw (allowed-alike c n s e l, h) refl)
+
+      named : (o : Option Transition) → getElem? (c .transitions) (e .transition) ≡ o → (16777215 < e .time) ⊎ (e .time ≤ 16777215)
+          → ((t : State) → LateOrSame (suc n) t es) → LateOrSame n s (e ∷ es)
+      named none h d ih = inr (rw (attempt-none playerTime c n s e h, attempt-none everyTime c n s e h) refl)
+      named (some r) h (inl l) ih = inl (0, late-here e es (record { there = h }) l, (s, refl))
+      named (some r) h (inr l) ih = allowed l (attempt everyTime c n s e) refl ih
+
+-- ---- the player's answer
+
+pub record PlayerAnswer (c : Chart) (v : Counts) (es : List Step) : Type 0 where
+  -- 15 at step n exactly where step n is late
+  pub late : (n : ℕ) → (answerOf playerTime c v es ≡ refused 15 n) ↔ LateStep c v es n
+  -- in every other case the list's own answer
+  pub other : ((n : ℕ) → LateStep c v es n → ⊥) → answerOf playerTime c v es ≡ answerOf everyTime c v es
+
+pub player-answer : (c : Chart) (v : Counts) (es : List Step) → PlayerAnswer c v es
+unfolding answerOf outcome
+player-answer c v es = record { late = λ n. (λ e. is-late n e cases, stops n); other = λ h. same h cases }
+  where
+    cases : LateOrSame c 0 (begin c v) es
+    cases = late-or-same c es 0 (begin c v)
+
+    run : (n : ℕ) → Taken c 0 (begin c v) (take n es) → IsRun c v (take n es)
+    run n k = (k .0, record { ends = k .1 })
+
+    stops : (n : ℕ) → LateStep c v es n → answerOf playerTime c v es ≡ refused 15 n
+    stops n x =
+        ap (λ (y : Answer State). then y (arrival c)) (late-stops c es 0 (begin c v) n (x .too-late) (x .taken .0, x .taken .1 .ends))
+        ∙ ap (refused 15) (omega arith)
+
+    is-late : (n : ℕ) → answerOf playerTime c v es ≡ refused 15 n → LateOrSame c 0 (begin c v) es → LateStep c v es n
+    is-late n e (inl x) =
+        let found : LateStep c v es (x .0) = record { too-late = x .1; taken = run (x .0) (x .2) } in
+        subst (λ (m : ℕ). LateStep c v es m) (refused-same (sym (stops (x .0) found) ∙ e) .1) found
+    is-late n e (inr p) =
+        absurd (true≢false (sym (number-is _ _ (list-numbers c v es) (sym (ap (λ (y : Answer State). then y (arrival c)) p) ∙ e)) ∙ unfold memb in refl))
+
+    same : ((n : ℕ) → LateStep c v es n → ⊥) → LateOrSame c 0 (begin c v) es → answerOf playerTime c v es ≡ answerOf everyTime c v es
+    same h (inl x) = absurd (h (x .0) (record { too-late = x .1; taken = run (x .0) (x .2) }))
+    same h (inr p) = ap (λ (y : Answer State). then y (arrival c)) p

@@ -1,0 +1,65 @@
+-- The player on two charts that behave alike gives one answer, from any counts that 12 allows. Assumes nothing.
+use mathlib.Core.Path.{_≡_, refl, sym, ap, _∙_}
+use mathlib.Core.Bool.{not}
+use mathlib.Core.List.{List}
+use Prim.Native.Nat.{ℕ, _≤_, _<_}
+use native.Mathlib.Omega.{arith}
+use lib.Dec.{leb, eqb}
+use lib.ListN.{length, getD}
+use borrow.Author.Tests.{leb-true, le-leb, eqb-true, eq-eqb, not-false}
+use Rattle.lists.specs.Lists.{lowest}
+use Rattle.lists.proofs.Lowest.{lowest-before, lowest-is}
+use Rattle.model.specs.Answer.{Answer, result, unless, nowhere}
+use Rattle.model.specs.Chart.{Chart}
+use Rattle.model.specs.Run.{playerTime}
+use Rattle.model.specs.Rewrite.{Numbering, rewrittenBy}
+use Rattle.model.specs.Plan.{Plan}
+use Rattle.model.specs.Judge.{judged}
+use Rattle.model.specs.Player.{answerOf, tooLarge, countsJudged, stepsOf, played}
+use Rattle.model.specs.Equivalence.{Alike}
+use Rattle.model.proofs.Answers.{unless-passed}
+use Rattle.model.proofs.EqualRuns.{plan-alike}
+use Rattle.model.proofs.PlayerNumbers.{played-judged}
+
+-- one count for each timer, none over 16,777,215
+pub record CountsAllowed (c : Chart) (counts : List ℕ) : Type 0 where
+  pub one-each : length counts ≡ c .timers
+  pub small : (j : ℕ) → j < c .timers → getD counts j 0 ≤ 16777215
+
+module _ (c : Chart) (counts : List ℕ) where
+  -- 12 lets them pass, and no others
+  pub counts-pass : {A : Type 0} (x : Answer A) → CountsAllowed c counts → countsJudged c counts x ≡ x
+  unfolding countsJudged tooLarge
+  counts-pass x a =
+      let none : lowest (tooLarge counts) (c .timers) ≡ c .timers =
+      lowest-is (tooLarge counts) (c .timers) (c .timers) (omega arith) (λ l. absurd (omega arith))
+      (λ j l. ap not (le-leb (getD counts j 0) 16777215 (a .small j l))) in
+      rw (eq-eqb (length counts) (c .timers) (a .one-each), none, le-leb (c .timers) (c .timers) (omega arith)) refl
+
+  pub pass-counts : {A : Type 0} (x : Answer A) (y : A) → countsJudged c counts x ≡ result y → CountsAllowed c counts
+  unfolding countsJudged tooLarge
+  pass-counts x y e =
+      let first : ℕ = lowest (tooLarge counts) (c .timers) in
+      let one = unless-passed (eqb (length counts) (c .timers)) 12 nowhere (unless (leb (c .timers) first) 12 first x) e in
+      let two = unless-passed (leb (c .timers) first) 12 first x (one .1) in
+      record {
+        one-each = eqb-true (length counts) (c .timers) (one .0);
+        small = λ j l. leb-true (getD counts j 0) 16777215
+            (not-false _ (lowest-before (tooLarge counts) (c .timers) j (omega (arith, leb-true (c .timers) first (two .0)))));
+      }
+
+  -- where nothing else is refused, the player answers what the steps come to, its limit on times judged
+  pub played-steps : judged c ≡ result c → CountsAllowed c counts → (is ts : List ℕ)
+      → played c counts is ts ≡ unless (eqb (length is) (length ts)) 13 nowhere (answerOf playerTime c (λ j. getD counts j 0) (stepsOf is ts))
+  played-steps e a is ts = played-judged c counts is ts e ∙ counts-pass _ a
+
+module _ (c c′ : Chart) (alike : Alike c c′) (judged-c : judged c ≡ result c) (judged-c′ : judged c′ ≡ result c′) where
+  pub alike-played : (v w : List ℕ) → CountsAllowed c v → CountsAllowed c′ w → (is ts : List ℕ) → played c v is ts ≡ played c′ w is ts
+  alike-played v w a a′ is ts =
+      played-steps c v judged-c a is ts
+      ∙ ap (unless (eqb (length is) (length ts)) 13 nowhere) (alike .plays (λ j. getD v j 0) (λ j. getD w j 0) (stepsOf is ts))
+      ∙ sym (played-steps c′ w judged-c′ a′ is ts)
+
+pub played-alike : (c : Chart) (N : Numbering) → Plan c N → judged c ≡ result c → judged (rewrittenBy N c) ≡ result (rewrittenBy N c)
+    → (v w : List ℕ) → CountsAllowed c v → CountsAllowed (rewrittenBy N c) w → (is ts : List ℕ) → played c v is ts ≡ played (rewrittenBy N c) w is ts
+played-alike c N P = alike-played c (rewrittenBy N c) (plan-alike c N P)

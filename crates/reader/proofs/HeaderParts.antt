@@ -1,0 +1,119 @@
+-- The header, read as the code reads it: its first numbers, the accepting locations, the number of transitions. Assumes nothing.
+use mathlib.Core.Path.{_≡_, refl, sym, ap, _∙_}
+use mathlib.Core.Bool.{Bool, true, false}
+use mathlib.Core.List.{List}
+use Prim.Native.Nat.{ℕ, suc, _≤_, _<_}
+use native.Mathlib.Omega.{arith}
+use lib.Dec.{leb}
+use lib.ListN.{length, drop}
+use borrow.Author.Tests.{le-leb, lt-leb}
+use Rattle.model.specs.Answer.{nowhere}
+use Rattle.file_format.specs.Parse.{Parsed, value, refusal, bind, guard, number, below, rising, entry}
+use Rattle.file_format.specs.Body.{Header, readHeader}
+use Rattle.file_format.proofs.Parsed.{bind-value, guard-value, same-value, below-limit, kept-value, kept-refused}
+use Rattle.file_format.proofs.Items.{many-length}
+use Rattle.reader.specs.Parts.{Limits, readLimits, passAccepting}
+use Rattle.reader.specs.Meaning.{HeaderIs, headerNumbers}
+
+-- ---- the first numbers
+
+module _ (bs : List ℕ) where
+  pub limits-locations : {n p : ℕ} → below 2 257 4 nowhere bs ≡ refusal n p → refusal n p ≡ readLimits bs
+  unfolding readLimits
+  limits-locations e = rw e
+
+  module _ {l : ℕ} {b₁ : List ℕ} (e₀ : below 2 257 4 nowhere bs ≡ value l b₁) where
+    pub limits-none : l < 1 → refusal 4 nowhere ≡ readLimits bs
+    unfolding readLimits
+    limits-none h = rw (e₀, lt-leb 1 l h)
+
+    module _ (some : 1 ≤ l) where
+      pub limits-initial : {n p : ℕ} → below 2 l 5 nowhere b₁ ≡ refusal n p → refusal n p ≡ readLimits bs
+      unfolding readLimits
+      limits-initial e = rw (e₀, le-leb 1 l some, e)
+
+      module _ {q : ℕ} {b₂ : List ℕ} (e₁ : below 2 l 5 nowhere b₁ ≡ value q b₂) where
+        pub limits-timers : {n p : ℕ} → below 1 65 4 nowhere b₂ ≡ refusal n p → refusal n p ≡ readLimits bs
+        unfolding readLimits
+        limits-timers e = rw (e₀, le-leb 1 l some, e₁, e)
+
+        module _ {k : ℕ} {b₃ : List ℕ} (e₂ : below 1 65 4 nowhere b₂ ≡ value k b₃) where
+          pub limits-accepting : {n p : ℕ} → number 2 b₃ ≡ refusal n p → refusal n p ≡ readLimits bs
+          unfolding readLimits
+          limits-accepting e = rw (e₀, le-leb 1 l some, e₁, e₂, e)
+
+          pub limits-found : {a : ℕ} {b₄ : List ℕ} → number 2 b₃ ≡ value a b₄ → value (record { locations = l; initial = q; timers = k; accepting = a }) b₄ ≡ readLimits bs
+          unfolding readLimits
+          limits-found e = rw (e₀, le-leb 1 l some, e₁, e₂, e)
+
+pub few-timers : (bs : List ℕ) {l : Limits} {t : List ℕ} → readLimits bs ≡ value l t → l .timers ≤ 64
+unfolding readLimits
+few-timers bs {l} {t} e =
+    let i₀ = bind-value (below 2 257 4 nowhere bs) _ l t e in
+    let g = guard-value (leb 1 (i₀ .0)) 4 nowhere _ (i₀ .3) in
+    let i₁ = bind-value (below 2 (i₀ .0) 5 nowhere (i₀ .1)) _ l t (g .1) in
+    let i₂ = bind-value (below 1 65 4 nowhere (i₁ .1)) _ l t (i₁ .3) in
+    let i₃ = bind-value (number 2 (i₂ .1)) _ l t (i₂ .3) in
+    let q : i₂ .0 ≡ l .timers = ap (λ (x : Limits). x .timers) (same-value (i₃ .3)) in
+    omega (arith, below-limit 1 65 4 nowhere (i₁ .1) (i₂ .2))
+
+-- ---- the parts make up the header
+
+bind-bind : {A B C : Type 0} (x : Parsed A) (f : A → List ℕ → Parsed B) (g : B → List ℕ → Parsed C) → bind (bind x f) g ≡ bind x (λ a t. bind (f a t) g)
+bind-bind (value a t) f g = refl
+bind-bind (refusal n p) f g = refl
+
+bind-guard : {A B : Type 0} (c : Bool) (n p : ℕ) (x : Parsed A) (g : A → List ℕ → Parsed B) → bind (guard c n p x) g ≡ guard c n p (bind x g)
+bind-guard true n p x g = refl
+bind-guard false n p x g = refl
+
+abbrev headerFrom : Limits → List ℕ → Parsed Header
+headerFrom l b₁ =
+    bind (rising 2 (l .locations) 5 nowhere (l .accepting) b₁) (λ accepting b₂.
+    bind (below 2 513 4 nowhere b₂) (λ count b₃.
+    value (record { locations = l .locations; initial = l .initial; timers = l .timers; accepting = accepting; count = count }) b₃))
+
+header-parts : (bs : List ℕ) → bind (readLimits bs) headerFrom ≡ readHeader bs
+unfolding readLimits readHeader
+header-parts bs = simp (bind-bind, bind-guard)
+
+pub accepting-length : (locations n : ℕ) (bs : List ℕ) {xs t : List ℕ} → rising 2 locations 5 nowhere n bs ≡ value xs t → length xs ≡ n
+unfolding rising
+accepting-length locations n bs {xs} {t} e = many-length (λ (lo x : ℕ). suc x) (entry 2 locations 5 nowhere) 0 n bs xs t e
+
+-- ---- the header from its parts
+
+module _ (bs : List ℕ) where
+  pub header-limits : {n p : ℕ} → readLimits bs ≡ refusal n p → readHeader bs ≡ refusal n p
+  header-limits e = sym (header-parts bs) ∙ rw e
+
+  module _ {l : Limits} {b₁ : List ℕ} (e₀ : readLimits bs ≡ value l b₁) where
+    abbrev entries-read : Parsed (List ℕ)
+    entries-read = rising 2 (l .locations) 5 nowhere (l .accepting) b₁
+
+    pub header-accepting : {n p : ℕ} → passAccepting (l .locations) (l .accepting) b₁ ≡ refusal n p → readHeader bs ≡ refusal n p
+    unfolding passAccepting
+    header-accepting e = let h = kept-refused length entries-read e in sym (header-parts bs) ∙ rw (e₀, h)
+
+    module _ {x : ℕ} {b₂ : List ℕ} (e₁ : passAccepting (l .locations) (l .accepting) b₁ ≡ value x b₂) where
+      accepting-found : (xs : List ℕ) × (entries-read ≡ value xs b₂) × (length xs ≡ x)
+      unfolding passAccepting
+      accepting-found = kept-value length entries-read e₁
+
+      pub header-count : {n p : ℕ} → below 2 513 4 nowhere b₂ ≡ refusal n p → readHeader bs ≡ refusal n p
+      header-count e = let h = accepting-found .1 in sym (header-parts bs) ∙ rw (e₀, h, e)
+
+      pub header-found : (s : List ℕ) {n : ℕ} (entries transitions : ℕ) → b₁ ≡ drop entries s → below 2 513 4 nowhere b₂ ≡ value n (drop transitions s)
+          → HeaderIs s bs (record { locations = l .locations; initial = l .initial; timers = l .timers; accepting = l .accepting; transitions = n }) entries transitions
+      unfolding headerNumbers
+      header-found s {n} entries transitions here e =
+          let h = accepting-found in
+          let q = accepting-length _ _ _ (h .1) in
+          record {
+            header = record { locations = l .locations; initial = l .initial; timers = l .timers; accepting = h .0; count = n };
+            is = sym (header-parts bs) ∙ rw (e₀, h .1, e);
+            numbers = rw q;
+            few-timers = few-timers bs e₀;
+            end = b₂;
+            accepting = rw (← here) (h .1);
+          }

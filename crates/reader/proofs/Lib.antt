@@ -1,0 +1,11 @@
+pub mod FrameParts
+pub mod HeaderParts
+pub mod Passing
+pub mod Filling
+pub mod Lengths
+pub mod Store
+pub mod FillingTests
+pub mod RecordParts
+pub mod JudgeParts
+pub mod ReadParts
+pub mod Refusals
