@@ -1,1 +1,4 @@
 pub mod Reading
+pub mod Parts
+pub mod Meaning
+pub mod Stored

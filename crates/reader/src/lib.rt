@@ -1,12 +1,624 @@
 // Reads a chart file into lent lists: judges all of it first, then the room, and only then writes.
 ghost use mathlib.Core.Path.{_≡_};
-ghost use Rattle.chart_lists.specs.Lists.{lists};
+ghost use mathlib.Core.List.{List};
+ghost use Prim.Native.Nat.{ℕ, _+_, _≤_};
+ghost use lib.ListN.{length, drop};
+ghost use Rattle.model.specs.Answer.{nowhere};
+ghost use Rattle.model.specs.Chart.{Test, Transition};
+ghost use Rattle.chart_lists.specs.Lists.{lists, put, allTests};
+ghost use Rattle.file_format.specs.Parse.{value, entry, rising};
+ghost use Rattle.file_format.specs.Body.{readTests, readTransitions};
+ghost use Rattle.file_format.specs.File.{readFrame, judgeFrame};
+ghost use Rattle.fields.specs.Meaning.{meant};
 ghost use Rattle.reader.specs.Reading.{readInto, readAnswer, listsAfter, meantRead};
+ghost use Rattle.reader.specs.Parts.{readLimits, passAccepting, passTransitions, enough};
+ghost use Rattle.reader.specs.Meaning.{meantFrame, meantLimits, limitsRefusal, HeaderAt, headerRefusal, RecordAt, FileJudged, judgedRefusal};
+ghost use Rattle.reader.specs.Stored.{HeadsStored, TestsStored, TestsFit};
 use chart_lists::Numbers;
 use chart_lists::Refusal;
+use fields::Field;
+use fields::HeadField;
+use fields::TestField;
+
+// The version byte and the length: the place where the body begins. Compared as 64-bit numbers, so that nothing is cut.
+fn frame(s: &[u8]) -> Field
+    ensures { λ r. ⌜ meantFrame (now (s .entry)) r ≡ judgeFrame 1 (readFrame (now (s .entry))) ⌝ }
+{
+    let a = fields::byte_at(s, 0);
+    let Field::Value(version, at) = a else {
+        return Field::Refused(Refusal {
+            number: 1,
+            place: 65535,
+        });
+    };
+    let b = fields::quad_at(s, at);
+    let Field::Value(follow, body) = b else {
+        return Field::Refused(Refusal {
+            number: 1,
+            place: 65535,
+        });
+    };
+    if follow + 5 != s.len() as u64 {
+        return Field::Refused(Refusal {
+            number: 1,
+            place: 65535,
+        });
+    }
+    if version != 1 {
+        return Field::Refused(Refusal {
+            number: 2,
+            place: 65535,
+        });
+    }
+    Field::Value(follow, body)
+}
+
+// The first four numbers of the body, with the place where the accepting locations begin.
+pub enum LimitsField {
+    Found {
+        locations: u16,
+        initial: u16,
+        timers: u8,
+        accepting: u16,
+        next: usize,
+    },
+    Refused(Refusal),
+}
+
+fn limits_refusal(a: LimitsField) -> Refusal
+    ensures { λ r. ⌜ r ≡ limitsRefusal a ⌝ }
+{
+    match a {
+        LimitsField::Refused(f) => f,
+        LimitsField::Found {
+            locations: _,
+            initial: _,
+            timers: _,
+            accepting: _,
+            next: _,
+        } => Refusal {
+            number: 0,
+            place: 0,
+        },
+    }
+}
+
+fn limits_at(s: &[u8], at: usize) -> LimitsField
+    ensures { λ r. ⌜ meantLimits (now (s .entry)) r ≡ readLimits (drop at (now (s .entry))) ⌝ }
+{
+    let a = fields::pair_below(s, at, 257, 4, 65535);
+    let Field::Value(locations, at1) = a else {
+        return LimitsField::Refused(fields::refusal_of(a));
+    };
+    if locations < 1 {
+        return LimitsField::Refused(Refusal {
+            number: 4,
+            place: 65535,
+        });
+    }
+    let b = fields::pair_below(s, at1, locations, 5, 65535);
+    let Field::Value(initial, at2) = b else {
+        return LimitsField::Refused(fields::refusal_of(b));
+    };
+    let d = fields::byte_below(s, at2, 65, 4, 65535);
+    let Field::Value(timers, at3) = d else {
+        return LimitsField::Refused(fields::refusal_of(d));
+    };
+    let e = fields::pair_at(s, at3);
+    let Field::Value(accepting, next) = e else {
+        return LimitsField::Refused(fields::refusal_of(e));
+    };
+    LimitsField::Found {
+        locations: locations as u16,
+        initial: initial as u16,
+        timers: timers as u8,
+        accepting: accepting as u16,
+        next,
+    }
+}
+
+// One accepting location, at least lowest.
+fn entry_at(s: &[u8], at: usize, locations: u16, lowest: u64) -> Field
+    ensures { λ r. ⌜ meant (now (s .entry)) r ≡ entry 2 locations 5 nowhere lowest (drop at (now (s .entry))) ⌝ }
+{
+    let a = fields::pair_below(s, at, locations as u64, 5, 65535);
+    let Field::Value(x, _) = a else {
+        return a;
+    };
+    if x < lowest {
+        return Field::Refused(Refusal {
+            number: 7,
+            place: 65535,
+        });
+    }
+    a
+}
+
+// The accepting locations, judged and passed over.
+fn pass_accepting(s: &[u8], at: usize, n: u16, locations: u16) -> Field
+    ensures { λ r. ⌜ meant (now (s .entry)) r ≡ passAccepting locations n (drop at (now (s .entry))) ⌝ }
+{
+    let mut here = at;
+    let mut lowest: u64 = 0;
+    let mut k: u16 = 0;
+    while k < n {
+        let a = entry_at(s, here, locations, lowest);
+        let Field::Value(x, next) = a else {
+            return a;
+        };
+        lowest = x + 1;
+        here = next;
+        k += 1;
+    }
+    Field::Value(n as u64, here)
+}
+
+// The header, with the places where the accepting locations and where the transitions begin.
+pub enum HeaderField {
+    Found {
+        numbers: Numbers,
+        entries: usize,
+        transitions: usize,
+    },
+    Refused(Refusal),
+}
+
+fn header_refusal(a: HeaderField) -> Refusal
+    ensures { λ r. ⌜ r ≡ headerRefusal a ⌝ }
+{
+    match a {
+        HeaderField::Refused(f) => f,
+        HeaderField::Found {
+            numbers: _,
+            entries: _,
+            transitions: _,
+        } => Refusal {
+            number: 0,
+            place: 0,
+        },
+    }
+}
+
+fn header_at(s: &[u8], at: usize) -> HeaderField
+    ensures { λ r. ⌜ HeaderAt (now (s .entry)) (drop at (now (s .entry))) r ⌝ }
+{
+    let a = limits_at(s, at);
+    let LimitsField::Found {
+        locations,
+        initial,
+        timers,
+        accepting,
+        next: entries,
+    } = a
+    else {
+        return HeaderField::Refused(limits_refusal(a));
+    };
+    let b = pass_accepting(s, entries, accepting, locations);
+    let Field::Value(_, after) = b else {
+        return HeaderField::Refused(fields::refusal_of(b));
+    };
+    let d = fields::pair_below(s, after, 513, 4, 65535);
+    let Field::Value(count, transitions) = d else {
+        return HeaderField::Refused(fields::refusal_of(d));
+    };
+    let numbers = Numbers {
+        locations,
+        initial,
+        timers,
+        accepting,
+        transitions: count as u16,
+    };
+    HeaderField::Found {
+        numbers,
+        entries,
+        transitions,
+    }
+}
+
+// All transitions, judged and passed over: the number of their tests, with the place after them.
+fn judge_records(s: &[u8], at: usize, n: u16, locations: u16, timers: u8) -> Field
+    requires { ⌜ timers ≤ 64 ⌝ }
+    ensures { λ r. ⌜ meant (now (s .entry)) r ≡ passTransitions 2 locations timers n (drop at (now (s .entry))) ⌝ }
+{
+    let mut here = at;
+    let mut tests: u64 = 0;
+    let mut i: u16 = 0;
+    while i < n {
+        let a = fields::pass_record(s, here, locations, timers, i as u64);
+        let Field::Value(g, next) = a else {
+            return a;
+        };
+        tests += g;
+        here = next;
+        i += 1;
+    }
+    Field::Value(tests, here)
+}
+
+// The whole file, judged: its chart's numbers, the two places of its header, and the number of its tests.
+pub enum Judged {
+    Good {
+        numbers: Numbers,
+        entries: usize,
+        transitions: usize,
+        tests: u64,
+    },
+    Refused(Refusal),
+}
+
+fn judged_refusal(a: Judged) -> Refusal
+    ensures { λ r. ⌜ r ≡ judgedRefusal a ⌝ }
+{
+    match a {
+        Judged::Refused(f) => f,
+        Judged::Good {
+            numbers: _,
+            entries: _,
+            transitions: _,
+            tests: _,
+        } => Refusal {
+            number: 0,
+            place: 0,
+        },
+    }
+}
+
+fn judge_file(s: &[u8]) -> Judged
+    ensures { λ r. ⌜ FileJudged (now (s .entry)) r ⌝ }
+{
+    let a = frame(s);
+    let Field::Value(_, body) = a else {
+        return Judged::Refused(fields::refusal_of(a));
+    };
+    let b = header_at(s, body);
+    let HeaderField::Found {
+        numbers,
+        entries,
+        transitions,
+    } = b
+    else {
+        return Judged::Refused(header_refusal(b));
+    };
+    let d = judge_records(
+        s,
+        transitions,
+        numbers.transitions,
+        numbers.locations,
+        numbers.timers,
+    );
+    let Field::Value(tests, end) = d else {
+        return Judged::Refused(fields::refusal_of(d));
+    };
+    if end < s.len() {
+        return Judged::Refused(Refusal {
+            number: 3,
+            place: 65535,
+        });
+    }
+    Judged::Good {
+        numbers,
+        entries,
+        transitions,
+        tests,
+    }
+}
+
+// Whether lists of these lengths have room for a accepting locations, n transitions and g tests.
+fn room(
+    a: u64,
+    n: u64,
+    g: u64,
+    accepting: u64,
+    sources: u64,
+    targets: u64,
+    events: u64,
+    starts: u64,
+    counts: u64,
+    timers: u64,
+    codes: u64,
+    constants: u64,
+) -> bool
+    ensures { λ r. ⌜ r ≡ enough a n g accepting sources targets events starts counts timers codes constants ⌝ }
+{
+    if accepting < a {
+        return false;
+    }
+    if sources < n {
+        return false;
+    }
+    if targets < n {
+        return false;
+    }
+    if events < n {
+        return false;
+    }
+    if starts < n {
+        return false;
+    }
+    if counts < n {
+        return false;
+    }
+    if timers < g {
+        return false;
+    }
+    if codes < g {
+        return false;
+    }
+    g <= constants
+}
+
+// The accepting locations, of a file that was judged.
+fn fill_accepting(s: &[u8], at: usize, n: u16, locations: u16, accepting: &mut [u16])
+    requires { ⌜ n ≤ length (now accepting) ⌝ }
+    ensures { λ _. ⌜ ((xs : List ℕ) (t : List ℕ) → rising 2 locations 5 nowhere n (drop at (now (s .entry))) ≡ value xs t → now (accepting .exit) ≡ put xs (now (accepting .entry))) ⌝ }
+{
+    let mut here = at;
+    let mut lowest: u64 = 0;
+    let mut k: usize = 0;
+    while k < n as usize {
+        let a = entry_at(s, here, locations, lowest);
+        let Field::Value(x, next) = a else {
+            return;
+        };
+        accepting[k] = x as u16;
+        lowest = x + 1;
+        here = next;
+        k += 1;
+    }
+}
+
+// A transition's record up to its tests, with the place where they begin and the place after the record.
+pub enum RecordField {
+    Found {
+        source: u16,
+        target: u16,
+        event: u8,
+        starts: u64,
+        tests: u8,
+        inside: usize,
+        next: usize,
+    },
+    Refused(Refusal),
+}
+
+fn record_at(s: &[u8], at: usize, locations: u16, timers: u8, place: u64) -> RecordField
+    requires { ⌜ timers ≤ 64 ⌝ }
+    ensures { λ r. ⌜ RecordAt locations timers place (now (s .entry)) (drop at (now (s .entry))) r ⌝ }
+{
+    let a = fields::head_at(s, at, locations, timers, place);
+    let HeadField::Found {
+        source,
+        target,
+        event,
+        starts,
+        tests,
+        next: inside,
+    } = a
+    else {
+        return RecordField::Refused(fields::head_refusal(a));
+    };
+    let b = fields::pass_tests(s, inside, tests, timers, place);
+    let Field::Value(_, next) = b else {
+        return RecordField::Refused(fields::refusal_of(b));
+    };
+    RecordField::Found {
+        source,
+        target,
+        event,
+        starts,
+        tests,
+        inside,
+        next,
+    }
+}
+
+// Of each transition its source, target, event, set of starts and number of tests.
+fn fill_heads(
+    s: &[u8],
+    at: usize,
+    n: u16,
+    locations: u16,
+    timers: u8,
+    sources: &mut [u16],
+    targets: &mut [u16],
+    events: &mut [u8],
+    starts: &mut [u64],
+    counts: &mut [u8],
+)
+    requires { ⌜ (timers ≤ 64) × (n ≤ length (now sources)) × (n ≤ length (now targets)) × (n ≤ length (now events)) × (n ≤ length (now starts)) × (n ≤ length (now counts)) ⌝ }
+    ensures { λ _. ⌜ ((rs : List Transition) (t : List ℕ) → readTransitions 2 locations timers n (drop at (now (s .entry))) ≡ value rs t
+        → HeadsStored rs (now (sources .entry)) (now (targets .entry)) (now (events .entry)) (now (starts .entry)) (now (counts .entry))
+        (now (sources .exit)) (now (targets .exit)) (now (events .exit)) (now (starts .exit)) (now (counts .exit))) ⌝ }
+{
+    let mut here = at;
+    let mut k: usize = 0;
+    while k < n as usize {
+        let a = record_at(s, here, locations, timers, k as u64);
+        let RecordField::Found {
+            source,
+            target,
+            event,
+            starts: started,
+            tests,
+            inside: _,
+            next,
+        } = a
+        else {
+            return;
+        };
+        sources[k] = source;
+        targets[k] = target;
+        events[k] = event;
+        starts[k] = started;
+        counts[k] = tests;
+        here = next;
+        k += 1;
+    }
+}
+
+// The tests of one transition, from the entry base of the lists on.
+fn fill_record_tests(
+    s: &[u8],
+    at: usize,
+    g: u8,
+    timers: u8,
+    place: u64,
+    base: usize,
+    tested: &mut [u8],
+    codes: &mut [u8],
+    constants: &mut [u16],
+)
+    requires { ⌜ (base + g ≤ length (now tested)) × (base + g ≤ length (now codes)) × (base + g ≤ length (now constants)) ⌝ }
+    ensures { λ _. ⌜ ((ts : List Test) (t : List ℕ) → readTests 2 timers place g (drop at (now (s .entry))) ≡ value ts t
+        → TestsStored ts base (now (tested .entry)) (now (codes .entry)) (now (constants .entry)) (now (tested .exit)) (now (codes .exit)) (now (constants .exit))) ⌝ }
+{
+    let mut here = at;
+    let mut k: u8 = 0;
+    while k < g {
+        let a = fields::test_at(s, here, timers, place);
+        let TestField::Found {
+            timer,
+            comparison,
+            constant,
+            next,
+        } = a
+        else {
+            return;
+        };
+        let to = base + k as usize;
+        tested[to] = timer;
+        codes[to] = comparison::code_of(comparison);
+        constants[to] = constant;
+        here = next;
+        k += 1;
+    }
+}
+
+// The tests of all transitions, one transition's after another's.
+fn fill_tests(
+    s: &[u8],
+    at: usize,
+    n: u16,
+    locations: u16,
+    timers: u8,
+    tested: &mut [u8],
+    codes: &mut [u8],
+    constants: &mut [u16],
+)
+    requires { ⌜ (timers ≤ 64) × TestsFit locations timers n (drop at (now s)) (length (now tested)) (length (now codes)) (length (now constants)) ⌝ }
+    ensures { λ _. ⌜ ((rs : List Transition) (t : List ℕ) → readTransitions 2 locations timers n (drop at (now (s .entry))) ≡ value rs t
+        → TestsStored (allTests rs) 0 (now (tested .entry)) (now (codes .entry)) (now (constants .entry)) (now (tested .exit)) (now (codes .exit)) (now (constants .exit))) ⌝ }
+{
+    let mut here = at;
+    let mut base: usize = 0;
+    let mut i: u16 = 0;
+    while i < n {
+        let a = record_at(s, here, locations, timers, i as u64);
+        let RecordField::Found {
+            source: _,
+            target: _,
+            event: _,
+            starts: _,
+            tests,
+            inside,
+            next,
+        } = a
+        else {
+            return;
+        };
+        fill_record_tests(
+            s,
+            inside,
+            tests,
+            timers,
+            i as u64,
+            base,
+            tested,
+            codes,
+            constants,
+        );
+        base += tests as usize;
+        here = next;
+        i += 1;
+    }
+}
 
 // What reading a file gives: the chart's numbers, or a refusal.
 pub enum Read {
     Chart(Numbers),
     Refused(Refusal),
+}
+
+pub fn read(
+    file: &[u8],
+    accepting: &mut [u16],
+    sources: &mut [u16],
+    targets: &mut [u16],
+    events: &mut [u8],
+    starts: &mut [u64],
+    counts: &mut [u8],
+    timers: &mut [u8],
+    codes: &mut [u8],
+    constants: &mut [u16],
+) -> Read
+    ensures answer { λ r. ⌜ meantRead r ≡ readAnswer (lists (now (accepting .entry)) (now (sources .entry)) (now (targets .entry)) (now (events .entry)) (now (starts .entry)) (now (counts .entry)) (now (timers .entry)) (now (codes .entry)) (now (constants .entry))) (now (file .entry)) ⌝ }
+    ensures lent { λ _. ⌜ lists (now (accepting .exit)) (now (sources .exit)) (now (targets .exit)) (now (events .exit)) (now (starts .exit)) (now (counts .exit)) (now (timers .exit)) (now (codes .exit)) (now (constants .exit))
+        ≡ listsAfter (readInto (lists (now (accepting .entry)) (now (sources .entry)) (now (targets .entry)) (now (events .entry)) (now (starts .entry)) (now (counts .entry)) (now (timers .entry)) (now (codes .entry)) (now (constants .entry))) (now (file .entry)))
+        (lists (now (accepting .entry)) (now (sources .entry)) (now (targets .entry)) (now (events .entry)) (now (starts .entry)) (now (counts .entry)) (now (timers .entry)) (now (codes .entry)) (now (constants .entry))) ⌝ }
+{
+    let a = judge_file(file);
+    let Judged::Good {
+        numbers,
+        entries,
+        transitions,
+        tests,
+    } = a
+    else {
+        return Read::Refused(judged_refusal(a));
+    };
+    let n = numbers.transitions;
+    let locations = numbers.locations;
+    if !room(
+        numbers.accepting as u64,
+        n as u64,
+        tests,
+        accepting.len() as u64,
+        sources.len() as u64,
+        targets.len() as u64,
+        events.len() as u64,
+        starts.len() as u64,
+        counts.len() as u64,
+        timers.len() as u64,
+        codes.len() as u64,
+        constants.len() as u64,
+    ) {
+        return Read::Refused(Refusal {
+            number: 21,
+            place: 65535,
+        });
+    }
+    fill_accepting(file, entries, numbers.accepting, locations, accepting);
+    fill_heads(
+        file,
+        transitions,
+        n,
+        locations,
+        numbers.timers,
+        sources,
+        targets,
+        events,
+        starts,
+        counts,
+    );
+    fill_tests(
+        file,
+        transitions,
+        n,
+        locations,
+        numbers.timers,
+        timers,
+        codes,
+        constants,
+    );
+    Read::Chart(numbers)
 }

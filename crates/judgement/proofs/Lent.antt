@@ -1,0 +1,55 @@
+-- The front of an array of empty sets that is lent for the sets that go forwards, before and after. Assumes nothing.
+use mathlib.Core.Path.{_≡_, sym, ap, _∙_}
+use mathlib.Core.List.{List, _++_}
+use Prim.Native.Nat.{ℕ, _≤_, _<_}
+use native.Mathlib.Omega.{arith}
+use lib.ListN.{length, getD, take, drop, replicate, length-append}
+use lib.Seq.{take-at}
+use Rattle.model.specs.Flow.{settled}
+use Rattle.model.proofs.Settled.{length-settled}
+use Rattle.flow.specs.Edges.{flowOf}
+use Rattle.flow.proofs.Lists.{locations-are}
+use Rattle.flow.proofs.Turns.{take-empty}
+use Rattle.judgement.specs.Drawn.{ownSets, Drawable}
+use Rattle.judgement.proofs.OwnSets.{length-own, length-empty, few-locations}
+
+-- where nothing is cut, what is cut is lent too
+module _ {initial locations : ℕ} {sources targets : List ℕ} (d : Drawable initial locations sources targets (replicate (length sources) 0)) where
+  pub none-cut : Drawable initial locations sources targets (take (length sources) (replicate 512 0))
+  none-cut = rw (take-empty (length sources) 512 (d .few)) d
+
+  pub none-flow : {sets : List ℕ}
+      → sets ≡ settled (flowOf targets sources (take (length sources) (replicate 512 0)) (replicate (length sources) 0) (ownSets initial locations))
+      → sets ≡ settled (flowOf targets sources (replicate (length sources) 0) (replicate (length sources) 0) (ownSets initial locations))
+  none-flow e = rw (take-empty (length sources) 512 (d .few)) at e
+
+module _ {initial locations : ℕ} {sources targets cut : List ℕ} (d : Drawable initial locations sources targets cut) where
+  pub lent-length : _≡_ (length {A = ℕ} (take locations (replicate 256 0))) locations
+  lent-length = length-empty locations 256 (few-locations d)
+
+  pub lent-drawable : Drawable initial (length {A = ℕ} (take locations (replicate 256 0))) sources targets cut
+  lent-drawable = rw lent-length d
+
+  module _ {sets : List ℕ} (e : sets ≡ settled (flowOf targets sources cut (replicate (length sources) 0) (ownSets initial (length {A = ℕ} (take locations (replicate 256 0)))))) (rest : List ℕ) where
+    made-sets : sets ≡ settled (flowOf targets sources cut (replicate (length sources) 0) (ownSets initial locations))
+    made-sets = rw lent-length at e
+
+    made-length : length sets ≡ locations
+    made-length = ap length made-sets ∙ length-settled _ ∙ locations-are targets sources cut (replicate (length sources) 0) (ownSets initial locations) ∙ length-own initial locations
+
+    -- the front is read again
+    pub made-room : locations ≤ length (sets ++ rest)
+    made-room = rw length-append (omega (arith, made-length))
+
+    seen : take locations (sets ++ rest) ≡ sets
+    seen = take-at sets rest locations made-length
+
+    pub seen-length : length (take locations (sets ++ rest)) ≡ locations
+    seen-length = ap length seen ∙ made-length
+
+    pub seen-sets : take locations (sets ++ rest) ≡ settled (flowOf targets sources cut (replicate (length sources) 0) (ownSets initial locations))
+    seen-sets = seen ∙ made-sets
+
+    -- every source is among them
+    pub sources-seen : (i : ℕ) → i < length sources → getD sources i 0 < length (take locations (sets ++ rest))
+    sources-seen i h = omega (arith, seen-length, length-own initial locations, d .matching .from-below i (omega (arith, d .matching .froms)))

@@ -1,0 +1,4 @@
+pub mod Tested
+pub mod OwnSets
+pub mod Judging
+pub mod Lent

@@ -1,0 +1,45 @@
+-- All timers at the initial location and nothing elsewhere, as the front of an array; and what the code asks of a chart's lists, of a valid chart.
+-- Assumes nothing.
+use mathlib.Core.Path.{_≡_, refl, sym, ap, _∙_}
+use mathlib.Core.List.{List}
+use Prim.Native.Nat.{ℕ, _≤_, _<_}
+use native.Mathlib.Omega.{arith}
+use lib.ListN.{length, replicate, set, take, length-set, length-replicate}
+use lib.Seq.{take-set-lt, length-take-le}
+use Rattle.timer_set.specs.Members.{everyTimer}
+use Rattle.model.specs.Flow.{settled}
+use Rattle.flow.specs.Edges.{flowOf, Matching}
+use Rattle.flow.proofs.Turns.{take-empty}
+use Rattle.judgement.specs.Drawn.{ownSets, Drawable}
+
+-- the array of them
+abbrev pub ownArray : ℕ → List ℕ
+ownArray initial = set (replicate 256 0) initial 18446744073709551615
+
+pub length-own : (initial n : ℕ) → length (ownSets initial n) ≡ n
+length-own initial n = length-set (replicate n 0) initial everyTimer ∙ length-replicate {A = ℕ} n 0
+
+pub length-empty : (n m : ℕ) → n ≤ m → _≡_ (length {A = ℕ} (take n (replicate m 0))) n
+length-empty n m h = length-take-le n (replicate m 0) (omega (arith, length-replicate {A = ℕ} m 0))
+
+module _ {initial locations : ℕ} {sources targets cut : List ℕ} (d : Drawable initial locations sources targets cut) where
+  pub few-locations : locations ≤ 256
+  few-locations = omega (arith, d .matching .locations, length-own initial locations)
+
+  pub own-room : locations ≤ length (ownArray initial)
+  own-room = omega (arith, few-locations, length-set {A = ℕ} (replicate 256 0) initial 18446744073709551615, length-replicate {A = ℕ} 256 0)
+
+  pub own-front : take locations (ownArray initial) ≡ ownSets initial locations
+  unfolding everyTimer
+  own-front = take-set-lt locations (replicate 256 0) initial everyTimer (d .starts-inside) ∙ ap (λ (l : List ℕ). set l initial everyTimer) (take-empty locations 256 few-locations)
+
+  -- what the fronts of the arrays are
+  pub own-length : length (take locations (ownArray initial)) ≡ locations
+  own-length = ap length own-front ∙ length-own initial locations
+
+  pub front-matching : Matching targets sources cut (take (length sources) (replicate 512 0)) (take locations (ownArray initial))
+  front-matching = rw (take-empty (length sources) 512 (d .few), own-front) (d .matching)
+
+  pub front-flow : {sets : List ℕ} → sets ≡ settled (flowOf targets sources cut (take (length sources) (replicate 512 0)) (take locations (ownArray initial)))
+      → sets ≡ settled (flowOf targets sources cut (replicate (length sources) 0) (ownSets initial locations))
+  front-flow e = rw (take-empty (length sources) 512 (d .few), own-front) at e

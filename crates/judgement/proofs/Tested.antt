@@ -1,0 +1,105 @@
+-- The sets of the timers that transitions test, made one timer and one transition after another; and the first transition that tests a timer of
+-- its source's set. Assumes nothing.
+use mathlib.Core.Path.{_≡_, refl, sym, ap, _∙_}
+use mathlib.Core.Bool.{Bool, true, false, not}
+use mathlib.Core.List.{List, [], _∷_, _++_, map, map-append, append-assoc, foldl-append}
+use Prim.Native.Nat.{ℕ, zero, suc, _+_, _≤_, _<_}
+use native.Mathlib.Numerals.{add-one}
+use native.Mathlib.Omega.{arith}
+use lib.Dec.{eqb}
+use lib.ListN.{length, getD, take, drop, set, length-drop, length-map}
+use lib.Seq.{length-take-le, take-length, take-suc, take-at, drop-at, drop-drop, getD-drop}
+use Rattle.timer_set.specs.Members.{added, common, setOf}
+use Rattle.lists.specs.Lists.{lowest, firstOf}
+use Rattle.lists.proofs.Lowest.{lowest-is}
+use Rattle.model.specs.Chart.{Test, Transition}
+use Rattle.model.specs.Live.{testsSet, isEmpty}
+use Rattle.chart_lists.specs.Lists.{allTests, put}
+use Rattle.chart_lists.proofs.Put.{put-more}
+use Rattle.judgement.specs.Tested.{total, setsIn, TestsOf, testsIn}
+
+-- ---- one transition's tests
+
+pub set-more : (ts : List ℕ) (base k : ℕ) → base + k < length ts
+    → added (setOf (take k (drop base ts))) (getD ts (base + k) 0) ≡ setOf (take (k + 1) (drop base ts))
+unfolding setOf
+set-more ts base k h =
+    let l : k < length (drop base ts) = simp length-drop (omega arith) in
+    rw (add-one k, take-suc (drop base ts) k 0, foldl-append, getD-drop)
+
+-- ---- one transition after another
+
+pub length-sets : (ns ts : List ℕ) → length (setsIn ns ts) ≡ length ns
+unfolding setsIn
+length-sets [] ts = refl
+length-sets (n ∷ ns) ts = ap suc (length-sets ns (drop n ts))
+
+total-last : (ns : List ℕ) (n : ℕ) → total (ns ++ (n ∷ [])) ≡ total ns + n
+unfolding total
+total-last [] n = omega arith
+total-last (m ∷ ns) n = rw (total-last ns n) (omega arith)
+
+sets-last : (ns : List ℕ) (n : ℕ) (ts : List ℕ) → setsIn (ns ++ (n ∷ [])) ts ≡ setsIn ns ts ++ (setOf (take n (drop (total ns) ts)) ∷ [])
+unfolding setsIn total
+sets-last [] n ts = refl
+sets-last (m ∷ ns) n ts = rw (sets-last ns n (drop m ts), drop-drop (total ns) m ts)
+
+total-take : (ns : List ℕ) (i : ℕ) → total (take i ns) ≤ total ns
+unfolding total
+total-take ns zero = omega arith
+total-take [] (suc i) = omega arith
+total-take (n ∷ ns) (suc i) = omega (arith, total-take ns i)
+
+put-at : (xs l : List ℕ) (v : ℕ) {k : ℕ} → length xs ≡ k → k < length l → set (put xs l) k v ≡ put (xs ++ (v ∷ [])) l
+put-at xs l v e h = rw (← e) (put-more xs l v (omega arith))
+
+module _ (ns ts : List ℕ) (i : ℕ) (h : i < length ns) where
+  pub total-more : {base : ℕ} → base ≡ total (take i ns) → base + getD ns i 0 ≡ total (take (i + 1) ns)
+  total-more e = rw (e, add-one i, take-suc ns i 0 h) (sym (total-last (take i ns) (getD ns i 0)))
+
+  -- so many timers are there
+  pub total-room : total (take i ns) + getD ns i 0 ≤ total ns
+  total-room = rw (total-more refl) (total-take ns (i + 1))
+
+  -- the next transition's set is stored behind the others
+  pub sets-more : (l : List ℕ) {out : List ℕ} {base w : ℕ} → length ns ≤ length l → base ≡ total (take i ns) → out ≡ put (setsIn (take i ns) ts) l
+      → w ≡ setOf (take (getD ns i 0) (drop base ts)) → set out i w ≡ put (setsIn (take (i + 1) ns) ts) l
+  sets-more l room b o v =
+      let e : length (setsIn (take i ns) ts) ≡ i = length-sets (take i ns) ts ∙ length-take-le i ns (omega arith) in
+      rw (o, v, b, add-one i, take-suc ns i 0 h, sets-last (take i ns) (getD ns i 0) ts) (put-at (setsIn (take i ns) ts) l _ e (omega arith))
+
+-- of transitions' tests they are the sets of the timers that each tests
+pub sets-are : (rs : List Transition) (beyond : List ℕ)
+    → setsIn (map (λ (r : Transition). length (r .tests)) rs) (map (λ (t : Test). t .timer) (allTests rs) ++ beyond) ≡ map testsSet rs
+unfolding setsIn allTests testsSet
+sets-are [] beyond = refl
+sets-are (r ∷ rs) beyond =
+    let e : length (map (λ (t : Test). t .timer) (r .tests)) ≡ length (r .tests) = length-map (r .tests) (λ (t : Test). t .timer) in
+    rw (map-append, append-assoc, take-at _ _ _ e, drop-at _ _ _ e, sets-are rs beyond)
+
+pub tested-are : (rs : List Transition) (ns ts : List ℕ) → TestsOf rs ns ts → setsIn (take (length ns) ns) ts ≡ map testsSet rs
+tested-are rs ns ts t = rw (take-length, t .counts-are, t .timers-are) (sets-are rs (t .beyond))
+
+-- ---- the first transition that tests a timer of its source's set
+
+-- the same by the lists
+abbrev pub testsAt : (sources tested sets : List ℕ) → ℕ → Bool
+testsAt sources tested sets i = not (isEmpty (common (getD tested i 0) (getD sets (getD sources i 0) 0)))
+
+pub first-testing-is : (sets : List ℕ) (rs : List Transition)
+    → lowest (testsAt (map (λ (r : Transition). r .source) rs) (map testsSet rs) sets) (length rs) ≡ firstOf (testsIn sets) rs
+unfolding lowest firstOf testsIn
+first-testing-is sets [] = refl
+first-testing-is sets (r ∷ rs) = ap (λ (k : ℕ). elim (testsIn sets r) as (λ _. ℕ) [ true ↦ 0 | false ↦ suc k ]) (first-testing-is sets rs)
+
+-- what the code's test says of it
+pub test-says : (a b : ℕ) {w : ℕ} {r : Bool} → w ≡ common a b → r ≡ eqb w 0 → not (isEmpty (common a b)) ≡ not r
+unfolding isEmpty
+test-says a b e f = rw (f, e)
+
+-- a place that passes, or is the number of transitions, and before which none passes, is the first
+pub first-testing-at : (sources tested sets : List ℕ) (m : ℕ) → m ≤ length sources → (m < length sources → testsAt sources tested sets m ≡ true)
+    → ((k : ℕ) → k < m → testsAt sources tested sets k ≡ false)
+    → (rs : List Transition) → sources ≡ map (λ (r : Transition). r .source) rs → tested ≡ map testsSet rs → m ≡ firstOf (testsIn sets) rs
+first-testing-at sources tested sets m l t b rs e f =
+    sym (lowest-is (testsAt sources tested sets) (length sources) m l t b) ∙ rw (e, f, length-map) (first-testing-is sets rs)

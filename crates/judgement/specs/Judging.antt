@@ -1,0 +1,30 @@
+-- The judgement that all calls share: a file's refusals 1 to 8, then 9, then 10; and what it hands on: the chart in lists of the largest size, with
+-- the set of the timers that each transition tests. Assumes nothing.
+use mathlib.Core.List.{List, [], _∷_, map}
+use Prim.Native.Nat.{ℕ}
+use lib.ListN.{replicate}
+use Rattle.model.specs.Answer.{Answer, result, refused, then}
+use Rattle.model.specs.Chart.{Chart}
+use Rattle.model.specs.Live.{testsSet}
+use Rattle.model.specs.Judge.{judged}
+use Rattle.file_format.specs.File.{chartIn}
+use Rattle.chart_lists.specs.Lists.{Lists, lists, put}
+use Rattle.chart_lists.specs.declared.Numbers.{Numbers}
+use Rattle.chart_lists.specs.Numbers.{numbersOf}
+
+-- the chart of a file, or its refusal, 1 to 10
+unfoldable pub judgedIn : List ℕ → Answer Chart
+judgedIn bs = then (chartIn bs) judged
+
+unfoldable pub judgedNumbers : List ℕ → Answer Numbers
+judgedNumbers bs = then (judgedIn bs) (λ c. result (numbersOf c))
+
+-- lists of the largest size, with zeros
+unfoldable pub largest : Lists
+largest = lists (replicate 256 0) (replicate 512 0) (replicate 512 0) (replicate 512 0) (replicate 512 0) (replicate 512 0) (replicate 4096 0)
+    (replicate 4096 0) (replicate 4096 0)
+
+-- the tested sets over the front of zeros
+abbrev pub testedAfter : Answer Chart → List ℕ
+testedAfter (result c) = put (map testsSet (c .transitions)) (replicate 512 0)
+testedAfter (refused n p) = replicate 512 0

@@ -1,0 +1,139 @@
+// The judgement that all calls share: reads a file into arrays of the largest size and judges 1 to 10.
+ghost use mathlib.Core.Path.{_≡_};
+ghost use mathlib.Core.List.{List, map};
+ghost use Prim.Native.Nat.{ℕ, _+_, _≤_, _<_};
+ghost use lib.ListN.{length, getD, take, drop, replicate};
+ghost use Rattle.timer_set.specs.Members.{setOf};
+ghost use Rattle.lists.specs.Lists.{lowest, firstOf};
+ghost use Rattle.model.specs.Chart.{Transition, Chart};
+ghost use Rattle.model.specs.Live.{testsSet, isEmpty, firstUnreached, firstUnstarted};
+ghost use Rattle.model.specs.Flow.{settled};
+ghost use Rattle.flow.specs.Edges.{flowOf};
+ghost use Rattle.chart_lists.specs.Lists.{put};
+ghost use Rattle.judgement.specs.Drawn.{Drawable, Drawn, ownSets};
+ghost use Rattle.judgement.specs.Tested.{TimersFor, TestsOf, testsIn};
+use timer_set::TimerSet;
+
+// The set of so many timers from the entry base on.
+fn set_of(timers: &[u8], base: usize, count: u8) -> u64
+    requires { ⌜ (base + count ≤ length (now timers)) × ((i : ℕ) → getD (now timers) i 0 < 64) ⌝ }
+    ensures { λ r. ⌜ r ≡ setOf (take count (drop base (now (timers .entry)))) ⌝ }
+{
+    let mut set = TimerSet::EMPTY;
+    let mut k: u8 = 0;
+    while k < count {
+        set = set.with(timers[base + k as usize]);
+        k += 1;
+    }
+    set.bits
+}
+
+// The set of the timers that each transition tests, over the front of `tested`.
+fn tested_sets(counts: &[u8], timers: &[u8], tested: &mut [u64])
+    requires { ⌜ TimersFor (now counts) (now timers) × (length (now counts) ≤ length (now tested)) ⌝ }
+    ensures { λ _. ⌜ ((rs : List Transition) → TestsOf rs (now (counts .entry)) (now (timers .entry)) → now (tested .exit) ≡ put (map testsSet rs) (now (tested .entry))) ⌝ }
+{
+    let n = counts.len();
+    let mut base: usize = 0;
+    let mut i: usize = 0;
+    while i < n {
+        let count = counts[i];
+        tested[i] = set_of(timers, base, count);
+        base += count as usize;
+        i += 1;
+    }
+}
+
+// The first set that is empty, or their number.
+fn first_empty(sets: &[u64]) -> usize
+    ensures { λ r. ⌜ r ≡ lowest (λ q. isEmpty (getD (now (sets .entry)) q 0)) (length (now (sets .entry))) ⌝ }
+{
+    let n = sets.len();
+    let mut q: usize = 0;
+    while q < n {
+        let set = TimerSet { bits: sets[q] };
+        if set.is_empty() {
+            return q;
+        }
+        q += 1;
+    }
+    n
+}
+
+// The first transition that tests a timer of its source's set, or their number.
+fn first_testing(sources: &[u16], tested: &[u64], sets: &[u64]) -> usize
+    requires { ⌜ (length (now tested) ≡ length (now sources)) × ((i : ℕ) → i < length (now sources) → getD (now sources) i 0 < length (now sets)) ⌝ }
+    ensures { λ r. ⌜ ((rs : List Transition) → now (sources .entry) ≡ map (λ (r : Transition). r .source) rs → now (tested .entry) ≡ map testsSet rs
+        → r ≡ firstOf (testsIn (now (sets .entry))) rs) ⌝ }
+{
+    let n = sources.len();
+    let mut i: usize = 0;
+    while i < n {
+        let q = sources[i] as usize;
+        let both = TimerSet { bits: tested[i] }.common(TimerSet { bits: sets[q] });
+        if !both.is_empty() {
+            return i;
+        }
+        i += 1;
+    }
+    n
+}
+
+// The sets that go forwards along the transitions, from all timers at the initial location, but for what each cuts.
+fn forward<'a>(
+    sources: &'a [u16],
+    targets: &'a [u16],
+    cut: &'a [u64],
+    initial: usize,
+    sets: &mut [u64],
+)
+    requires { ⌜ Drawable initial (length (now sets)) (now sources) (now targets) (now cut) ⌝ }
+    ensures { λ _. ⌜ now (sets .exit) ≡ settled (flowOf (now (targets .entry)) (now (sources .entry)) (now (cut .entry)) (replicate (length (now (sources .entry))) 0) (ownSets initial (length (now (sets .entry))))) ⌝ }
+{
+    let none = [0u64; 512];
+    let n = sources.len();
+    let mut own = [0u64; 256];
+    own[initial] = TimerSet::EVERY.bits;
+    let m = sets.len();
+    flow::settle(targets, sources, cut, &none[..n], &own[..m], sets);
+}
+
+// 9: the lowest location that no path reaches, or the number of locations.
+fn first_unreached<'a>(
+    sources: &'a [u16],
+    targets: &'a [u16],
+    initial: usize,
+    locations: usize,
+) -> usize
+    requires { ⌜ Drawable initial locations (now sources) (now targets) (replicate (length (now sources)) 0) ⌝ }
+    ensures { λ r. ⌜ ((c : Chart) (starts tested : List ℕ) → Drawn c initial locations (now (sources .entry)) (now (targets .entry)) starts tested → r ≡ firstUnreached c) ⌝ }
+{
+    let none = [0u64; 512];
+    let n = sources.len();
+    let mut sets = [0u64; 256];
+    forward(
+        sources,
+        targets,
+        &none[..n],
+        initial,
+        &mut sets[..locations],
+    );
+    first_empty(&sets[..locations])
+}
+
+// 10: the lowest transition with an unstarted test, or the number of transitions.
+fn first_unstarted<'a>(
+    sources: &'a [u16],
+    targets: &'a [u16],
+    starts: &'a [u64],
+    tested: &'a [u64],
+    initial: usize,
+    locations: usize,
+) -> usize
+    requires { ⌜ Drawable initial locations (now sources) (now targets) (now starts) × (length (now tested) ≡ length (now sources)) ⌝ }
+    ensures { λ r. ⌜ ((c : Chart) → Drawn c initial locations (now (sources .entry)) (now (targets .entry)) (now (starts .entry)) (now (tested .entry)) → r ≡ firstUnstarted c) ⌝ }
+{
+    let mut sets = [0u64; 256];
+    forward(sources, targets, starts, initial, &mut sets[..locations]);
+    first_testing(sources, tested, &sets[..locations])
+}

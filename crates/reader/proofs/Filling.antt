@@ -1,0 +1,37 @@
+-- The loops that fill the lent lists, on plain values: what is read so far is laid over their fronts. Assumes nothing.
+use mathlib.Core.Path.{_≡_, refl, sym, ap, _∙_, subst}
+use mathlib.Core.List.{List, [], _∷_, _++_}
+use Prim.Native.Nat.{ℕ, suc, _+_, _≤_, _<_}
+use native.Mathlib.Numerals.{add-one}
+use native.Mathlib.Omega.{arith}
+use lib.ListN.{length, set}
+use Rattle.model.specs.Answer.{nowhere}
+use Rattle.chart_lists.specs.Lists.{put}
+use Rattle.chart_lists.proofs.Put.{put-nil, put-last, put-next}
+use Rattle.file_format.specs.Parse.{Parsed, value, refusal, entry, rising}
+use Rattle.file_format.proofs.Parsed.{value-refused, same-value}
+use Rattle.file_format.proofs.Items.{Turn, rising-first, turn-done, turn-refused, turn-again}
+
+-- ---- the accepting locations
+
+pub record AcceptingFilled (locations n k lowest : ℕ) (start bs l out : List ℕ) : Type 0 where
+  pub done : List ℕ
+  pub turn : Turn (λ (lo x : ℕ). suc x) (entry 2 locations 5 nowhere) (rising 2 locations 5 nowhere n start) n k done lowest bs
+  pub is : out ≡ put done l
+
+pub filled-first : (locations n : ℕ) (start l : List ℕ) → AcceptingFilled locations n 0 0 start start l l
+filled-first locations n start l = record { done = []; turn = rising-first 2 locations 5 nowhere n start; is = sym (put-nil l) }
+
+module _ {locations n k lowest : ℕ} {start bs l out : List ℕ} (f : AcceptingFilled locations n k lowest start bs l out) where
+  pub filled-done : n ≤ k → (xs t : List ℕ) → rising 2 locations 5 nowhere n start ≡ value xs t → out ≡ put xs l
+  filled-done h xs t e = let q : f .done ≡ xs = same-value (sym (turn-done (f .turn) h) ∙ e) in rw (← q) (f .is)
+
+  module _ (h : k < n) where
+    pub filled-never : {m p : ℕ} → entry 2 locations 5 nowhere lowest bs ≡ refusal m p → (xs t : List ℕ) → rising 2 locations 5 nowhere n start ≡ value xs t → ⊥
+    filled-never r xs t e = value-refused e (turn-refused (f .turn) h r)
+
+    pub filled-again : n ≤ length l → {x : ℕ} {t : List ℕ} → entry 2 locations 5 nowhere lowest bs ≡ value x t
+        → AcceptingFilled locations n (k + 1) (x + 1) start t l (set out k x)
+    filled-again room {x} e =
+        let g : k < length l = omega arith in
+        rw (add-one x) (record { done = f .done ++ (x ∷ []); turn = turn-again (f .turn) h e; is = put-last (f .done) l x g (f .turn .count) (f .is) })

@@ -1,0 +1,50 @@
+-- The loops that judge the accepting locations and the transitions, on plain values: what is read so far, and the number that they answer.
+-- Assumes nothing.
+use mathlib.Core.Path.{_≡_, refl, sym, ap, _∙_}
+use mathlib.Core.List.{List, [], _∷_, _++_}
+use Prim.Native.Nat.{ℕ, suc, _+_, _*_, _≤_, _<_}
+use native.Mathlib.Numerals.{add-one}
+use native.Mathlib.Omega.{arith}
+use lib.Dec.{leb}
+use lib.ListN.{length, length-append}
+use Rattle.model.specs.Answer.{nowhere}
+use Rattle.model.specs.Chart.{Transition}
+use Rattle.chart_lists.specs.Lists.{allTests}
+use Rattle.chart_lists.proofs.Tests.{tests-more}
+use Rattle.file_format.specs.Parse.{Parsed, value, refusal, bind, guard, below, entry, rising}
+use Rattle.file_format.specs.Body.{readTransition, readTransitions}
+use Rattle.file_format.proofs.Parsed.{bind-value, guard-value, same-value, below-limit}
+use Rattle.file_format.proofs.Items.{Turn, rising-first, transitions-first, turn-done, turn-refused, turn-again}
+use Rattle.reader.specs.Parts.{passAccepting, passTransitions}
+
+-- an entry of a rising list that was read is below the limit
+pub entry-limit : (w limit n p lo : ℕ) (bs : List ℕ) {x : ℕ} {t : List ℕ} → entry w limit n p lo bs ≡ value x t → x < limit
+unfolding entry
+entry-limit w limit n p lo bs {x} {t} e =
+    let i = bind-value (below w limit n p bs) _ x t e in
+    let g = guard-value (leb lo (i .0)) 7 p (value (i .0) (i .1)) (i .3) in
+    let q : i .0 ≡ x = same-value (g .1) in
+    omega (arith, below-limit w limit n p bs (i .2))
+
+-- of n accepting locations k are read, and the next one is at least lowest
+pub record AcceptingRead (locations n k lowest : ℕ) (start bs : List ℕ) : Type 0 where
+  pub done : List ℕ
+  pub turn : Turn (λ (lo x : ℕ). suc x) (entry 2 locations 5 nowhere) (rising 2 locations 5 nowhere n start) n k done lowest bs
+
+pub accepting-first : (locations n : ℕ) (start : List ℕ) → AcceptingRead locations n 0 0 start start
+accepting-first locations n start = record { done = []; turn = rising-first 2 locations 5 nowhere n start }
+
+module _ {locations n k lowest : ℕ} {start bs : List ℕ} (p : AcceptingRead locations n k lowest start bs) where
+  pub accepting-done : n ≤ k → value n bs ≡ passAccepting locations n start
+  unfolding passAccepting
+  accepting-done h =
+      let e : length (p .done) ≡ n = omega (arith, p .turn .count, p .turn .most) in
+      rw (turn-done (p .turn) h, e)
+
+  module _ (h : k < n) where
+    pub accepting-refused : {m q : ℕ} → entry 2 locations 5 nowhere lowest bs ≡ refusal m q → refusal m q ≡ passAccepting locations n start
+    unfolding passAccepting
+    accepting-refused e = rw (turn-refused (p .turn) h e)
+
+    pub accepting-again : {x : ℕ} {t : List ℕ} → entry 2 locations 5 nowhere lowest bs ≡ value x t → AcceptingRead locations n (k + 1) (x + 1) start t
+    accepting-again {x} e = rw (add-one x) (record { done = p .done ++ (x ∷ []); turn = turn-again (p .turn) h e })

@@ -1,0 +1,103 @@
+-- What each answer of the code says of the file. Assumes nothing.
+use mathlib.Core.Path.{_≡_}
+use mathlib.Core.List.{List}
+use Prim.Native.Nat.{ℕ, _≤_}
+use lib.ListN.{length, drop}
+use Rattle.model.specs.Answer.{Answer, result, nowhere}
+use Rattle.model.specs.Chart.{Transition, Chart}
+use Rattle.chart_lists.specs.declared.Numbers.{Numbers}
+use Rattle.chart_lists.specs.declared.Refusal.{Refusal}
+use Rattle.chart_lists.specs.Numbers.{numbersOf, refusedAs}
+use Rattle.chart_lists.specs.Lists.{allTests}
+use Rattle.file_format.specs.Parse.{Parsed, value, rising}
+use Rattle.file_format.specs.Body.{Header, readHeader, readTests, readTransition, readTransitions}
+use Rattle.file_format.specs.File.{chartIn}
+use Rattle.fields.specs.declared.Field.{Field}
+use Rattle.fields.specs.declared.Field.the-variants as field
+use Rattle.fields.specs.Parts.{Head, headOf}
+use Rattle.fields.specs.Meaning.{refusalAs}
+use Rattle.reader.specs.declared.LimitsField.{LimitsField}
+use Rattle.reader.specs.declared.LimitsField.the-variants as limits
+use Rattle.reader.specs.declared.HeaderField.{HeaderField}
+use Rattle.reader.specs.declared.HeaderField.the-variants as header
+use Rattle.reader.specs.declared.RecordField.{RecordField}
+use Rattle.reader.specs.declared.RecordField.the-variants as records
+use Rattle.reader.specs.declared.Judged.{Judged}
+use Rattle.reader.specs.declared.Judged.the-variants as judged
+use Rattle.reader.specs.Parts.{Limits}
+
+-- the body of the file, from the next place on
+abbrev pub meantFrame : List ℕ → Field → Answer (List ℕ)
+meantFrame s (field.Value x next) = result (drop next s)
+meantFrame s (field.Refused f) = refusedAs f
+
+abbrev pub meantLimits : List ℕ → LimitsField → Parsed Limits
+meantLimits s (limits.Found l q k a next) = value (record { locations = l; initial = q; timers = k; accepting = a }) (drop next s)
+meantLimits s (limits.Refused f) = refusalAs f
+
+abbrev pub limitsRefusal : LimitsField → Refusal
+limitsRefusal (limits.Refused f) = f
+limitsRefusal (limits.Found l q k a next) = record { number = 0; place = 0 }
+
+-- ---- the header
+
+unfoldable pub headerNumbers : Header → Numbers
+headerNumbers h = record {
+  locations = h .locations;
+  initial = h .initial;
+  timers = h .timers;
+  accepting = length (h .accepting);
+  transitions = h .count;
+}
+
+-- the header that begins with bs: its numbers, and the places where the accepting locations and where the transitions begin
+pub record HeaderIs (s bs : List ℕ) (m : Numbers) (entries transitions : ℕ) : Type 0 where
+  pub header : Header
+  pub is : readHeader bs ≡ value header (drop transitions s)
+  pub numbers : m ≡ headerNumbers header
+  pub end : List ℕ
+  pub accepting : rising 2 (m .locations) 5 nowhere (m .accepting) (drop entries s) ≡ value (header .accepting) end
+
+pub record HeaderAt (s bs : List ℕ) (r : HeaderField) : Type 0 where
+  pub found : (m : Numbers) (entries transitions : ℕ) → r ≡ header.Found m entries transitions → HeaderIs s bs m entries transitions
+  pub refused : (f : Refusal) → r ≡ header.Refused f → readHeader bs ≡ refusalAs f
+
+abbrev pub headerRefusal : HeaderField → Refusal
+headerRefusal (header.Refused f) = f
+headerRefusal (header.Found m entries transitions) = record { number = 0; place = 0 }
+
+-- ---- one transition's record
+
+-- the record that begins with bs: what stands before its tests, the place where they begin, and the place after the record
+pub record RecordIs (locations timers i : ℕ) (s bs : List ℕ) (h : Head) (inside next : ℕ) : Type 0 where
+  pub transition : Transition
+  pub is : readTransition 2 locations timers i bs ≡ value transition (drop next s)
+  pub head : headOf transition ≡ h
+  pub tests : readTests 2 timers i (h .tests) (drop inside s) ≡ value (transition .tests) (drop next s)
+
+pub record RecordAt (locations timers i : ℕ) (s bs : List ℕ) (r : RecordField) : Type 0 where
+  pub found : (p q e w g inside next : ℕ) → r ≡ records.Found p q e w g inside next
+      → RecordIs locations timers i s bs (record { source = p; target = q; event = e; starts = w; tests = g }) inside next
+  pub refused : (f : Refusal) → r ≡ records.Refused f → readTransition 2 locations timers i bs ≡ refusalAs f
+
+-- ---- the whole file
+
+-- the file's chart: its numbers, the places where its accepting locations and its transitions begin, and the number of its tests
+pub record ChartIs (s : List ℕ) (m : Numbers) (entries transitions tests : ℕ) : Type 0 where
+  pub chart : Chart
+  pub is : chartIn s ≡ result chart
+  pub numbers : m ≡ numbersOf chart
+  pub few-timers : m .timers ≤ 64
+  pub number-of-tests : tests ≡ length (allTests (chart .transitions))
+  pub accepting-end : List ℕ
+  pub accepting-are : rising 2 (m .locations) 5 nowhere (m .accepting) (drop entries s) ≡ value (chart .accepting) accepting-end
+  pub transitions-end : List ℕ
+  pub transitions-are : readTransitions 2 (m .locations) (m .timers) (m .transitions) (drop transitions s) ≡ value (chart .transitions) transitions-end
+
+pub record FileJudged (s : List ℕ) (r : Judged) : Type 0 where
+  pub good : (m : Numbers) (entries transitions tests : ℕ) → r ≡ judged.Good m entries transitions tests → ChartIs s m entries transitions tests
+  pub refused : (f : Refusal) → r ≡ judged.Refused f → chartIn s ≡ refusedAs f
+
+abbrev pub judgedRefusal : Judged → Refusal
+judgedRefusal (judged.Refused f) = f
+judgedRefusal (judged.Good m entries transitions tests) = record { number = 0; place = 0 }
