@@ -1,0 +1,5 @@
+pub mod CodePairs
+pub mod Labels
+pub mod Turns
+pub mod Filling
+pub mod Rows
