@@ -104,7 +104,6 @@ module _ {sources targets starts live : List ℕ} {timers : ℕ} (fit : Matching
     first = λ q j h. labels-first (formed fit) (λ s. getD l (64 * s + j) 0) (λ s k. so .each s j k .joined) (λ s k. so .each s j k .low) (over j) q h;
   }
     where
-
       over : (j q s : ℕ) → Linked p j q s → getD l (64 * q + j) 0 ≡ getD l (64 * s + j) 0
       over j q s k = go (link-out fit (k .number) (k .link) (k .is-nth))
         where

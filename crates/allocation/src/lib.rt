@@ -86,7 +86,14 @@ fn join_link(labels: &mut [u16], one: usize, other: usize, linked: TimerSet, tim
 }
 
 // One sweep over all transitions. Whether a label fell.
-fn sweep<'a>(sources: &'a [u16], targets: &'a [u16], starts: &'a [u64], live: &'a [u64], timers: u8, labels: &mut [u16]) -> bool
+fn sweep<'a>(
+    sources: &'a [u16],
+    targets: &'a [u16],
+    starts: &'a [u64],
+    live: &'a [u64],
+    timers: u8,
+    labels: &mut [u16],
+) -> bool
     requires { ⌜ Matching (now sources) (now targets) (now starts) (now live) timers × Sound (pairsOf (now sources) (now targets) (now starts) (now live) timers) (now labels) ⌝ }
     ensures { λ r. ⌜ Passed (Sound (pairsOf (now (sources .entry)) (now (targets .entry)) (now (starts .entry)) (now (live .entry)) timers)) (AllAgree (linkAt (now (sources .entry)) (now (targets .entry)) (now (starts .entry)) (now (live .entry))) timers (length (now (sources .entry)))) (now (labels .entry)) (now (labels .exit)) r ⌝ }
 {
@@ -105,13 +112,19 @@ fn sweep<'a>(sources: &'a [u16], targets: &'a [u16], starts: &'a [u64], live: &'
 }
 
 // The label of each pair: the lowest location of its family.
-fn label_families<'a>(sources: &'a [u16], targets: &'a [u16], starts: &'a [u64], live: &'a [u64], timers: u8, labels: &mut [u16])
+fn label_families<'a>(
+    sources: &'a [u16],
+    targets: &'a [u16],
+    starts: &'a [u64],
+    live: &'a [u64],
+    timers: u8,
+    labels: &mut [u16],
+)
     requires { ⌜ Matching (now sources) (now targets) (now starts) (now live) timers × (length (now labels) ≡ 64 * length (now live)) ⌝ }
     ensures { λ _. ⌜ Labelled (pairsOf (now (sources .entry)) (now (targets .entry)) (now (starts .entry)) (now (live .entry)) timers) (now (labels .exit)) ⌝ }
 {
     begin(labels);
-    while sweep(sources, targets, starts, live, timers, labels) {
-    }
+    while sweep(sources, targets, starts, live, timers, labels) {}
 }
 
 // Whether location s is of the family of timer j whose lowest location is q.
@@ -226,7 +239,14 @@ fn number_families(labels: &[u16], live: &[u64], numbers: &mut [u16]) -> u32
 }
 
 // The board number of each pair (q, j), at 64 q + j, and how many numbers are used.
-pub fn allocate<'a>(sources: &'a [u16], targets: &'a [u16], starts: &'a [u64], live: &'a [u64], timers: u8, numbers: &mut [u16]) -> u32
+pub fn allocate<'a>(
+    sources: &'a [u16],
+    targets: &'a [u16],
+    starts: &'a [u64],
+    live: &'a [u64],
+    timers: u8,
+    numbers: &mut [u16],
+) -> u32
     requires { ⌜ Matching (now sources) (now targets) (now starts) (now live) timers × (length (now numbers) ≡ 64 * length (now live)) ⌝ }
     ensures cells { λ _. ⌜ now (numbers .exit) ≡ cells (firstFit (pairsOf (now (sources .entry)) (now (targets .entry)) (now (starts .entry)) (now (live .entry)) timers)) (length (now (live .entry))) ⌝ }
     ensures used { λ r. ⌜ r ≡ usedBy (firstFit (pairsOf (now (sources .entry)) (now (targets .entry)) (now (starts .entry)) (now (live .entry)) timers)) ⌝ }
