@@ -2,3 +2,5 @@ pub mod Tested
 pub mod OwnSets
 pub mod Judging
 pub mod Lent
+pub mod Corollaries
+pub mod Largest

@@ -1,3 +1,4 @@
 pub mod Judging
 pub mod Tested
 pub mod Drawn
+pub mod Refusals
