@@ -8,7 +8,7 @@ use lib.Seq.{take-at}
 use Rattle.model.specs.Flow.{settled}
 use Rattle.model.proofs.Settled.{length-settled}
 use Rattle.flow.specs.Edges.{flowOf}
-use Rattle.flow.proofs.Lists.{locations-are}
+use Rattle.flow.proofs.EdgeLists.{locations-are}
 use Rattle.flow.proofs.Turns.{take-empty}
 use Rattle.judgement.specs.Drawn.{ownSets, Drawable}
 use Rattle.judgement.proofs.OwnSets.{length-own, length-empty, few-locations}
