@@ -5,7 +5,6 @@ use mathlib.Core.Bool.{true}
 use mathlib.Core.Option.{some, Option·none-ne-some, Option·some-injective}
 use mathlib.Core.List.{List, [], _∷_}
 use Prim.Native.Nat.{ℕ, zero, suc, _≤_, _<_}
-use native.Mathlib.Omega.{arith}
 use lib.ListN.{length, getD, getElem?, List·getD-eq-default}
 use Rattle.lists.proofs.Bools.{not-both, and-left, and-right, lt-or-le}
 use Rattle.lists.proofs.Elements.{Element, gather-in, gather-out}

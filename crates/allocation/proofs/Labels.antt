@@ -1,18 +1,16 @@
 -- Joins of labels along links keep each label in its family, and lower a label or show that both ends agree. Assumes nothing.
 use mathlib.Core.Path.{_≡_, refl, sym, ap, ap₂, _∙_, subst}
-use mathlib.Core.Logic.{_⊎_, inl, inr, _≢_}
+use mathlib.Core.Logic.{_⊎_, inl, inr}
 use mathlib.Core.Bool.{Bool, true, false, true≢false}
-use mathlib.Core.Option.{some}
 use mathlib.Core.List.{List, [], _∷_}
 use Prim.Native.Nat.{ℕ, suc, _+_, _*_, _≤_, _<_, min}
 use native.Mathlib.Nat.{suc-inj, suc-ne-zero, le-refl}
 use native.Mathlib.Decide.{ℕ-discrete}
 use native.Mathlib.Omega.{arith}
-use lib.ListN.{length, getD, set, length-set, getElem?}
+use lib.ListN.{length, getD, set, length-set}
 use lib.Seq.{getD-set-same, getD-set-other}
 use Rattle.lists.proofs.Bools.{lt-or-le}
 use Rattle.lists.proofs.Elements.{Element}
-use Rattle.timer_set.specs.Members.{member}
 use Rattle.model.specs.Family.{Link, Pairs, isPair, Linked, Joined}
 use Rattle.model.proofs.Joined.{WellFormed, joined-one, joined-trans, linked-sym}
 use Rattle.allocation.specs.Labels.{total, joinAt, LabelOf, Sound, Joins, Passed}

@@ -3,18 +3,18 @@ use mathlib.Core.Path.{_≡_, refl, sym, ap, _∙_, subst, subst₂}
 use mathlib.Core.Logic.{_⊎_, inl, inr}
 use mathlib.Core.Bool.{Bool, true, false}
 use mathlib.Core.List.{List}
-use Prim.Native.Nat.{ℕ, _+_, _*_, _/_, _≤_, _<_}
+use Prim.Native.Nat.{ℕ, _+_, _*_, _/_, _<_}
 use native.Mathlib.Decide.{ℕ-discrete}
 use native.Mathlib.Omega.{arith}
 use lib.ListN.{length, getD}
 use Rattle.lists.proofs.Bools.{not-both}
-use Rattle.timer_set.specs.Members.{member}
+use Rattle.timer_set.specs.Members.{member, common, minus}
 use Rattle.timer_set.proofs.Members.{member-empty}
-use Rattle.model.specs.Family.{Link, Pairs, isPair, Linked}
+use Rattle.model.specs.Family.{Link, Pairs, Linked}
 use Rattle.model.proofs.Joined.{joined-refl}
 use Rattle.model.proofs.Families.{labels-first}
 use Rattle.allocation.specs.Cells.{linkAt, pairsOf, Matching}
-use Rattle.allocation.specs.Labels.{joinAt, JoinedLabels, Sound, Joins, Passed, Agree, AllAgree, Labelled}
+use Rattle.allocation.specs.Labels.{JoinedLabels, Sound, Joins, Passed, Agree, AllAgree, Labelled}
 use Rattle.allocation.specs.Labels.Joins.{none, more}
 use Rattle.allocation.proofs.CodePairs.{formed, link-in, link-out, pair-inside}
 use Rattle.allocation.proofs.Labels.{join-less, joins-sound, passed-none, passed-fell, passed-kept}
@@ -71,17 +71,22 @@ module _ {sources targets starts live : List ℕ} {timers : ℕ} (fit : Matching
   unfolding AllAgree
   links-none start so = passed-none start so (λ i h. absurd (omega arith))
 
-  module _ (start l : List ℕ) (changed : Bool) (i : ℕ) (x : Links i start l changed) (after : List ℕ) (r : Bool) (below : i < length sources)
-      (joined : Passed (Joins (link i .one) (link i .other) (link i .timers) l) (Agree (link i .one) (link i .other) (link i .timers) timers) l after r) where
+  module _ (start l : List ℕ) (changed : Bool) (i : ℕ) (x : Links i start l changed) (below : i < length sources)
+      (set : ℕ) (its : set ≡ minus (common (getD live (getD sources i 0) 0) (getD live (getD targets i 0) 0)) (getD starts i 0)) (after : List ℕ) (r : Bool)
+      (joined : Passed (Joins (getD sources i 0) (getD targets i 0) set l) (Agree (getD sources i 0) (getD targets i 0) set timers) l after r) where
+    link-joined : Passed (Joins (link i .one) (link i .other) (link i .timers) l) (Agree (link i .one) (link i .other) (link i .timers) timers) l after r
+    unfolding linkAt
+    link-joined = subst (λ (w : ℕ). Passed (Joins (getD sources i 0) (getD targets i 0) w l) (Agree (getD sources i 0) (getD targets i 0) w timers) l after r) its joined
+
     pub links-fell : r ≡ true → Links (i + 1) start after true
-    links-fell e = passed-fell _ _ x (joined .falls e) (joins-sound (formed fit) (link i) (link-in fit i below) (joined .kept) (x .kept))
+    links-fell e = passed-fell _ _ x (joined .falls e) (joins-sound (formed fit) (link i) (link-in fit i below) (link-joined .kept) (x .kept))
 
     pub links-same : r ≡ false → Links (i + 1) start after changed
     unfolding AllAgree
     links-same e = passed-kept _ _ x (joined .same e) (λ k. k) (λ a k h. go k h (ℕ-discrete k i) a)
       where
         go : (k : ℕ) → k < i + 1 → Dec (k ≡ i) → AllAgree link timers i l → Agree (link k .one) (link k .other) (link k .timers) timers l
-        go k h (yes q) a = rw q (subst (Agree (link i .one) (link i .other) (link i .timers) timers) (joined .same e) (joined .seen e))
+        go k h (yes q) a = rw q (subst (Agree (link i .one) (link i .other) (link i .timers) timers) (joined .same e) (link-joined .seen e))
         go k h (no n) a = a k (omega arith)
 
   -- each location's own label

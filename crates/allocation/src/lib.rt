@@ -35,6 +35,13 @@ fn larger(x: u32, y: u32) -> u32
     if x < y { y } else { x }
 }
 
+// Room for the labels of all pairs.
+fn room() -> [u16; 16384]
+    ensures { λ r. ⌜ length r ≡ 16384 ⌝ }
+{
+    [0; 16384]
+}
+
 // Each pair's label is its own location.
 fn begin(labels: &mut [u16])
     requires { ⌜ length (now labels) ≤ 16384 ⌝ }
@@ -68,10 +75,10 @@ fn join_link(labels: &mut [u16], one: usize, other: usize, linked: TimerSet, tim
     requires { ⌜ (timers ≤ 64) × (one < 256) × (other < 256) × (64 * one + 64 ≤ length (now labels)) × (64 * other + 64 ≤ length (now labels)) ⌝ }
     ensures { λ r. ⌜ Passed (Joins one other (linked .bits) (now (labels .entry))) (Agree one other (linked .bits) timers) (now (labels .entry)) (now (labels .exit)) r ⌝ }
 {
-    let mut changed = false;
     if linked.is_empty() {
         return false;
     }
+    let mut changed = false;
     let mut j: u8 = 0;
     while j < timers {
         let here = j;
@@ -251,7 +258,7 @@ pub fn allocate<'a>(
     ensures cells { λ _. ⌜ now (numbers .exit) ≡ cells (firstFit (pairsOf (now (sources .entry)) (now (targets .entry)) (now (starts .entry)) (now (live .entry)) timers)) (length (now (live .entry))) ⌝ }
     ensures used { λ r. ⌜ r ≡ usedBy (firstFit (pairsOf (now (sources .entry)) (now (targets .entry)) (now (starts .entry)) (now (live .entry)) timers)) ⌝ }
 {
-    let mut labels = [0u16; 16384];
+    let mut labels = room();
     let count = 64 * live.len();
     label_families(sources, targets, starts, live, timers, &mut labels[..count]);
     number_families(&labels[..count], live, numbers)

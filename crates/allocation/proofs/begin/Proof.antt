@@ -7,8 +7,6 @@ use lib.ListN.{length, getD, length-set}
 use Rattle.allocation.proofs.Filling.{filled-more}
 use Rattle.allocation.proofs.begin.Statement.{statement}
 use Rattle.allocation.proofs.begin.Tie as tie
-use Rattle.allocation.proofs.begin.Reads as reads
-use Rattle.allocation.proofs.begin.Lts as lts
 
 abbrev Inv-loop : tie.InvT-loop
 Inv-loop labels₀ x₀ labels x =

@@ -7,8 +7,6 @@ use lib.ListN.{length, getD, length-set}
 use Rattle.allocation.proofs.Filling.{filled-more}
 use Rattle.allocation.proofs.clear.Statement.{statement}
 use Rattle.allocation.proofs.clear.Tie as tie
-use Rattle.allocation.proofs.clear.Reads as reads
-use Rattle.allocation.proofs.clear.Lts as lts
 
 abbrev Inv-loop : tie.InvT-loop
 Inv-loop numbers₀ x₀ numbers x =

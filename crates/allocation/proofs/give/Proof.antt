@@ -8,9 +8,6 @@ use Rattle.allocation.specs.Numbering.{given}
 use Rattle.allocation.proofs.Filling.{Rows, give-no, give-yes}
 use Rattle.allocation.proofs.give.Statement.{statement}
 use Rattle.allocation.proofs.give.Tie as tie
-use Rattle.allocation.proofs.give.Reads as reads
-use Rattle.allocation.proofs.give.Lts as lts
-use Rattle.allocation.proofs.in_family.Reads as in-family-reads
 
 abbrev Inv-loop : tie.InvT-loop
 Inv-loop labels live q j number numbers₀ s₀ numbers s =

@@ -6,9 +6,6 @@ use native.Mathlib.Omega.{arith}
 use Rattle.allocation.specs.Numbering.{inFamily}
 use Rattle.allocation.proofs.in_family.Statement.{statement}
 use Rattle.allocation.proofs.in_family.Tie as tie
-use Rattle.allocation.proofs.in_family.Reads as reads
-use Rattle.allocation.proofs.in_family.Lts as lts
-use Rattle.timer_set.proofs.TimerSet.has.Reads as has-reads
 
 mul-t7 : tie.Need-mul-t7
 mul-t7 c = search needs

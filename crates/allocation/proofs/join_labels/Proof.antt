@@ -5,9 +5,6 @@ use mathlib.Core.Bool.{true≢false}
 use Rattle.allocation.specs.Labels.{joinAt}
 use Rattle.allocation.proofs.join_labels.Statement.{statement}
 use Rattle.allocation.proofs.join_labels.Tie as tie
-use Rattle.allocation.proofs.join_labels.Reads as reads
-use Rattle.allocation.proofs.join_labels.Lts as lts
-use Rattle.allocation.proofs.smaller.Reads as smaller-reads
 
 mul-x : tie.Need-mul-x
 mul-x c = search needs

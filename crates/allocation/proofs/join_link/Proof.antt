@@ -9,11 +9,6 @@ use borrow.Author.Tests.{eqb-true}
 use Rattle.allocation.proofs.Turns.{timers-none, timers-empty, timers-skip, timers-same, timers-fell}
 use Rattle.allocation.proofs.join_link.Statement.{statement}
 use Rattle.allocation.proofs.join_link.Tie as tie
-use Rattle.allocation.proofs.join_link.Reads as reads
-use Rattle.allocation.proofs.join_link.Lts as lts
-use Rattle.allocation.proofs.join_labels.Reads as join-labels-reads
-use Rattle.timer_set.proofs.TimerSet.has.Reads as has-reads
-use Rattle.timer_set.proofs.TimerSet.is_empty.Reads as is-empty-reads
 
 abbrev Inv-loop : tie.InvT-loop
 Inv-loop labels₀ one other linked timers changed₀ j₀ labels changed j =

@@ -2,10 +2,6 @@
 use borrow.Author.Needs.{needs}
 use Rattle.allocation.proofs.linked_timers.Statement.{statement}
 use Rattle.allocation.proofs.linked_timers.Tie as tie
-use Rattle.allocation.proofs.linked_timers.Reads as reads
-use Rattle.allocation.proofs.linked_timers.Lts as lts
-use Rattle.timer_set.proofs.TimerSet.common.Reads as common-reads
-use Rattle.timer_set.proofs.TimerSet.minus.Reads as minus-reads
 
 common-requires : tie.Need-common-requires
 common-requires c κs = search needs

@@ -9,10 +9,6 @@ use Rattle.allocation.specs.Numbering.{taken}
 use Rattle.allocation.proofs.Rows.{word-found, word-full, all-full}
 use Rattle.allocation.proofs.lowest_free.Statement.{statement}
 use Rattle.allocation.proofs.lowest_free.Tie as tie
-use Rattle.allocation.proofs.lowest_free.Reads as reads
-use Rattle.allocation.proofs.lowest_free.Lts as lts
-use Rattle.allocation.proofs.taken_word.Reads as taken-word-reads
-use Rattle.timer_set.proofs.TimerSet.lowest_missing.Reads as lowest-missing-reads
 
 abbrev Inv-loop : tie.InvT-loop
 Inv-loop labels live numbers q j w₀ w =
@@ -44,7 +40,7 @@ add-result : tie.Need-add-result Inv-loop μ-loop
 add-result c = search needs
 
 returns : tie.Need-returns Inv-loop μ-loop
-returns c = let l = c .before .before .before .before .loop in rw (c .before .lowest-missing .ensures) (word-found (held (c .before .before .before .before)) (c .before .before .taken-word .result .bits) (l .w) (c .before .before .taken-word .ensures) (l .inv .2) ? ?)
+returns c = let l = c .before .before .before .before .loop in rw (c .before .lowest-missing .ensures) (word-found (held (c .before .before .before .before)) (c .before .before .taken-word .result .bits) (l .w) (c .before .before .taken-word .ensures) (l .inv .2) (omega (arith, c .before .lowest-missing .ensures, c .if1 .taken)) (omega (arith, c .before .before .before .loop-test .taken)))
 
 add-w : tie.Need-add-w Inv-loop μ-loop
 add-w c = search needs

@@ -10,10 +10,6 @@ use Rattle.allocation.specs.Numbering.{inRow, taken}
 use Rattle.allocation.proofs.Rows.{taken-none, taken-yes, taken-no}
 use Rattle.allocation.proofs.taken_word.Statement.{statement}
 use Rattle.allocation.proofs.taken_word.Tie as tie
-use Rattle.allocation.proofs.taken_word.Reads as reads
-use Rattle.allocation.proofs.taken_word.Lts as lts
-use Rattle.allocation.proofs.in_family.Reads as in-family-reads
-use Rattle.allocation.proofs.with_row.Reads as with-row-reads
 
 abbrev Inv-loop : tie.InvT-loop
 Inv-loop labels live numbers q j w set₀ s₀ set s =

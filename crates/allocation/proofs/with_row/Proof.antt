@@ -10,9 +10,6 @@ use Rattle.allocation.specs.Numbering.{inRow}
 use Rattle.allocation.proofs.Rows.{row-none, row-yes, row-no}
 use Rattle.allocation.proofs.with_row.Statement.{statement}
 use Rattle.allocation.proofs.with_row.Tie as tie
-use Rattle.allocation.proofs.with_row.Reads as reads
-use Rattle.allocation.proofs.with_row.Lts as lts
-use Rattle.timer_set.proofs.TimerSet.with.Reads as with-reads
 
 abbrev Inv-loop : tie.InvT-loop
 Inv-loop numbers s w found₀ i₀ found i =
