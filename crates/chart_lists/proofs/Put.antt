@@ -4,8 +4,8 @@ use mathlib.Core.List.{List, [], _∷_, _++_, map, append-assoc}
 use Prim.Native.Nat.{ℕ, _+_, _≤_, _<_}
 use native.Mathlib.Numerals.{add-one}
 use native.Mathlib.Omega.{arith}
-use lib.ListN.{length, drop, set, length-append, length-drop, length-map}
-use lib.Seq.{drop-cons, drop-drop, drop-append-seam, set-append-seam}
+use lib.ListN.{length, take, drop, set, length-append, length-drop, length-map}
+use lib.Seq.{drop-cons, drop-drop, drop-append-seam, set-append-seam, take-at}
 use Rattle.chart_lists.specs.Lists.{put}
 
 pub put-nil : (l : List ℕ) → put [] l ≡ l
@@ -15,6 +15,10 @@ put-nil l = refl
 pub length-put : (xs l : List ℕ) → length xs ≤ length l → length (put xs l) ≡ length l
 unfolding put
 length-put xs l h = simp (length-append, length-drop) (omega arith)
+
+pub take-put : (xs l : List ℕ) (n : ℕ) → length xs ≡ n → take n (put xs l) ≡ xs
+unfolding put
+take-put xs l n e = take-at xs (drop (length xs) l) n e
 
 -- one more element, stored behind the others
 pub put-more : (xs l : List ℕ) (v : ℕ) → length xs < length l → set (put xs l) (length xs) v ≡ put (xs ++ (v ∷ [])) l

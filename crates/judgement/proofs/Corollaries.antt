@@ -3,9 +3,9 @@
 use mathlib.Core.Path.{_≡_, refl, sym, ap, _∙_}
 use mathlib.Core.Logic.{_↔_}
 use mathlib.Core.List.{List}
-use Prim.Native.Nat.{ℕ, _≤_, _<_}
+use Prim.Native.Nat.{ℕ, _≤_}
 use native.Mathlib.Omega.{arith}
-use Rattle.model.specs.Answer.{Answer, result, refused, then}
+use Rattle.model.specs.Answer.{Answer, result, refused}
 use Rattle.model.specs.Chart.{Chart}
 use Rattle.model.specs.Valid.{Valid}
 use Rattle.model.specs.Judge.{judged}
@@ -13,7 +13,6 @@ use Rattle.model.proofs.Transitions.{below-nth}
 use Rattle.model.proofs.Judgement.{LowestUnreached, LowestUnstarted, Accepted, Judgement, refused-9, refused-10, accepted as judged-accepted, judged-cases}
 use Rattle.model.proofs.Judgement.Judgement.{is-unreached, is-unstarted, is-accepted}
 use Rattle.file_format.specs.File.{chartIn}
-use Rattle.file_format.specs.Refusals.{RefusalOfFile}
 use Rattle.file_format.proofs.RoundTrip.{Bytes}
 use Rattle.file_format.proofs.File.{reads-valid}
 use Rattle.file_format.proofs.Answers.{result-refused}

@@ -1,8 +1,8 @@
 -- Lists of the largest size have room for every chart that a file can hold, so that 21 never comes; and what is laid over them. Assumes nothing.
-use mathlib.Core.Path.{_≡_, refl, sym, ap, _∙_}
+use mathlib.Core.Path.{_≡_}
 use mathlib.Core.Bool.{true}
-use mathlib.Core.List.{List, [], _∷_, map, _++_}
-use Prim.Native.Nat.{ℕ, _+_, _*_, _≤_, _<_}
+use mathlib.Core.List.{List, [], _∷_, map}
+use Prim.Native.Nat.{ℕ, _*_, _≤_}
 use native.Mathlib.Omega.{arith}
 use lib.Dec.{leb}
 use lib.ListN.{length, replicate, length-append, length-map, length-replicate}
@@ -10,8 +10,7 @@ use borrow.Author.Tests.{le-leb}
 use Rattle.lists.specs.Rising.{All}
 use Rattle.lists.proofs.Bools.{and-both}
 use Rattle.lists.proofs.Gather.{rising-length}
-use Rattle.model.specs.Answer.{Answer, result, refused}
-use Rattle.model.specs.Chart.{Test, Transition, Chart}
+use Rattle.model.specs.Chart.{Transition, Chart}
 use Rattle.model.specs.Valid.{Valid, ValidTransition}
 use Rattle.chart_lists.specs.Lists.{Lists, allTests, listsOf, roomFor}
 use Rattle.judgement.specs.Judging.{largest}

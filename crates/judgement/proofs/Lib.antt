@@ -4,3 +4,5 @@ pub mod Judging
 pub mod Lent
 pub mod Corollaries
 pub mod Largest
+pub mod Loading
+pub mod Fronts

@@ -1,8 +1,8 @@
 -- All timers at the initial location and nothing elsewhere, as the front of an array; and what the code asks of a chart's lists, of a valid chart.
 -- Assumes nothing.
-use mathlib.Core.Path.{_≡_, refl, sym, ap, _∙_}
+use mathlib.Core.Path.{_≡_, ap, _∙_}
 use mathlib.Core.List.{List}
-use Prim.Native.Nat.{ℕ, _≤_, _<_}
+use Prim.Native.Nat.{ℕ, _≤_}
 use native.Mathlib.Omega.{arith}
 use lib.ListN.{length, replicate, set, take, length-set, length-replicate}
 use lib.Seq.{take-set-lt, length-take-le}

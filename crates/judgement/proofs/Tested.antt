@@ -15,7 +15,7 @@ use Rattle.lists.proofs.Lowest.{lowest-is}
 use Rattle.model.specs.Chart.{Test, Transition}
 use Rattle.model.specs.Live.{testsSet, isEmpty}
 use Rattle.chart_lists.specs.Lists.{allTests, put}
-use Rattle.chart_lists.proofs.Put.{put-more}
+use Rattle.chart_lists.proofs.Put.{put-last}
 use Rattle.judgement.specs.Tested.{total, setsIn, TestsOf, testsIn}
 
 -- ---- one transition's tests
@@ -50,9 +50,6 @@ total-take ns zero = omega arith
 total-take [] (suc i) = omega arith
 total-take (n ∷ ns) (suc i) = omega (arith, total-take ns i)
 
-put-at : (xs l : List ℕ) (v : ℕ) {k : ℕ} → length xs ≡ k → k < length l → set (put xs l) k v ≡ put (xs ++ (v ∷ [])) l
-put-at xs l v e h = rw (← e) (put-more xs l v (omega arith))
-
 module _ (ns ts : List ℕ) (i : ℕ) (h : i < length ns) where
   pub total-more : {base : ℕ} → base ≡ total (take i ns) → base + getD ns i 0 ≡ total (take (i + 1) ns)
   total-more e = rw (e, add-one i, take-suc ns i 0 h) (sym (total-last (take i ns) (getD ns i 0)))
@@ -66,7 +63,7 @@ module _ (ns ts : List ℕ) (i : ℕ) (h : i < length ns) where
       → w ≡ setOf (take (getD ns i 0) (drop base ts)) → set out i w ≡ put (setsIn (take (i + 1) ns) ts) l
   sets-more l room b o v =
       let e : length (setsIn (take i ns) ts) ≡ i = length-sets (take i ns) ts ∙ length-take-le i ns (omega arith) in
-      rw (o, v, b, add-one i, take-suc ns i 0 h, sets-last (take i ns) (getD ns i 0) ts) (put-at (setsIn (take i ns) ts) l _ e (omega arith))
+      rw (v, b, add-one i, take-suc ns i 0 h, sets-last (take i ns) (getD ns i 0) ts) (put-last (setsIn (take i ns) ts) l _ (omega arith) e o)
 
 -- of transitions' tests they are the sets of the timers that each tests
 pub sets-are : (rs : List Transition) (beyond : List ℕ)

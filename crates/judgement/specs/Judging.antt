@@ -1,6 +1,6 @@
 -- The judgement that all calls share: a file's refusals 1 to 8, then 9, then 10; and what it hands on: the chart in lists of the largest size, with
 -- the set of the timers that each transition tests. Assumes nothing.
-use mathlib.Core.List.{List, [], _∷_, map}
+use mathlib.Core.List.{List, map}
 use Prim.Native.Nat.{ℕ}
 use lib.ListN.{replicate}
 use Rattle.model.specs.Answer.{Answer, result, refused, then}
@@ -18,6 +18,13 @@ judgedIn bs = then (chartIn bs) judged
 
 unfoldable pub judgedNumbers : List ℕ → Answer Numbers
 judgedNumbers bs = then (judgedIn bs) (λ c. result (numbersOf c))
+
+-- the same by parts: of a file 1 to 8 alone, and of a chart 9 and 10
+unfoldable pub numbersRead : List ℕ → Answer Numbers
+numbersRead bs = then (chartIn bs) (λ c. result (numbersOf c))
+
+unfoldable pub numbersJudged : Chart → Answer Numbers
+numbersJudged c = then (judged c) (λ d. result (numbersOf d))
 
 -- lists of the largest size, with zeros
 unfoldable pub largest : Lists

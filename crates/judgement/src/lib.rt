@@ -9,10 +9,75 @@ ghost use Rattle.model.specs.Chart.{Transition, Chart};
 ghost use Rattle.model.specs.Live.{testsSet, isEmpty, firstUnreached, firstUnstarted};
 ghost use Rattle.model.specs.Flow.{settled};
 ghost use Rattle.flow.specs.Edges.{flowOf};
-ghost use Rattle.chart_lists.specs.Lists.{put};
+ghost use Rattle.chart_lists.specs.Lists.{lists, put};
+ghost use Rattle.chart_lists.specs.Numbers.{numbersOf};
+ghost use Rattle.file_format.specs.File.{chartIn};
+ghost use Rattle.reader.specs.Reading.{listsAfter, meantRead};
+ghost use Rattle.judgement.specs.Judging.{judgedNumbers, numbersRead, numbersJudged, largest, testedAfter};
 ghost use Rattle.judgement.specs.Drawn.{Drawable, Drawn, ownSets};
 ghost use Rattle.judgement.specs.Tested.{TimersFor, TestsOf, testsIn};
+use chart_lists::Numbers;
+use chart_lists::Refusal;
+use reader::Read;
 use timer_set::TimerSet;
+
+// A file's chart in arrays of the largest size, with the answer: its numbers, or a refusal.
+pub struct Judged {
+    pub answer: Read,
+    pub accepting: [u16; 256],
+    pub sources: [u16; 512],
+    pub targets: [u16; 512],
+    pub events: [u8; 512],
+    pub starts: [u64; 512],
+    pub counts: [u8; 512],
+    pub timers: [u8; 4096],
+    pub codes: [u8; 4096],
+    pub constants: [u16; 4096],
+    pub tested: [u64; 512],
+}
+
+// Reads a file's chart, or finds a refusal, 1 to 8. No set is made yet.
+fn load(file: &[u8]) -> Judged
+    ensures answer { λ r. ⌜ meantRead (r .answer) ≡ numbersRead (now (file .entry)) ⌝ }
+    ensures lists { λ r. ⌜ lists (r .accepting) (r .sources) (r .targets) (r .events) (r .starts) (r .counts) (r .timers) (r .codes) (r .constants) ≡ listsAfter (chartIn (now (file .entry))) largest ⌝ }
+    ensures tested { λ r. ⌜ r .tested ≡ replicate 512 0 ⌝ }
+{
+    let mut accepting = [0u16; 256];
+    let mut sources = [0u16; 512];
+    let mut targets = [0u16; 512];
+    let mut events = [0u8; 512];
+    let mut starts = [0u64; 512];
+    let mut counts = [0u8; 512];
+    let mut timers = [0u8; 4096];
+    let mut codes = [0u8; 4096];
+    let mut constants = [0u16; 4096];
+    let answer = reader::read_chart(
+        file,
+        &mut accepting,
+        &mut sources,
+        &mut targets,
+        &mut events,
+        &mut starts,
+        &mut counts,
+        &mut timers,
+        &mut codes,
+        &mut constants,
+    );
+    let tested = [0u64; 512];
+    Judged {
+        answer,
+        accepting,
+        sources,
+        targets,
+        events,
+        starts,
+        counts,
+        timers,
+        codes,
+        constants,
+        tested,
+    }
+}
 
 // The set of so many timers from the entry base on.
 fn set_of(timers: &[u8], base: usize, count: u8) -> u64
@@ -90,12 +155,12 @@ fn forward<'a>(
     requires { ⌜ Drawable initial (length (now sets)) (now sources) (now targets) (now cut) ⌝ }
     ensures { λ _. ⌜ now (sets .exit) ≡ settled (flowOf (now (targets .entry)) (now (sources .entry)) (now (cut .entry)) (replicate (length (now (sources .entry))) 0) (ownSets initial (length (now (sets .entry))))) ⌝ }
 {
-    let none = [0u64; 512];
+    let gain = [0u64; 512];
     let n = sources.len();
     let mut own = [0u64; 256];
     own[initial] = TimerSet::EVERY.bits;
     let m = sets.len();
-    flow::settle(targets, sources, cut, &none[..n], &own[..m], sets);
+    flow::settle(targets, sources, cut, &gain[..n], &own[..m], sets);
 }
 
 // 9: the lowest location that no path reaches, or the number of locations.
@@ -136,4 +201,79 @@ fn first_unstarted<'a>(
     let mut sets = [0u64; 256];
     forward(sources, targets, starts, initial, &mut sets[..locations]);
     first_testing(sources, tested, &sets[..locations])
+}
+
+// 9, then 10, else the chart's numbers.
+fn judge_lists<'a>(
+    sources: &'a [u16],
+    targets: &'a [u16],
+    starts: &'a [u64],
+    tested: &'a [u64],
+    numbers: Numbers,
+) -> Read
+    requires { ⌜ Drawable (numbers .initial) (numbers .locations) (now sources) (now targets) (now starts) × (length (now tested) ≡ length (now sources)) ⌝ }
+    ensures { λ r. ⌜ ((c : Chart) → Drawn c (numbers .initial) (numbers .locations) (now (sources .entry)) (now (targets .entry)) (now (starts .entry)) (now (tested .entry)) → numbers ≡ numbersOf c → meantRead r ≡ numbersJudged c) ⌝ }
+{
+    let initial = numbers.initial as usize;
+    let locations = numbers.locations as usize;
+    let lost = first_unreached(sources, targets, initial, locations);
+    if lost < locations {
+        return Read::Refused(Refusal {
+            number: 9,
+            place: lost as u64,
+        });
+    }
+    let early = first_unstarted(sources, targets, starts, tested, initial, locations);
+    if early < sources.len() {
+        return Read::Refused(Refusal {
+            number: 10,
+            place: early as u64,
+        });
+    }
+    Read::Chart(numbers)
+}
+
+// The judgement that all calls share: 1 to 8, then 9, then 10. A file that holds a chart leaves its lists and its tested sets, whatever the answer.
+pub fn judge(file: &[u8]) -> Judged
+    ensures answer { λ r. ⌜ meantRead (r .answer) ≡ judgedNumbers (now (file .entry)) ⌝ }
+    ensures lists { λ r. ⌜ lists (r .accepting) (r .sources) (r .targets) (r .events) (r .starts) (r .counts) (r .timers) (r .codes) (r .constants) ≡ listsAfter (chartIn (now (file .entry))) largest ⌝ }
+    ensures tested { λ r. ⌜ r .tested ≡ testedAfter (chartIn (now (file .entry))) ⌝ }
+{
+    let h = load(file);
+    let a = h.answer;
+    let Read::Chart(numbers) = a else {
+        return h;
+    };
+    let n = numbers.transitions as usize;
+    let accepting = h.accepting;
+    let sources = h.sources;
+    let targets = h.targets;
+    let events = h.events;
+    let starts = h.starts;
+    let counts = h.counts;
+    let timers = h.timers;
+    let codes = h.codes;
+    let constants = h.constants;
+    let mut tested = [0u64; 512];
+    tested_sets(&counts[..n], &timers, &mut tested);
+    let answer = judge_lists(
+        &sources[..n],
+        &targets[..n],
+        &starts[..n],
+        &tested[..n],
+        numbers,
+    );
+    Judged {
+        answer,
+        accepting,
+        sources,
+        targets,
+        events,
+        starts,
+        counts,
+        timers,
+        codes,
+        constants,
+        tested,
+    }
 }

@@ -12,7 +12,7 @@ use Rattle.chart_lists.specs.declared.Numbers.{Numbers}
 use Rattle.chart_lists.specs.declared.Refusal.{Refusal}
 use Rattle.file_format.specs.Parse.{Parsed, value, refusal, bind, guard, number, below, rising, many, entry}
 use Rattle.file_format.specs.Body.{Header, readHeader}
-use Rattle.file_format.proofs.Parsed.{kept-value, kept-refused}
+use Rattle.file_format.proofs.Parsed.{bind-value, guard-value, same-value, below-limit, kept-value, kept-refused}
 use Rattle.file_format.proofs.Items.{many-length}
 use Rattle.fields.specs.Meaning.{refusalAs}
 use Rattle.reader.specs.declared.HeaderField.{HeaderField}
@@ -50,6 +50,17 @@ module _ (bs : List ℕ) where
           pub limits₅ : {a : ℕ} {b₄ : List ℕ} → number 2 b₃ ≡ value a b₄ → value (record { locations = l; initial = q; timers = k; accepting = a }) b₄ ≡ readLimits bs
           unfolding readLimits
           limits₅ e = rw (e₀, le-leb 1 l some, e₁, e₂, e)
+
+pub few-timers : (bs : List ℕ) {l : Limits} {t : List ℕ} → readLimits bs ≡ value l t → l .timers ≤ 64
+unfolding readLimits
+few-timers bs {l} {t} e =
+    let i₀ = bind-value (below 2 257 4 nowhere bs) _ l t e in
+    let g = guard-value (leb 1 (i₀ .0)) 4 nowhere _ (i₀ .3) in
+    let i₁ = bind-value (below 2 (i₀ .0) 5 nowhere (i₀ .1)) _ l t (g .1) in
+    let i₂ = bind-value (below 1 65 4 nowhere (i₁ .1)) _ l t (i₁ .3) in
+    let i₃ = bind-value (number 2 (i₂ .1)) _ l t (i₂ .3) in
+    let q : i₂ .0 ≡ l .timers = ap (λ (x : Limits). x .timers) (same-value (i₃ .3)) in
+    omega (arith, below-limit 1 65 4 nowhere (i₁ .1) (i₂ .2))
 
 -- ---- the parts make up the header
 
@@ -103,28 +114,33 @@ module _ (s bs : List ℕ) where
   pub header₀ : {f : Refusal} → readLimits bs ≡ refusalAs f → HeaderAt s bs (headers.Refused f)
   header₀ e = header-refused (sym (header-parts bs) ∙ rw e)
 
-  module _ {l : Limits} (entries : ℕ) (e₀ : readLimits bs ≡ value l (drop entries s)) where
-    pub header₁ : {f : Refusal} → passAccepting (l .locations) (l .accepting) (drop entries s) ≡ refusalAs f → HeaderAt s bs (headers.Refused f)
-    unfolding passAccepting
-    header₁ e = let h = kept-refused length (rising 2 (l .locations) 5 nowhere (l .accepting) (drop entries s)) e in
-        header-refused (sym (header-parts bs) ∙ rw (e₀, h))
+  module _ {l : Limits} {b₁ : List ℕ} (e₀ : readLimits bs ≡ value l b₁) where
+    abbrev entries-read : Parsed (List ℕ)
+    entries-read = rising 2 (l .locations) 5 nowhere (l .accepting) b₁
 
-    module _ {x : ℕ} {b₂ : List ℕ} (e₁ : passAccepting (l .locations) (l .accepting) (drop entries s) ≡ value x b₂) where
-      accepting-found : (xs : List ℕ) × (rising 2 (l .locations) 5 nowhere (l .accepting) (drop entries s) ≡ value xs b₂) × (length xs ≡ x)
+    pub header₁ : {f : Refusal} → passAccepting (l .locations) (l .accepting) b₁ ≡ refusalAs f → HeaderAt s bs (headers.Refused f)
+    unfolding passAccepting
+    header₁ e = let h = kept-refused length entries-read e in header-refused (sym (header-parts bs) ∙ rw (e₀, h))
+
+    module _ {x : ℕ} {b₂ : List ℕ} (e₁ : passAccepting (l .locations) (l .accepting) b₁ ≡ value x b₂) where
+      accepting-found : (xs : List ℕ) × (entries-read ≡ value xs b₂) × (length xs ≡ x)
       unfolding passAccepting
-      accepting-found = kept-value length (rising 2 (l .locations) 5 nowhere (l .accepting) (drop entries s)) e₁
+      accepting-found = kept-value length entries-read e₁
 
       pub header₂ : {f : Refusal} → below 2 513 4 nowhere b₂ ≡ refusalAs f → HeaderAt s bs (headers.Refused f)
       header₂ e = let h = accepting-found .1 in header-refused (sym (header-parts bs) ∙ rw (e₀, h, e))
 
-      pub header₃ : {n : ℕ} (transitions : ℕ) → below 2 513 4 nowhere b₂ ≡ value n (drop transitions s)
+      pub header₃ : {n : ℕ} (entries transitions : ℕ) → b₁ ≡ drop entries s → below 2 513 4 nowhere b₂ ≡ value n (drop transitions s)
           → HeaderAt s bs (headers.Found (record { locations = l .locations; initial = l .initial; timers = l .timers; accepting = l .accepting; transitions = n }) entries transitions)
       unfolding headerNumbers
-      header₃ {n} transitions e = let h = accepting-found in let q = accepting-length _ _ _ (h .1) in
+      header₃ {n} entries transitions here e =
+          let h = accepting-found in
+          let q = accepting-length _ _ _ (h .1) in
           header-known record {
             header = record { locations = l .locations; initial = l .initial; timers = l .timers; accepting = h .0; count = n };
             is = sym (header-parts bs) ∙ rw (e₀, h .1, e);
             numbers = rw q;
+            few-timers = few-timers bs e₀;
             end = b₂;
-            accepting = h .1;
+            accepting = rw (← here) (h .1);
           }

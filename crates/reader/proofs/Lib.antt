@@ -4,4 +4,7 @@ pub mod Passing
 pub mod Filling
 pub mod Lengths
 pub mod Store
+pub mod FillingTests
 pub mod RecordParts
+pub mod JudgeParts
+pub mod ReadParts

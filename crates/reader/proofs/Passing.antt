@@ -13,9 +13,11 @@ use Rattle.chart_lists.specs.Lists.{allTests}
 use Rattle.chart_lists.proofs.Tests.{tests-more}
 use Rattle.file_format.specs.Parse.{Parsed, value, refusal, bind, guard, below, entry, rising}
 use Rattle.file_format.specs.Body.{readTransition, readTransitions}
-use Rattle.file_format.proofs.Parsed.{bind-value, guard-value, same-value, below-limit}
+use Rattle.file_format.proofs.Parsed.{bind-value, guard-value, same-value, below-limit, kept-value, kept-refused}
 use Rattle.file_format.proofs.Items.{Turn, rising-first, transitions-first, turn-done, turn-refused, turn-again}
+use Rattle.fields.specs.Parts.{passTransition}
 use Rattle.reader.specs.Parts.{passAccepting, passTransitions}
+use Rattle.reader.proofs.RecordParts.{few-tests}
 
 -- an entry of a rising list that was read is below the limit
 pub entry-limit : (w limit n p lo : ℕ) (bs : List ℕ) {x : ℕ} {t : List ℕ} → entry w limit n p lo bs ≡ value x t → x < limit
@@ -48,3 +50,36 @@ module _ {locations n k lowest : ℕ} {start bs : List ℕ} (p : AcceptingRead l
 
     pub accepting-again : {x : ℕ} {t : List ℕ} → entry 2 locations 5 nowhere lowest bs ≡ value x t → AcceptingRead locations n (k + 1) (x + 1) start t
     accepting-again {x} e = rw (add-one x) (record { done = p .done ++ (x ∷ []); turn = turn-again (p .turn) h e })
+
+-- of n transitions i are read, and they have `tests` tests
+pub record TestsCounted (locations timers n i tests : ℕ) (start bs : List ℕ) : Type 0 where
+  pub done : List Transition
+  pub turn : Turn (λ (i : ℕ) (r : Transition). suc i) (readTransition 2 locations timers) (readTransitions 2 locations timers n start) n i done i bs
+  pub count : tests ≡ length (allTests done)
+  pub few : tests ≤ 8 * i
+
+pub counted-first : (locations timers n : ℕ) (start : List ℕ) → TestsCounted locations timers n 0 0 start start
+unfolding allTests
+counted-first locations timers n start = record { done = []; turn = transitions-first 2 locations timers n start; count = refl; few = omega arith }
+
+module _ {locations timers n i tests : ℕ} {start bs : List ℕ} (p : TestsCounted locations timers n i tests start bs) where
+  pub counted-done : n ≤ i → value tests bs ≡ passTransitions 2 locations timers n start
+  unfolding passTransitions
+  counted-done h = rw (turn-done (p .turn) h, p .count)
+
+  module _ (h : i < n) where
+    pub counted-refused : {m q : ℕ} → passTransition 2 locations timers i bs ≡ refusal m q → refusal m q ≡ passTransitions 2 locations timers n start
+    unfolding passTransition passTransitions
+    counted-refused e = let k = kept-refused (λ (r : Transition). length (r .tests)) (readTransition 2 locations timers i bs) e in rw (turn-refused (p .turn) h k)
+
+    pub counted-again : {g : ℕ} {t : List ℕ} → passTransition 2 locations timers i bs ≡ value g t → TestsCounted locations timers n (i + 1) (tests + g) start t
+    unfolding passTransition
+    counted-again {g} {t} e =
+        let k = kept-value (λ (r : Transition). length (r .tests)) (readTransition 2 locations timers i bs) e in
+        let f : g ≤ 8 = few-tests 2 locations timers i bs e in
+        record {
+          done = p .done ++ (k .0 ∷ []);
+          turn = rw (add-one i) (rw (add-one i) at (turn-again (p .turn) h (k .1)));
+          count = rw (tests-more, length-append, k .2, p .count);
+          few = omega (arith, p .few);
+        }

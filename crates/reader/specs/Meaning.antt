@@ -55,6 +55,7 @@ pub record HeaderIs (s bs : List ℕ) (m : Numbers) (entries transitions : ℕ) 
   pub header : Header
   pub is : readHeader bs ≡ value header (drop transitions s)
   pub numbers : m ≡ headerNumbers header
+  pub few-timers : m .timers ≤ 64
   pub end : List ℕ
   pub accepting : rising 2 (m .locations) 5 nowhere (m .accepting) (drop entries s) ≡ value (header .accepting) end
 

@@ -2,7 +2,7 @@
 use mathlib.Core.Path.{_≡_}
 use mathlib.Core.List.{List, _++_, map}
 use Prim.Native.Nat.{ℕ, _≤_}
-use lib.ListN.{length, take, drop}
+use lib.ListN.{length, take}
 use Rattle.comparison.specs.Comparison.{codeOf}
 use Rattle.model.specs.Chart.{Test, Transition}
 use Rattle.model.specs.Live.{startsSet}
@@ -10,9 +10,9 @@ use Rattle.chart_lists.specs.Lists.{allTests, put}
 use Rattle.file_format.specs.Parse.{value}
 use Rattle.file_format.specs.Body.{readTransitions}
 
--- xs in l from the place base on; what is before and beyond stays
+-- xs in l behind its first base entries; these and what is beyond stay
 unfoldable pub putAt : (base : ℕ) → (xs l : List ℕ) → List ℕ
-putAt base xs l = take base l ++ put xs (drop base l)
+putAt base xs l = put (take base l ++ xs) l
 
 -- from five lists five others: those of the transitions' numbers laid over their fronts
 pub record HeadsStored (rs : List Transition) (a b c d e a′ b′ c′ d′ e′ : List ℕ) : Type 0 where
@@ -22,7 +22,7 @@ pub record HeadsStored (rs : List Transition) (a b c d e a′ b′ c′ d′ e�
   pub starts : d′ ≡ put (map startsSet rs) d
   pub counts : e′ ≡ put (map (λ (r : Transition). length (r .tests)) rs) e
 
--- from three lists three others: the tests' numbers from the place base on
+-- from three lists three others: the tests' numbers behind the first base entries
 pub record TestsStored (ts : List Test) (base : ℕ) (a b c a′ b′ c′ : List ℕ) : Type 0 where
   pub timers : a′ ≡ putAt base (map (λ (t : Test). t .timer) ts) a
   pub codes : b′ ≡ putAt base (map (λ (t : Test). codeOf (t .comparison)) ts) b

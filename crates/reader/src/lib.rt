@@ -549,7 +549,7 @@ pub enum Read {
     Refused(Refusal),
 }
 
-pub fn read(
+pub fn read_chart(
     file: &[u8],
     accepting: &mut [u16],
     sources: &mut [u16],

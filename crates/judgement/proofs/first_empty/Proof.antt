@@ -1,6 +1,7 @@
-use mathlib.Core.Path.{_≡_, refl, sym, ap, _∙_}
-use mathlib.Core.Bool.{true, false}
-use Prim.Native.Nat.{ℕ, _+_, _-_, _≤_, _<_}
+-- `first_empty` returns the lowest place of an empty set: no set before it is empty. Assumes nothing.
+use mathlib.Core.Path.{_≡_, refl, sym, _∙_}
+use mathlib.Core.Bool.{false}
+use Prim.Native.Nat.{ℕ, _-_, _≤_, _<_}
 use native.Mathlib.Omega.{arith}
 use borrow.Author.Needs.{needs}
 use borrow.Author.Count.{below-more, below-none}
@@ -9,9 +10,6 @@ use Rattle.model.specs.Live.{isEmpty}
 use Rattle.lists.proofs.Lowest.{lowest-is}
 use Rattle.judgement.proofs.first_empty.Statement.{statement}
 use Rattle.judgement.proofs.first_empty.Tie as tie
-use Rattle.judgement.proofs.first_empty.Reads as reads
-use Rattle.judgement.proofs.first_empty.Lts as lts
-use Rattle.timer_set.proofs.TimerSet.is_empty.Reads as is-empty-reads
 
 abbrev Inv-loop : tie.InvT-loop
 Inv-loop sets n q₀ q = (q ≤ n) × (n ≡ length sets) × ((k : ℕ) → k < q → isEmpty (getD sets k 0) ≡ false)
@@ -19,45 +17,36 @@ Inv-loop sets n q₀ q = (q ≤ n) × (n ≡ length sets) × ((k : ℕ) → k < 
 abbrev μ-loop : tie.MeasureT-loop
 μ-loop sets n q₀ q = n - q
 
--- src/lib.rt:50:5
 loop-holds : tie.Need-loop-holds Inv-loop μ-loop
 loop-holds c = (omega arith, refl, below-none _)
 
--- src/lib.rt:51:36
 mul-t6 : tie.Need-mul-t6 Inv-loop μ-loop
 mul-t6 c = search needs
 
--- src/lib.rt:51:36
 shared-slice-read-t8 : tie.Need-shared-slice-read-t8 Inv-loop μ-loop
 shared-slice-read-t8 c = search needs
 
--- src/lib.rt:52:12
 is-empty-requires : tie.Need-is-empty-requires Inv-loop μ-loop
 is-empty-requires c κs = search needs
 
--- src/lib.rt:53:13
 returns : tie.Need-returns Inv-loop μ-loop
 unfolding isEmpty
 returns c =
     let l = c .before .before .before .before .loop in
     sym (lowest-is _ _ (l .q) (l .inv .0) (λ h. sym (c .before .is-empty .ensures) ∙ c .if1 .taken) (l .inv .2))
 
--- src/lib.rt:55:9
 add-q : tie.Need-add-q Inv-loop μ-loop
 add-q c = search needs
 
--- src/lib.rt:50:5
 loop-less : tie.Need-loop-less Inv-loop μ-loop
 loop-less c = search needs
 
--- src/lib.rt:50:5
 loop-again : tie.Need-loop-again Inv-loop μ-loop
 unfolding isEmpty
 loop-again c =
     let l = c .before .before .before .before .loop in
     (omega arith, refl, below-more _ (l .q) (l .inv .2) (sym (c .before .is-empty .ensures) ∙ c .if1 .left))
 
--- src/lib.rt:45:1
 returns-2 : tie.Need-returns-2 Inv-loop μ-loop
 returns-2 c =
     let l = c .before .loop in

@@ -1,6 +1,7 @@
-use mathlib.Core.Path.{_≡_, refl, sym, ap, _∙_}
-use mathlib.Core.Bool.{true, false, not}
-use Prim.Native.Nat.{ℕ, _+_, _-_, _≤_, _<_}
+-- `first_testing` returns the lowest transition that tests a timer of its source's set: none before it does. Assumes nothing.
+use mathlib.Core.Path.{_≡_, refl, _∙_}
+use mathlib.Core.Bool.{false}
+use Prim.Native.Nat.{ℕ, _-_, _≤_, _<_}
 use native.Mathlib.Omega.{arith}
 use borrow.Author.Needs.{needs}
 use borrow.Author.Count.{below-more, below-none}
@@ -8,10 +9,6 @@ use lib.ListN.{length, getD}
 use Rattle.judgement.proofs.Tested.{testsAt, test-says, first-testing-at}
 use Rattle.judgement.proofs.first_testing.Statement.{statement}
 use Rattle.judgement.proofs.first_testing.Tie as tie
-use Rattle.judgement.proofs.first_testing.Reads as reads
-use Rattle.judgement.proofs.first_testing.Lts as lts
-use Rattle.timer_set.proofs.TimerSet.common.Reads as common-reads
-use Rattle.timer_set.proofs.TimerSet.is_empty.Reads as is-empty-reads
 
 abbrev Inv-loop : tie.InvT-loop
 Inv-loop sources tested sets n i₀ i = (i ≤ n) × (n ≡ length sources) × ((k : ℕ) → k < i → testsAt sources tested sets k ≡ false)
@@ -19,7 +16,6 @@ Inv-loop sources tested sets n i₀ i = (i ≤ n) × (n ≡ length sources) × (
 abbrev μ-loop : tie.MeasureT-loop
 μ-loop sources tested sets n i₀ i = n - i
 
--- src/lib.rt:68:5
 loop-holds : tie.Need-loop-holds Inv-loop μ-loop
 loop-holds c = (omega arith, refl, below-none _)
 
@@ -27,63 +23,49 @@ small : (c : tie.In-loop Inv-loop μ-loop) → let a = c .before .before .before
     getD (a .sources .now) (c .before .loop .i) 0 < length (a .sets .now)
 small c = c .before .before .before .before .before .pre .1 (c .before .loop .i) (omega arith)
 
--- src/lib.rt:69:17
 mul-q : tie.Need-mul-q Inv-loop μ-loop
 mul-q c = search needs
 
--- src/lib.rt:69:17
 shared-slice-read-q : tie.Need-shared-slice-read-q Inv-loop μ-loop
 shared-slice-read-q c = search needs
 
--- src/lib.rt:69:17
 cast-q : tie.Need-cast-q Inv-loop μ-loop
 cast-q c = omega (arith, small (c .before))
 
--- src/lib.rt:70:37
 mul-t9 : tie.Need-mul-t9 Inv-loop μ-loop
 mul-t9 c = search needs
 
--- src/lib.rt:70:37
 shared-slice-read-t13 : tie.Need-shared-slice-read-t13 Inv-loop μ-loop
 shared-slice-read-t13 c = search needs
 
--- src/lib.rt:70:73
 mul-t15 : tie.Need-mul-t15 Inv-loop μ-loop
 mul-t15 c = omega (arith, small (c .before .before))
 
--- src/lib.rt:70:73
 shared-slice-read-t17 : tie.Need-shared-slice-read-t17 Inv-loop μ-loop
 shared-slice-read-t17 c = omega (arith, small (c .before .before .before))
 
--- src/lib.rt:70:13
 common-requires : tie.Need-common-requires Inv-loop μ-loop
 common-requires c κs = search needs
 
--- src/lib.rt:71:13
 is-empty-requires : tie.Need-is-empty-requires Inv-loop μ-loop
 is-empty-requires c κs = search needs
 
--- src/lib.rt:72:13
 returns : tie.Need-returns Inv-loop μ-loop
 returns c =
     let l = c .before .before .before .before .before .before .before .loop in
     first-testing-at _ _ _ (l .i) (l .inv .0) (λ h. test-says _ _ (c .before .before .common .ensures) (c .before .is-empty .ensures) ∙ c .if1 .taken) (l .inv .2)
 
--- src/lib.rt:74:9
 add-i : tie.Need-add-i Inv-loop μ-loop
 add-i c = search needs
 
--- src/lib.rt:68:5
 loop-less : tie.Need-loop-less Inv-loop μ-loop
 loop-less c = search needs
 
--- src/lib.rt:68:5
 loop-again : tie.Need-loop-again Inv-loop μ-loop
 loop-again c =
     let l = c .before .before .before .before .before .before .before .loop in
     (omega arith, refl, below-more _ (l .i) (l .inv .2) (test-says _ _ (c .before .before .common .ensures) (c .before .is-empty .ensures) ∙ c .if1 .left))
 
--- src/lib.rt:61:1
 returns-2 : tie.Need-returns-2 Inv-loop μ-loop
 returns-2 c =
     let l = c .before .loop in

@@ -1,15 +1,13 @@
-use mathlib.Core.Path.{_≡_, refl, sym, ap, _∙_}
-use Prim.Native.Nat.{ℕ, _+_, _-_, _≤_, _<_}
+-- `set_of` puts the timers into a set one after another. Assumes nothing.
+use mathlib.Core.Path.{_≡_, refl, ap, _∙_}
+use Prim.Native.Nat.{ℕ, _+_, _-_, _≤_}
 use native.Mathlib.Omega.{arith}
 use borrow.Author.Needs.{needs}
-use lib.ListN.{length, getD, take, drop}
+use lib.ListN.{getD, take, drop}
 use Rattle.timer_set.specs.Members.{added, setOf}
 use Rattle.judgement.proofs.Tested.{set-more}
 use Rattle.judgement.proofs.set_of.Statement.{statement}
 use Rattle.judgement.proofs.set_of.Tie as tie
-use Rattle.judgement.proofs.set_of.Reads as reads
-use Rattle.judgement.proofs.set_of.Lts as lts
-use Rattle.timer_set.proofs.TimerSet.with.Reads as with-reads
 
 abbrev Inv-loop : tie.InvT-loop
 Inv-loop timers base count set₀ k₀ set k = (k ≤ count) × (set .bits ≡ setOf (take k (drop base timers)))
@@ -17,43 +15,34 @@ Inv-loop timers base count set₀ k₀ set k = (k ≤ count) × (set .bits ≡ s
 abbrev μ-loop : tie.MeasureT-loop
 μ-loop timers base count set₀ k₀ set k = count - k
 
--- src/lib.rt:21:5
 loop-holds : tie.Need-loop-holds Inv-loop μ-loop
 unfolding setOf
 loop-holds c = (omega arith, refl)
 
--- src/lib.rt:22:38
 cast-with : tie.Need-cast-with Inv-loop μ-loop
 cast-with c = search needs
 
--- src/lib.rt:22:31
 add-with : tie.Need-add-with Inv-loop μ-loop
 add-with c = search needs
 
--- src/lib.rt:22:24
 shared-slice-read-with : tie.Need-shared-slice-read-with Inv-loop μ-loop
 shared-slice-read-with c = search needs
 
--- src/lib.rt:22:9
 with-requires : tie.Need-with-requires Inv-loop μ-loop
 with-requires c κs = c .before .before .before .before .pre .1 _
 
--- src/lib.rt:23:9
 add-k : tie.Need-add-k Inv-loop μ-loop
 add-k c = search needs
 
--- src/lib.rt:21:5
 loop-less : tie.Need-loop-less Inv-loop μ-loop
 loop-less c = search needs
 
--- src/lib.rt:21:5
 loop-again : tie.Need-loop-again Inv-loop μ-loop
 loop-again c =
     let l = c .before .before .before .loop in
     let a = c .before .before .before .before .before .args in
     (omega arith, (c .with .ensures ∙ ap (λ (w : ℕ). added w (getD (a .timers .now) (a .base + l .k) 0)) (l .inv .1)) ∙ set-more (a .timers .now) (a .base) (l .k) (omega arith))
 
--- src/lib.rt:15:1
 returns : tie.Need-returns Inv-loop μ-loop
 returns c =
     let l = c .before .loop in

@@ -1,4 +1,5 @@
-use mathlib.Core.Path.{_≡_, refl, sym, ap, _∙_}
+-- `tested_sets` makes the set of each transition's timers, one transition after another. Assumes nothing.
+use mathlib.Core.Path.{_≡_, refl, ap, _∙_}
 use mathlib.Core.List.{List}
 use Prim.Native.Nat.{ℕ, _+_, _-_, _≤_, _<_}
 use native.Mathlib.Omega.{arith}
@@ -6,12 +7,9 @@ use borrow.Author.Needs.{needs}
 use lib.ListN.{length, getD, take, length-set}
 use Rattle.chart_lists.specs.Lists.{put}
 use Rattle.judgement.specs.Tested.{total, setsIn}
-use Rattle.judgement.proofs.Tested.{length-sets, total-more, total-room, sets-more, tested-are}
+use Rattle.judgement.proofs.Tested.{total-more, total-room, sets-more, tested-are}
 use Rattle.judgement.proofs.tested_sets.Statement.{statement}
 use Rattle.judgement.proofs.tested_sets.Tie as tie
-use Rattle.judgement.proofs.tested_sets.Reads as reads
-use Rattle.judgement.proofs.tested_sets.Lts as lts
-use Rattle.judgement.proofs.set_of.Reads as set-of-reads
 
 abbrev Inv-loop : tie.InvT-loop
 Inv-loop counts timers tested₀ n base₀ i₀ tested base i = (i ≤ n) × (n ≡ length counts) × (length tested ≡ length tested₀)
@@ -20,7 +18,6 @@ Inv-loop counts timers tested₀ n base₀ i₀ tested base i = (i ≤ n) × (n 
 abbrev μ-loop : tie.MeasureT-loop
 μ-loop counts timers tested₀ n base₀ i₀ tested base i = n - i
 
--- src/lib.rt:36:5
 loop-holds : tie.Need-loop-holds Inv-loop μ-loop
 unfolding total setsIn put
 loop-holds c = (omega arith, refl, refl, refl, refl)
@@ -33,39 +30,30 @@ room c =
     let l = c .before .loop in
     omega (arith, total-room (a .counts .now) (a .timers .now) (l .i) (omega arith), c .before .before .before .before .before .pre .0 .enough)
 
--- src/lib.rt:37:21
 shared-slice-read-count : tie.Need-shared-slice-read-count Inv-loop μ-loop
 shared-slice-read-count c = search needs
 
--- src/lib.rt:38:21
 set-of-requires : tie.Need-set-of-requires Inv-loop μ-loop
 set-of-requires c κs = (room (c .before), c .before .before .before .before .before .before .pre .0 .small)
 
--- src/lib.rt:38:9
 mul-tested : tie.Need-mul-tested Inv-loop μ-loop
 mul-tested c = search needs
 
--- src/lib.rt:38:9
 slice-write-tested : tie.Need-slice-write-tested Inv-loop μ-loop
 slice-write-tested c = search needs
 
--- src/lib.rt:39:17
 cast-base : tie.Need-cast-base Inv-loop μ-loop
 cast-base c = record { fits = omega (arith, room (c .before .before)) }
 
--- src/lib.rt:39:9
 add-base : tie.Need-add-base Inv-loop μ-loop
 add-base c = record { fits = omega (arith, room (c .before .before)) }
 
--- src/lib.rt:40:9
 add-i : tie.Need-add-i Inv-loop μ-loop
 add-i c = search needs
 
--- src/lib.rt:36:5
 loop-less : tie.Need-loop-less Inv-loop μ-loop
 loop-less c = search needs
 
--- src/lib.rt:36:5
 loop-again : tie.Need-loop-again Inv-loop μ-loop
 loop-again c =
     let l = c .before .before .before .loop in
@@ -78,11 +66,9 @@ loop-again c =
       sets-more (a .counts .now) (a .timers .now) (l .i) h (a .tested .now) (c .before .before .before .before .before .before .before .pre .1) (l .inv .3) (l .inv .4) (c .set-of .ensures),
     )
 
--- src/lib.rt:29:1
 same-length : tie.Need-same-length Inv-loop μ-loop
 same-length c = search needs
 
--- src/lib.rt:29:1
 returns : tie.Need-returns Inv-loop μ-loop
 returns c rs t =
     let l = c .before .loop in

@@ -1,3 +1,4 @@
+use mathlib.Core.Path.{refl}
 use native.Mathlib.Omega.{arith}
 use denote.Ref.{now}
 use lib.ListN.{drop}
@@ -58,7 +59,7 @@ refusal-of-requires c κs = search needs
 returns-2 : tie.Need-returns-2
 returns-2 c = let s = now (c .before .before .before .before .before .before .before .before .before .args .s) in
     let e₀ = told (meantLimits s) (c .before .before .before .before .before .a .given .1) (c .before .before .before .before .before .before .before .limits-at .ensures) in
-    rw (c .refusal-of .ensures, c .before .enum-told2 .given .1) (header₁ s _ _ e₀ (told (meant s) (c .before .enum-told2 .given .1) (c .before .before .before .pass-accepting .ensures)))
+    rw (c .refusal-of .ensures, c .before .enum-told2 .given .1) (header₁ s _ e₀ (told (meant s) (c .before .enum-told2 .given .1) (c .before .before .before .pass-accepting .ensures)))
 
 -- src/lib.rt:200:9
 pair-below-requires : tie.Need-pair-below-requires
@@ -81,7 +82,7 @@ returns-3 : tie.Need-returns-3
 returns-3 c = let s = now (c .before .before .before .before .before .before .before .before .before .before .before .before .before .args .s) in
     let e₀ = told (meantLimits s) (c .before .before .before .before .before .before .before .before .before .a .given .1) (c .before .before .before .before .before .before .before .before .before .before .before .limits-at .ensures) in
     let e₁ = told (meant s) (c .before .before .before .before .before .b .given .1) (c .before .before .before .before .before .before .before .pass-accepting .ensures) in
-    rw (c .refusal-of2 .ensures, c .before .enum-told3 .given .1) (header₂ s _ _ e₀ e₁ (told (meant s) (c .before .enum-told3 .given .1) (c .before .before .before .pair-below .ensures)))
+    rw (c .refusal-of2 .ensures, c .before .enum-told3 .given .1) (header₂ s _ e₀ e₁ (told (meant s) (c .before .enum-told3 .given .1) (c .before .before .before .pair-below .ensures)))
 
 -- src/lib.rt:209:22
 cast-t18 : tie.Need-cast-t18
@@ -92,7 +93,7 @@ returns-4 : tie.Need-returns-4
 returns-4 c = let s = now (c .before .before .before .before .before .before .before .before .before .before .before .before .before .args .s) in
     let e₀ = told (meantLimits s) (c .before .before .before .before .before .before .before .before .before .a .given .1) (c .before .before .before .before .before .before .before .before .before .before .before .limits-at .ensures) in
     let e₁ = told (meant s) (c .before .before .before .before .before .b .given .1) (c .before .before .before .before .before .before .before .pass-accepting .ensures) in
-    header₃ s _ _ e₀ e₁ _ (told (meant s) (c .before .d .given .1) (c .before .before .before .pair-below .ensures))
+    header₃ s _ e₀ e₁ _ _ refl (told (meant s) (c .before .d .given .1) (c .before .before .before .pair-below .ensures))
 
 pub header-at-spec : {M : Type 1} → statement M
 header-at-spec =
