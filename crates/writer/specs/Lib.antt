@@ -1,1 +1,4 @@
 pub mod Handing
+pub mod Parts
+pub mod Meaning
+pub mod Bytes

@@ -1,0 +1,15 @@
+pub mod Answers
+pub mod Items
+pub mod Entries
+pub mod Parts
+pub mod Limits
+pub mod Judging
+pub mod Turns
+pub mod Handed
+pub mod Part
+pub mod Writes
+pub mod Fields
+pub mod Records
+pub mod ChartOf
+pub mod FileBytes
+pub mod Writing
