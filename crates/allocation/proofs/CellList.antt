@@ -82,7 +82,9 @@ pub free-used : (f : Family) (ps : List Placed) → free (held f ps) ≤ usedBy 
 free-used f ps = go (lt-or-le (usedBy ps) (free (held f ps)))
   where
     go : (usedBy ps < free (held f ps)) ⊎ (free (held f ps) ≤ usedBy ps) → free (held f ps) ≤ usedBy ps
-    go (inl h) = let b = held-out f (usedBy ps) ps (free-least (held f ps) (usedBy ps) h) in absurd (omega (arith, b .number, used-above ps (b .place) (b .holder) (b .is-nth)))
+    go (inl h) =
+        let b = held-out f (usedBy ps) ps (free-least (held f ps) (usedBy ps) h) in
+        absurd (omega (arith, b .number, used-above ps (b .place) (b .holder) (b .is-nth)))
     go (inr h) = h
 
 pub place-append : (fs gs : List Family) (ps : List Placed) → place (fs ++ gs) ps ≡ place gs (place fs ps)

@@ -74,8 +74,10 @@ module _ {W : ℕ} {c : Chart} (valid : Valid W c) where
     chart-pairs = rw (listed .sources-are, listed .targets-are, listed .starts-are, listed .live-are, listed .timers-are)
         (λ i. record { locations = length-live i; timers = c .timers; sets = liveSets c; links = links i })
       where
-        links : upTo (linkAt (map (λ (r : Transition). r .source) ts) (map (λ (r : Transition). r .target) ts) (map startsSet ts) (liveSets c)) (length (map (λ (r : Transition). r .source) ts))
-            ≡ livePairs c .links
+        from : List ℕ
+        from = map (λ (r : Transition). r .source) ts
+
+        links : upTo (linkAt from (map (λ (r : Transition). r .target) ts) (map startsSet ts) (liveSets c)) (length from) ≡ livePairs c .links
         links = upTo-map (record { one = 0; other = 0; timers = 0 }) _ _ ts _ (length-map ts _) (λ i r e.
             let s = getD-map (λ (r : Transition). r .source) ts i e in
             let t = getD-map (λ (r : Transition). r .target) ts i e in

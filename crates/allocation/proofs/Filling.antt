@@ -52,12 +52,15 @@ module _ (labels live : List ℕ) (q j number : ℕ) (before l : List ℕ) (s : 
 
   pub give-yes : inFamily labels live q j s ≡ true → j < 64 → 64 * s + 64 ≤ length l → Rows new before (s + 1) (set l (64 * s + j) number)
   unfolding given
-  give-yes e hj long = rows-more new before l (set l (64 * s + j) number) s r (λ i h. row i h (ℕ-discrete i j)) (λ x i n h. getD-set-other l (64 * s + j) (64 * x + i) number 0 (λ p. n (omega arith)))
+  give-yes e hj long =
+      rows-more new before l (set l (64 * s + j) number) s r (λ i h. row i h (ℕ-discrete i j))
+      (λ x i n h. getD-set-other l (64 * s + j) (64 * x + i) number 0 (λ p. n (omega arith)))
     where
       here : getD (set l (64 * s + j) number) (64 * s + j) 0 ≡ elim (eqb j j && inFamily labels live q j s) [ true ↦ number | false ↦ getD before (64 * s + j) 0 ]
       here = rw (eqb-self j) (rw e (getD-set-same l (64 * s + j) number 0 (omega arith)))
 
-      other : (i : ℕ) → i < 64 → (i ≡ j → ⊥) → getD (set l (64 * s + j) number) (64 * s + i) 0 ≡ elim (eqb j i && inFamily labels live q j s) [ true ↦ number | false ↦ getD before (64 * s + i) 0 ]
+      other : (i : ℕ) → i < 64 → (i ≡ j → ⊥) → getD (set l (64 * s + j) number) (64 * s + i) 0
+          ≡ elim (eqb j i && inFamily labels live q j s) [ true ↦ number | false ↦ getD before (64 * s + i) 0 ]
       other i h n = rw (ne-eqb j i (λ p. n (sym p))) (getD-set-other l (64 * s + j) (64 * s + i) number 0 (λ p. n (omega arith)) ∙ r .left s i (omega arith) h)
 
       row : (i : ℕ) → i < 64 → Dec (i ≡ j) → getD (set l (64 * s + j) number) (64 * s + i) 0 ≡ new s i

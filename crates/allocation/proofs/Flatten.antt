@@ -25,7 +25,8 @@ module _ {A : Type 0} where
   -- nothing comes from the bound on
   pub gather-more : (f : ℕ → List A) (m n : ℕ) → m ≤ n → ((i : ℕ) → m ≤ i → f i ≡ []) → gather f n ≡ gather f m
   gather-more f m n h e =
-      ap (gather f) (sum m n h) ∙ gather-sum f m (n - m) ∙ ap (λ (l : List A). gather f m ++ l) (gather-empty (λ i. f (m + i)) (n - m) (λ i. e (m + i) (omega arith))) ∙ append-nil _
+      ap (gather f) (sum m n h) ∙ gather-sum f m (n - m)
+      ∙ ap (λ (l : List A). gather f m ++ l) (gather-empty (λ i. f (m + i)) (n - m) (λ i. e (m + i) (omega arith))) ∙ append-nil _
     where
       sum : (m n : ℕ) → m ≤ n → n ≡ m + (n - m)
       sum m n h = omega arith

@@ -42,7 +42,9 @@ module _ {sources targets starts live : List ℕ} {timers : ℕ} (fit : Matching
   family-by q j pair e = λ i. record { timer = sym (family-timer p q j) i; first = sym e i; locations = same i }
     where
       same : familyBy labels live q j .locations ≡ familyOf p q j .locations
-      same = rising-same (length live) (length live) 0 _ _ (pick-rising (inFamily labels live q j) (length live)) (family-rising (formed fit) q j pair) (λ s. same-bool _ _
+      same =
+          rising-same (length live) (length live) 0 _ _ (pick-rising (inFamily labels live q j) (length live))
+          (family-rising (formed fit) q j pair) (λ s. same-bool _ _
           (λ m. let x = in-family-of q j s (pick-out (inFamily labels live q j) (length live) s m .1) in
           family-has (formed fit) q j pair s .1 (same-first (formed fit) pair (x .0) (e ∙ sym (x .1))))
           (λ m. let a = family-has (formed fit) q j pair s .0 m in
@@ -61,7 +63,8 @@ module _ {sources targets starts live : List ℕ} {timers : ℕ} (fit : Matching
       j = x % 64
 
       first : (b : Bool) → eqb (familyOf p q j .first) q ≡ b → isPair p q j ≡ true
-          → _≡_ {A = List Family} (elim (inFamily labels live q j q) [ true ↦ familyBy labels live q j ∷ [] | false ↦ [] ]) (elim b [ true ↦ familyOf p q j ∷ [] | false ↦ [] ])
+          → _≡_ {A = List Family} (elim (inFamily labels live q j q) [ true ↦ familyBy labels live q j ∷ [] | false ↦ [] ])
+          (elim b [ true ↦ familyOf p q j ∷ [] | false ↦ [] ])
       first true e pair =
           let f = same-number e in rw (of-in-family q j q pair f) (ap (λ (g : Family). g ∷ []) (family-by q j pair f))
       first false e pair = rw (is-no (inFamily labels live q j q) (λ h. not-both (eq-eqb _ q (in-family-of q j q h .1)) e)) refl

@@ -21,8 +21,11 @@ use Rattle.model.specs.FirstFit.{Placed, held, free, place, usedBy, numberAt}
 use Rattle.model.proofs.FirstFit.{free-not-held, free-least, held-in, held-out}
 use Rattle.model.proofs.NumberAt.{has, has-timer, has-location, has-pair, number-out}
 use Rattle.allocation.specs.Cells.{cell, cells}
-use Rattle.allocation.specs.Numbering.{inFamily, inRow, taken, given, familyBy, familyAt, familiesTo}
+use Rattle.allocation.specs.Numbering.{Lengths, inFamily, inRow, taken, given, familyBy, familyAt, familiesTo}
 use Rattle.allocation.proofs.CellList.{below-in, below-out, cells-at, cells-is, cells-none, cell-some, used-more, free-used, place-append}
+
+pub same-lengths : {labels live a b : List ℕ} → Lengths labels live a → length b ≡ length a → Lengths labels live b
+same-lengths l e = record { few-locations = l .few-locations; labels-long = l .labels-long; numbers-long = e ∙ l .numbers-long }
 
 -- the state of the loop over the pairs
 pub record NumberedTo (labels live : List ℕ) (x : ℕ) (numbers : List ℕ) (used : ℕ) : Type 0 where
@@ -52,7 +55,8 @@ module _ (labels live : List ℕ) where
   step-no x e = place-append (familiesTo labels live x) (familyAt labels live x) [] ∙ rw (e, familyAt) refl
 
   -- what every step keeps, all of them keep
-  steps : (P : ℕ → List Placed → Type 0) → P 0 (placedTo 0) → ((x : ℕ) → P x (placedTo x) → P (suc x) (next x ∷ placedTo x)) → ((x : ℕ) → P x (placedTo x) → P (suc x) (placedTo x))
+  steps : (P : ℕ → List Placed → Type 0) → P 0 (placedTo 0) → ((x : ℕ) → P x (placedTo x) → P (suc x) (next x ∷ placedTo x))
+      → ((x : ℕ) → P x (placedTo x) → P (suc x) (placedTo x))
       → (x : ℕ) → P x (placedTo x)
   steps P start yes′ no′ zero = start
   steps P start yes′ no′ (suc x) = go (begins x) refl (steps P start yes′ no′ x)
@@ -109,14 +113,19 @@ module _ (labels live : List ℕ) where
 
   all-earlier : (x : ℕ) → AllEarlier x (placedTo x)
   unfolding numberAt familiesTo gather place
-  all-earlier = steps AllEarlier (λ i g e. absurd (Option·none-ne-some _ e)) more (λ x h i g e. let y = h i g e in record { number = y .number; below = omega (arith, y .below); family = y .family; shown = y .shown })
+  all-earlier = steps AllEarlier (λ i g e. absurd (Option·none-ne-some _ e)) more (λ x h i g e. later x (h i g e))
     where
+      later : (x : ℕ) {ps : List Placed} {g : Placed} → Earlier x ps g → Earlier (suc x) ps g
+      later x y = record { number = y .number; below = omega (arith, y .below); family = y .family; shown = y .shown }
+
       more : (x : ℕ) → AllEarlier x (placedTo x) → AllEarlier (suc x) (next x ∷ placedTo x)
       more x h zero g e = let same : next x ≡ g = Option·some-injective _ _ e in record {
         number = x;
         below = omega arith;
         family = ap (λ (p : Placed). p .family) (sym same);
-        shown = λ s m. rw (ap (λ (p : Placed). has (p .family) s (g .family .timer)) same ∙ has-pair (g .family) s (g .family .timer) refl m, numberAt) (ap (λ (p : Placed). some (p .number)) same);
+        shown = λ s m.
+            rw (ap (λ (p : Placed). has (p .family) s (g .family .timer)) same ∙ has-pair (g .family) s (g .family .timer) refl m, numberAt)
+            (ap (λ (p : Placed). some (p .number)) same);
       }
       more x h (suc i) g e = let y = h i g e in record {
         number = y .number;
@@ -141,10 +150,12 @@ module _ (labels live : List ℕ) where
             let its = and-left (inFamily labels live q j (s .0)) _ (s .2) in
             let i = below-out _ 64 (and-right (inFamily labels live q j (s .0)) _ (s .2)) in
             let e : getD numbers (64 * s .0 + i .0) 0 ≡ k = same-number (i .2) in
-            let n = number-out (s .0) (i .0) ps k (cell-some _ k small (sym (cells-at ps (length live) (s .0) (i .0) (s .1) (i .1)) ∙ ap (λ (l : List ℕ). getD l (64 * s .0 + i .0) 0) (sym are) ∙ e)) in
+            let at = sym (cells-at ps (length live) (s .0) (i .0) (s .1) (i .1)) ∙ ap (λ (l : List ℕ). getD l (64 * s .0 + i .0) 0) (sym are) ∙ e in
+            let n = number-out (s .0) (i .0) ps k (cell-some _ k small at) in
             subst (λ (y : ℕ). memb y (held family ps) ≡ true) (n .number)
             (held-in family ps (n .place) (n .placed) (n .is-nth)
-            (any-memb-in (λ y. memb y (n .placed .family .locations)) (s .0) (family .locations) (locations-in q j (s .0) (s .1) its) (has-location (n .placed .family) (s .0) (i .0) (n .holds))))
+            (any-memb-in (λ y. memb y (n .placed .family .locations)) (s .0) (family .locations) (locations-in q j (s .0) (s .1) its)
+            (has-location (n .placed .family) (s .0) (i .0) (n .holds))))
 
         back : memb k (held family ps) ≡ true → taken labels live numbers q j k (length live) ≡ true
         back m =
@@ -155,7 +166,8 @@ module _ (labels live : List ℕ) where
             let y = early (b .place) g (b .is-nth) in
             let few : g .family .timer < 64 = rw (ap (λ (f : Family). f .timer) (y .family)) (timer-few (y .number)) in
             let e : getD numbers (64 * s .0 + g .family .timer) 0 ≡ k =
-            ap (λ (l : List ℕ). getD l (64 * s .0 + g .family .timer) 0) are ∙ cells-at ps (length live) (s .0) (g .family .timer) (its .0) few ∙ ap cell (y .shown (s .0) (s .2)) ∙ b .number in
+            ap (λ (l : List ℕ). getD l (64 * s .0 + g .family .timer) 0) are
+            ∙ cells-at ps (length live) (s .0) (g .family .timer) (its .0) few ∙ ap cell (y .shown (s .0) (s .2)) ∙ b .number in
             below-in _ (length live) (s .0) (its .0) (and-both (its .1) (below-in _ 64 (g .family .timer) few (eq-eqb _ k e)))
           where
             timer-few : (y : ℕ) → familyOn y .timer < 64
@@ -163,7 +175,8 @@ module _ (labels live : List ℕ) where
 
   -- ---- a turn of the loop
 
-  pub numbered-none : (numbers : List ℕ) → length numbers ≡ 64 * length live → ((x : ℕ) → x < 64 * length live → getD numbers x 0 ≡ 65535) → NumberedTo labels live 0 numbers 0
+  pub numbered-none : (numbers : List ℕ) → length numbers ≡ 64 * length live → ((x : ℕ) → x < 64 * length live → getD numbers x 0 ≡ 65535)
+      → NumberedTo labels live 0 numbers 0
   unfolding familiesTo gather place usedBy top
   numbered-none numbers long clear = record { cells-are = cells-none (length live) numbers long clear; used-is = refl }
 
@@ -171,7 +184,7 @@ module _ (labels live : List ℕ) where
     pub numbered-no : begins x ≡ false → NumberedTo labels live (x + 1) numbers used
     numbered-no e = rw add-one (record { cells-are = rw (step-no x e) (so .cells-are); used-is = rw (step-no x e) (so .used-is) })
 
-    pub number-is : x ≤ 16384 → lowest (λ k. not (taken labels live numbers (x / 64) (x % 64) k (length live))) 16384 ≡ free (held (familyOn x) (placedTo x))
+    number-is : x ≤ 16384 → lowest (λ k. not (taken labels live numbers (x / 64) (x % 64) k (length live))) 16384 ≡ free (held (familyOn x) (placedTo x))
     number-is few =
         let l = held (familyOn x) (placedTo x) in
         let b : free l ≤ 16384 = omega (arith, free-used (familyOn x) (placedTo x), used-few x) in
@@ -182,8 +195,12 @@ module _ (labels live : List ℕ) where
         same : (k : ℕ) → k < 65535 → taken labels live numbers (x / 64) (x % 64) k (length live) ≡ memb k (held (familyOn x) (placedTo x))
         same k h = taken-held (placedTo x) x (all-earlier x) numbers (so .cells-are) (x / 64) (x % 64) k h
 
-    module _ (number : ℕ) (its : number ≡ free (held (familyOn x) (placedTo x))) (after : List ℕ) (long : length after ≡ 64 * length live)
+    module _ (few : x ≤ 16384) (number : ℕ) (lowest-one : number ≡ lowest (λ k. not (taken labels live numbers (x / 64) (x % 64) k (length live))) 16384)
+        (after : List ℕ) (long : length after ≡ 64 * length live)
         (gave : (s i : ℕ) → s < length live → i < 64 → getD after (64 * s + i) 0 ≡ given labels live (x / 64) (x % 64) number numbers s i) where
+      its : number ≡ free (held (familyOn x) (placedTo x))
+      its = lowest-one ∙ number-is few
+
       given-cells : after ≡ cells (next x ∷ placedTo x) (length live)
       unfolding given numberAt
       given-cells = cells-is (next x ∷ placedTo x) (length live) after long (λ s i h k. gave s i h k ∙ one s i h k)
@@ -197,10 +214,12 @@ module _ (labels live : List ℕ) where
           pick-cell false s i h k = ap (λ (l : List ℕ). getD l (64 * s + i) 0) (so .cells-are) ∙ cells-at (placedTo x) (length live) s i h k
 
           one : (s i : ℕ) → s < length live → i < 64
-              → elim (eqb (x % 64) i && inFamily labels live (x / 64) (x % 64) s) [ true ↦ number | false ↦ getD numbers (64 * s + i) 0 ] ≡ cell (numberAt (next x ∷ placedTo x) s i)
+              → elim (eqb (x % 64) i && inFamily labels live (x / 64) (x % 64) s) [ true ↦ number | false ↦ getD numbers (64 * s + i) 0 ]
+              ≡ cell (numberAt (next x ∷ placedTo x) s i)
           one s i h k =
               pick-cell (eqb (x % 64) i && inFamily labels live (x / 64) (x % 64) s) s i h k
-              ∙ ap (λ (b : Bool). cell (elim b [ true ↦ some (next x .number) | false ↦ numberAt (placedTo x) s i ])) (ap (λ (b : Bool). eqb (x % 64) i && b) (sym (here s h)) ∙ same-timer i s)
+              ∙ ap (λ (b : Bool). cell (elim b [ true ↦ some (next x .number) | false ↦ numberAt (placedTo x) s i ]))
+              (ap (λ (b : Bool). eqb (x % 64) i && b) (sym (here s h)) ∙ same-timer i s)
             where
               same-timer : (i s : ℕ) → (eqb (x % 64) i && memb s (familyOn x .locations)) ≡ (eqb (familyOn x .timer) i && memb s (familyOn x .locations))
               same-timer i s = unfold familyBy in refl

@@ -43,6 +43,9 @@ module _ (one other set : ℕ) (start : List ℕ) where
         go (yes e) = rw e (h (rw e at m))
         go (no ne) = a i (omega arith) m
 
+    pub timers-end : {limit : ℕ} → j ≡ limit → Timers limit l changed
+    timers-end e = subst (λ (k : ℕ). Timers k l changed) e x
+
     pub timers-skip : member set j ≡ false → Timers (j + 1) l changed
     timers-skip e = passed-kept _ _ x refl (λ k. k) (agree-more (λ t. absurd (not-both t e)))
 
@@ -76,7 +79,9 @@ module _ {sources targets starts live : List ℕ} {timers : ℕ} (fit : Matching
       (joined : Passed (Joins (getD sources i 0) (getD targets i 0) set l) (Agree (getD sources i 0) (getD targets i 0) set timers) l after r) where
     link-joined : Passed (Joins (link i .one) (link i .other) (link i .timers) l) (Agree (link i .one) (link i .other) (link i .timers) timers) l after r
     unfolding linkAt
-    link-joined = subst (λ (w : ℕ). Passed (Joins (getD sources i 0) (getD targets i 0) w l) (Agree (getD sources i 0) (getD targets i 0) w timers) l after r) its joined
+    link-joined =
+        subst (λ (w : ℕ). Passed (Joins (getD sources i 0) (getD targets i 0) w l) (Agree (getD sources i 0) (getD targets i 0) w timers) l after r)
+        its joined
 
     pub links-fell : r ≡ true → Links (i + 1) start after true
     links-fell e = passed-fell _ _ x (joined .falls e) (joins-sound (formed fit) (link i) (link-in fit i below) (link-joined .kept) (x .kept))
@@ -89,12 +94,18 @@ module _ {sources targets starts live : List ℕ} {timers : ℕ} (fit : Matching
         go k h (yes q) a = rw q (subst (Agree (link i .one) (link i .other) (link i .timers) timers) (joined .same e) (link-joined .seen e))
         go k h (no n) a = a k (omega arith)
 
+  pub links-end : {start l : List ℕ} {changed : Bool} {i : ℕ} → i ≡ length sources → Links i start l changed → Links (length sources) start l changed
+  links-end {start} {l} {changed} e x = subst (λ (k : ℕ). Links k start l changed) e x
+
   -- each location's own label
   pub own-sound : (l : List ℕ) → length l ≡ 64 * length live → ((x : ℕ) → x < length l → getD l x 0 ≡ x / 64) → Sound p l
   unfolding pairsOf
   own-sound l long own = record {
     long = long;
-    each = λ q j h. let b = pair-inside fit q j h in let e : getD l (64 * q + j) 0 ≡ q = own (64 * q + j) (omega (arith, b .0, b .1, fit .few-timers)) ∙ div q j (omega (arith, b .1, fit .few-timers)) in
+    each = λ q j h.
+        let b = pair-inside fit q j h in
+        let few : j < 64 = omega (arith, b .1, fit .few-timers) in
+        let e : getD l (64 * q + j) 0 ≡ q = own (64 * q + j) (omega (arith, b .0)) ∙ div q j few in
         record { joined = rw e (joined-refl q); low = omega arith };
   }
     where

@@ -1,13 +1,20 @@
 -- How families are numbered, by their labels: which locations are of a family, which numbers stand in their rows, and the families in turn.
 -- Assumes nothing.
+use mathlib.Core.Path.{_≡_}
 use mathlib.Core.Bool.{Bool, true, false, _&&_, _||_}
 use mathlib.Core.List.{List, [], _∷_}
-use Prim.Native.Nat.{ℕ, zero, suc, _+_, _*_, _/_, _%_}
+use Prim.Native.Nat.{ℕ, zero, suc, _+_, _*_, _/_, _%_, _≤_}
 use lib.Dec.{eqb}
 use lib.ListN.{length, getD}
 use Rattle.timer_set.specs.Members.{member}
 use Rattle.lists.specs.Lists.{gather, pick}
 use Rattle.model.specs.Family.{Family}
+
+-- what the code asks for its safety
+pub record Lengths (labels live numbers : List ℕ) : Type 0 where
+  pub few-locations : length live ≤ 256
+  pub labels-long : length labels ≡ 64 * length live
+  pub numbers-long : length numbers ≡ 64 * length live
 
 -- some number below n passes
 unfoldable pub anyBelow : (ℕ → Bool) → ℕ → Bool

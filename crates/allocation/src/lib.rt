@@ -9,7 +9,7 @@ ghost use Rattle.timer_set.specs.Members.{member, common, minus};
 ghost use Rattle.model.specs.FirstFit.{firstFit, place, usedBy};
 ghost use Rattle.allocation.specs.Cells.{linkAt, pairsOf, Matching, cells, noNumber};
 ghost use Rattle.allocation.specs.Labels.{JoinedLabels, Sound, Joins, Passed, Agree, AllAgree, Labelled};
-ghost use Rattle.allocation.specs.Numbering.{inFamily, inRow, taken, given, familiesTo};
+ghost use Rattle.allocation.specs.Numbering.{Lengths, inFamily, inRow, taken, given, familiesTo};
 use timer_set::TimerSet;
 
 // The timers of a link: live at both ends and not started.
@@ -166,7 +166,7 @@ fn with_row(set: TimerSet, numbers: &[u16], s: usize, w: u16) -> TimerSet
 
 // The numbers 64 w + x in the rows of the family's locations, as the set of all x.
 fn taken_word(labels: &[u16], live: &[u64], numbers: &[u16], q: usize, j: u8, w: u16) -> TimerSet
-    requires { ⌜ (j < 64) × (length (now live) ≤ 256) × (length (now labels) ≡ 64 * length (now live)) × (length (now numbers) ≡ 64 * length (now live)) ⌝ }
+    requires { ⌜ (j < 64) × Lengths (now labels) (now live) (now numbers) ⌝ }
     ensures { λ r. ⌜ ((x : ℕ) → x < 64 → member (r .bits) x ≡ taken (now (labels .entry)) (now (live .entry)) (now (numbers .entry)) q j (64 * w + x) (length (now (live .entry)))) ⌝ }
 {
     let mut set = TimerSet::EMPTY;
@@ -183,7 +183,7 @@ fn taken_word(labels: &[u16], live: &[u64], numbers: &[u16], q: usize, j: u8, w:
 
 // The smallest number that stands in no row of the family's locations, word by word.
 fn lowest_free(labels: &[u16], live: &[u64], numbers: &[u16], q: usize, j: u8) -> u16
-    requires { ⌜ (j < 64) × (length (now live) ≤ 256) × (length (now labels) ≡ 64 * length (now live)) × (length (now numbers) ≡ 64 * length (now live)) ⌝ }
+    requires { ⌜ (j < 64) × Lengths (now labels) (now live) (now numbers) ⌝ }
     ensures { λ r. ⌜ r ≡ lowest (λ k. not (taken (now (labels .entry)) (now (live .entry)) (now (numbers .entry)) q j k (length (now (live .entry))))) 16384 ⌝ }
 {
     let mut w: u16 = 0;
@@ -199,7 +199,7 @@ fn lowest_free(labels: &[u16], live: &[u64], numbers: &[u16], q: usize, j: u8) -
 
 // Gives the number to each pair of the family.
 fn give(labels: &[u16], live: &[u64], q: usize, j: u8, number: u16, numbers: &mut [u16])
-    requires { ⌜ (j < 64) × (length (now live) ≤ 256) × (length (now labels) ≡ 64 * length (now live)) × (length (now numbers) ≡ 64 * length (now live)) ⌝ }
+    requires { ⌜ (j < 64) × Lengths (now labels) (now live) (now numbers) ⌝ }
     ensures { λ _. ⌜ ((s i : ℕ) → s < length (now (live .entry)) → i < 64 → getD (now (numbers .exit)) (64 * s + i) 0 ≡ given (now (labels .entry)) (now (live .entry)) q j number (now (numbers .entry)) s i) ⌝ }
 {
     let mut s: usize = 0;
@@ -225,7 +225,7 @@ fn clear(numbers: &mut [u16])
 
 // The families by rising number, each with the smallest number that no earlier one that it meets holds. How many numbers are used.
 fn number_families(labels: &[u16], live: &[u64], numbers: &mut [u16]) -> u32
-    requires { ⌜ (length (now live) ≤ 256) × (length (now labels) ≡ 64 * length (now live)) × (length (now numbers) ≡ 64 * length (now live)) ⌝ }
+    requires { ⌜ Lengths (now labels) (now live) (now numbers) ⌝ }
     ensures cells { λ _. ⌜ now (numbers .exit) ≡ cells (place (familiesTo (now (labels .entry)) (now (live .entry)) (64 * length (now (live .entry)))) []) (length (now (live .entry))) ⌝ }
     ensures used { λ r. ⌜ r ≡ usedBy (place (familiesTo (now (labels .entry)) (now (live .entry)) (64 * length (now (live .entry)))) []) ⌝ }
 {

@@ -42,10 +42,17 @@ array-borrow-prefix-labels : tie.Need-array-borrow-prefix-labels
 array-borrow-prefix-labels c = omega (arith, c .before .before .before .before .before .before .pre .0 .few-locations)
 
 slice-aggregate-label-families : tie.Need-slice-aggregate-label-families
-slice-aggregate-label-families c = let s = c .before .before .before .before .before .before .before in sym (length-take-le (64 * length (s .args .live .now)) (c .before .room .result) (omega (arith, s .pre .0 .few-locations, c .before .room .ensures)))
+slice-aggregate-label-families c =
+    let s = c .before .before .before .before .before .before .before in
+    sym
+    (length-take-le (64 * length (s .args .live .now)) (c .before .room .result) (omega (arith, s .pre .0 .few-locations, c .before .room .ensures)))
 
 label-families-requires : tie.Need-label-families-requires
-label-families-requires c κs = let s = c .before .before .before .before .before .before .before in (s .pre .0, length-take-le (64 * length (s .args .live .now)) (c .before .room .result) (omega (arith, s .pre .0 .few-locations, c .before .room .ensures)))
+label-families-requires c κs =
+    let s = c .before .before .before .before .before .before .before in (
+      s .pre .0,
+      length-take-le (64 * length (s .args .live .now)) (c .before .room .result) (omega (arith, s .pre .0 .few-locations, c .before .room .ensures)),
+    )
 
 array-share-prefix-labels : tie.Need-array-share-prefix-labels
 array-share-prefix-labels c = let x = c .before in front-fits (found x) (rest x) (found-long x)
@@ -54,13 +61,23 @@ slice-aggregate-number-families : tie.Need-slice-aggregate-number-families
 slice-aggregate-number-families c = let x = c .before .before in sym (ap length (front-is x) ∙ found-long x)
 
 number-families-requires : tie.Need-number-families-requires
-number-families-requires c κs = let x = c .before .before .before in let s = c .before .before .before .before .before .before .before .before .before .before .before in (s .pre .0 .few-locations, ap length (front-is x) ∙ found-long x, s .pre .1)
+number-families-requires c κs =
+    let x = c .before .before .before in
+    let s = c .before .before .before .before .before .before .before .before .before .before .before in
+    record { few-locations = s .pre .0 .few-locations; labels-long = ap length (front-is x) ∙ found-long x; numbers-long = s .pre .1 }
 
 same-length : tie.Need-same-length
 same-length c = search needs
 
 returns : tie.Need-returns
-returns c = let s = c .before .before .before .before .before .before .before .before .before .before .before .before .before .before in let x = c .before .before .before .before .before .before in let e = first-fit-by (s .pre .0) (found x) (x .label-families .ensures) _ (front-is x) in let n = c .before .before .number-families .ensures in (n .0 ∙ ap (λ (ps : List Placed). cells ps (length (s .args .live .now))) e, n .1 ∙ ap usedBy e)
+returns c =
+    let s = c .before .before .before .before .before .before .before .before .before .before .before .before .before .before in
+    let x = c .before .before .before .before .before .before in
+    let e = first-fit-by (s .pre .0) (found x) (x .label-families .ensures) _ (front-is x) in
+    let n = c .before .before .number-families .ensures in (
+      n .0 ∙ ap (λ (ps : List Placed). cells ps (length (s .args .live .now))) e,
+      n .1 ∙ ap usedBy e,
+    )
 
 pub allocate-spec : {M : Type 1} → statement M
 allocate-spec =

@@ -34,7 +34,13 @@ loop-less : tie.Need-loop-less Inv-loop μ-loop
 loop-less c = search needs
 
 loop-again : tie.Need-loop-again Inv-loop μ-loop
-loop-again c = let l = c .before .loop in (simp length-set (omega arith), simp length-set (l .inv .1), l .inv .2, filled-more (λ k. k / 64) (l .labels) (l .x) (c .loop-test .taken) (l .inv .3))
+loop-again c =
+    let l = c .before .loop in (
+      simp length-set (omega arith),
+      simp length-set (l .inv .1),
+      l .inv .2,
+      filled-more (λ k. k / 64) (l .labels) (l .x) (c .loop-test .taken) (l .inv .3),
+    )
 
 same-length : tie.Need-same-length Inv-loop μ-loop
 same-length c = c .before .loop .inv .1

@@ -15,10 +15,16 @@ abbrev μ-loop : tie.MeasureT-loop
 μ-loop sources targets starts live timers labels₀ labels = total labels
 
 begin-requires : tie.Need-begin-requires Inv-loop μ-loop
-begin-requires c κs = omega (arith, c .before .before .before .before .before .before .pre .1, c .before .before .before .before .before .before .pre .0 .few-locations)
+begin-requires c κs =
+    omega (arith, c .before .before .before .before .before .before .pre .1, c .before .before .before .before .before .before .pre .0 .few-locations)
 
 loop-holds : tie.Need-loop-holds Inv-loop μ-loop
-loop-holds c = let s = c .before .before .before .before .before .before .before .before .before in let b = c .before .before .begin in (s .pre .0, own-sound (s .pre .0) (b .last .0) (b .kept .0 ∙ s .pre .1) (λ x h. b .ensures x (omega (arith, b .kept .0))))
+loop-holds c =
+    let s = c .before .before .before .before .before .before .before .before .before in
+    let b = c .before .before .begin in (
+      s .pre .0,
+      own-sound (s .pre .0) (b .last .0) (b .kept .0 ∙ s .pre .1) (λ x h. b .ensures x (omega (arith, b .kept .0))),
+    )
 
 sweep-requires : tie.Need-sweep-requires Inv-loop μ-loop
 sweep-requires c κs = c .before .loop .inv
@@ -31,10 +37,15 @@ loop-again c = let l = c .before .before .before .before .before .loop in let x 
 
 same-length : tie.Need-same-length Inv-loop μ-loop
 unfolding pairsOf
-same-length c = let s = c .before .before .before .before .before .before .before .before .before .before .before .before .before .before .before in c .before .before .before .sweep .ensures .kept .long ∙ sym (s .pre .1)
+same-length c =
+    let s = c .before .before .before .before .before .before .before .before .before .before .before .before .before .before .before in
+    c .before .before .before .sweep .ensures .kept .long ∙ sym (s .pre .1)
 
 returns : tie.Need-returns Inv-loop μ-loop
-returns c = let l = c .before .before .before .before .before .loop in let x = c .before .before .before .sweep in agree-labelled (l .inv .0) (x .last .1 .1 .1 .1 .1 .0) (x .ensures .kept) (x .ensures .seen (c .if1 .left))
+returns c =
+    let l = c .before .before .before .before .before .loop in
+    let x = c .before .before .before .sweep in
+    agree-labelled (l .inv .0) (x .last .1 .1 .1 .1 .1 .0) (x .ensures .kept) (x .ensures .seen (c .if1 .left))
 
 pub label-families-spec : {M : Type 1} → statement M
 label-families-spec =
