@@ -1,5 +1,5 @@
 -- The loops that fill the lent lists, on plain values: what is read so far is laid over their fronts. Assumes nothing.
-use mathlib.Core.Path.{_≡_, refl, sym, ap, _∙_, subst}
+use mathlib.Core.Path.{_≡_, sym, ap, _∙_, subst}
 use mathlib.Core.List.{List, [], _∷_, _++_}
 use Prim.Native.Nat.{ℕ, suc, _+_, _≤_, _<_}
 use native.Mathlib.Numerals.{add-one}
@@ -10,7 +10,7 @@ use Rattle.model.specs.Chart.{Transition}
 use Rattle.model.specs.Live.{startsSet}
 use Rattle.chart_lists.specs.Lists.{put}
 use Rattle.chart_lists.proofs.Put.{put-nil, put-last, put-next}
-use Rattle.file_format.specs.Parse.{Parsed, value, refusal, entry, rising}
+use Rattle.file_format.specs.Parse.{value, refusal, entry, rising}
 use Rattle.file_format.specs.Body.{readTransition, readTransitions}
 use Rattle.file_format.proofs.Parsed.{value-refused, same-value}
 use Rattle.file_format.proofs.Items.{Turn, rising-first, transitions-first, turn-done, turn-refused, turn-again}

@@ -11,7 +11,7 @@ use Rattle.comparison.specs.Comparison.{codeOf}
 use Rattle.model.specs.Chart.{Test, Transition}
 use Rattle.chart_lists.specs.Lists.{allTests}
 use Rattle.chart_lists.proofs.Tests.{tests-more, tests-front}
-use Rattle.file_format.specs.Parse.{Parsed, value, refusal}
+use Rattle.file_format.specs.Parse.{value, refusal}
 use Rattle.file_format.specs.Body.{readTest, readTests, readTransition, readTransitions}
 use Rattle.file_format.proofs.Parsed.{value-refused, same-value}
 use Rattle.file_format.proofs.Items.{Turn, tests-first, transitions-first, turn-done, turn-refused, turn-again, turn-front}

@@ -1,5 +1,5 @@
 -- The version byte and the length, read as the code reads them: 1, 2, or the body. Assumes nothing.
-use mathlib.Core.Path.{_≡_, refl, sym, ap, _∙_, subst}
+use mathlib.Core.Path.{_≡_, sym, _∙_, subst}
 use mathlib.Core.Logic.{_⊎_, inl, inr}
 use mathlib.Core.Bool.{true}
 use mathlib.Core.List.{List}
@@ -9,9 +9,9 @@ use lib.Dec.{eqb}
 use lib.ListN.{length, drop, length-drop}
 use borrow.Author.Tests.{eq-eqb, ne-eqb}
 use Rattle.lists.proofs.Bools.{lt-or-le}
-use Rattle.model.specs.Answer.{Answer, result, refused, unless, nowhere}
-use Rattle.file_format.specs.Parse.{Parsed, value, refusal, bind, number}
-use Rattle.file_format.specs.File.{Frame, readFrame, judgeFrame}
+use Rattle.model.specs.Answer.{Answer, result, refused, nowhere}
+use Rattle.file_format.specs.Parse.{value, refusal, number}
+use Rattle.file_format.specs.File.{readFrame, judgeFrame}
 use Rattle.file_format.proofs.Parsed.{value-refused, same-rest}
 use Rattle.file_format.proofs.Reading.{number-in, number-cut}
 

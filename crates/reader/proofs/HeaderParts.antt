@@ -1,5 +1,5 @@
 -- The header, read as the code reads it: its first numbers, the accepting locations, the number of transitions. Assumes nothing.
-use mathlib.Core.Path.{_≡_, refl, sym, ap, _∙_, subst}
+use mathlib.Core.Path.{_≡_, refl, sym, ap, _∙_}
 use mathlib.Core.Bool.{Bool, true, false}
 use mathlib.Core.List.{List}
 use Prim.Native.Nat.{ℕ, suc, _≤_, _<_}
@@ -8,48 +8,43 @@ use lib.Dec.{leb}
 use lib.ListN.{length, drop}
 use borrow.Author.Tests.{le-leb, lt-leb}
 use Rattle.model.specs.Answer.{nowhere}
-use Rattle.chart_lists.specs.declared.Numbers.{Numbers}
-use Rattle.chart_lists.specs.declared.Refusal.{Refusal}
-use Rattle.file_format.specs.Parse.{Parsed, value, refusal, bind, guard, number, below, rising, many, entry}
+use Rattle.file_format.specs.Parse.{Parsed, value, refusal, bind, guard, number, below, rising, entry}
 use Rattle.file_format.specs.Body.{Header, readHeader}
 use Rattle.file_format.proofs.Parsed.{bind-value, guard-value, same-value, below-limit, kept-value, kept-refused}
 use Rattle.file_format.proofs.Items.{many-length}
-use Rattle.fields.specs.Meaning.{refusalAs}
-use Rattle.reader.specs.declared.HeaderField.{HeaderField}
-use Rattle.reader.specs.declared.HeaderField.the-variants as headers
 use Rattle.reader.specs.Parts.{Limits, readLimits, passAccepting}
-use Rattle.reader.specs.Meaning.{HeaderIs, HeaderAt, headerNumbers}
+use Rattle.reader.specs.Meaning.{HeaderIs, headerNumbers}
 
 -- ---- the first numbers
 
 module _ (bs : List ℕ) where
-  pub limits₀ : {n p : ℕ} → below 2 257 4 nowhere bs ≡ refusal n p → refusal n p ≡ readLimits bs
+  pub limits-locations : {n p : ℕ} → below 2 257 4 nowhere bs ≡ refusal n p → refusal n p ≡ readLimits bs
   unfolding readLimits
-  limits₀ e = rw e
+  limits-locations e = rw e
 
   module _ {l : ℕ} {b₁ : List ℕ} (e₀ : below 2 257 4 nowhere bs ≡ value l b₁) where
-    pub limits₁ : l < 1 → refusal 4 nowhere ≡ readLimits bs
+    pub limits-none : l < 1 → refusal 4 nowhere ≡ readLimits bs
     unfolding readLimits
-    limits₁ h = rw (e₀, lt-leb 1 l h)
+    limits-none h = rw (e₀, lt-leb 1 l h)
 
     module _ (some : 1 ≤ l) where
-      pub limits₂ : {n p : ℕ} → below 2 l 5 nowhere b₁ ≡ refusal n p → refusal n p ≡ readLimits bs
+      pub limits-initial : {n p : ℕ} → below 2 l 5 nowhere b₁ ≡ refusal n p → refusal n p ≡ readLimits bs
       unfolding readLimits
-      limits₂ e = rw (e₀, le-leb 1 l some, e)
+      limits-initial e = rw (e₀, le-leb 1 l some, e)
 
       module _ {q : ℕ} {b₂ : List ℕ} (e₁ : below 2 l 5 nowhere b₁ ≡ value q b₂) where
-        pub limits₃ : {n p : ℕ} → below 1 65 4 nowhere b₂ ≡ refusal n p → refusal n p ≡ readLimits bs
+        pub limits-timers : {n p : ℕ} → below 1 65 4 nowhere b₂ ≡ refusal n p → refusal n p ≡ readLimits bs
         unfolding readLimits
-        limits₃ e = rw (e₀, le-leb 1 l some, e₁, e)
+        limits-timers e = rw (e₀, le-leb 1 l some, e₁, e)
 
         module _ {k : ℕ} {b₃ : List ℕ} (e₂ : below 1 65 4 nowhere b₂ ≡ value k b₃) where
-          pub limits₄ : {n p : ℕ} → number 2 b₃ ≡ refusal n p → refusal n p ≡ readLimits bs
+          pub limits-accepting : {n p : ℕ} → number 2 b₃ ≡ refusal n p → refusal n p ≡ readLimits bs
           unfolding readLimits
-          limits₄ e = rw (e₀, le-leb 1 l some, e₁, e₂, e)
+          limits-accepting e = rw (e₀, le-leb 1 l some, e₁, e₂, e)
 
-          pub limits₅ : {a : ℕ} {b₄ : List ℕ} → number 2 b₃ ≡ value a b₄ → value (record { locations = l; initial = q; timers = k; accepting = a }) b₄ ≡ readLimits bs
+          pub limits-found : {a : ℕ} {b₄ : List ℕ} → number 2 b₃ ≡ value a b₄ → value (record { locations = l; initial = q; timers = k; accepting = a }) b₄ ≡ readLimits bs
           unfolding readLimits
-          limits₅ e = rw (e₀, le-leb 1 l some, e₁, e₂, e)
+          limits-found e = rw (e₀, le-leb 1 l some, e₁, e₂, e)
 
 pub few-timers : (bs : List ℕ) {l : Limits} {t : List ℕ} → readLimits bs ≡ value l t → l .timers ≤ 64
 unfolding readLimits
@@ -86,57 +81,35 @@ pub accepting-length : (locations n : ℕ) (bs : List ℕ) {xs t : List ℕ} →
 unfolding rising
 accepting-length locations n bs {xs} {t} e = many-length (λ (lo x : ℕ). suc x) (entry 2 locations 5 nowhere) 0 n bs xs t e
 
--- ---- what an answer of the code says of the header
+-- ---- the header from its parts
 
-not-found : {f : Refusal} {m : Numbers} {p q : ℕ} → headers.Refused f ≡ headers.Found m p q → ⊥
-not-found e = let z : _≡_ {A = ℕ} 0 1 = cc in omega arith
-
-same-refusal : {f g : Refusal} → headers.Refused f ≡ headers.Refused g → f ≡ g
-same-refusal e = cc
-
-pub header-refused : {s bs : List ℕ} {f : Refusal} → readHeader bs ≡ refusalAs f → HeaderAt s bs (headers.Refused f)
-header-refused {s} {bs} e = record {
-  found = λ m p q r. absurd (not-found r);
-  refused = λ g r. subst (λ (x : Refusal). readHeader bs ≡ refusalAs x) (same-refusal r) e;
-}
-
-header-known : {s bs : List ℕ} {m : Numbers} {entries transitions : ℕ} → HeaderIs s bs m entries transitions → HeaderAt s bs (headers.Found m entries transitions)
-header-known {s} {bs} {m} {entries} {transitions} h = record { found = found; refused = λ g r. absurd (not-found (sym r)) }
-  where
-    found : (m′ : Numbers) (p q : ℕ) → headers.Found m entries transitions ≡ headers.Found m′ p q → HeaderIs s bs m′ p q
-    found m′ p q r =
-        let e₁ : m ≡ m′ = cc in
-        let e₂ : entries ≡ p = cc in
-        let e₃ : transitions ≡ q = cc in
-        rw (← e₁, ← e₂, ← e₃) h
-
-module _ (s bs : List ℕ) where
-  pub header₀ : {f : Refusal} → readLimits bs ≡ refusalAs f → HeaderAt s bs (headers.Refused f)
-  header₀ e = header-refused (sym (header-parts bs) ∙ rw e)
+module _ (bs : List ℕ) where
+  pub header-limits : {n p : ℕ} → readLimits bs ≡ refusal n p → readHeader bs ≡ refusal n p
+  header-limits e = sym (header-parts bs) ∙ rw e
 
   module _ {l : Limits} {b₁ : List ℕ} (e₀ : readLimits bs ≡ value l b₁) where
     abbrev entries-read : Parsed (List ℕ)
     entries-read = rising 2 (l .locations) 5 nowhere (l .accepting) b₁
 
-    pub header₁ : {f : Refusal} → passAccepting (l .locations) (l .accepting) b₁ ≡ refusalAs f → HeaderAt s bs (headers.Refused f)
+    pub header-accepting : {n p : ℕ} → passAccepting (l .locations) (l .accepting) b₁ ≡ refusal n p → readHeader bs ≡ refusal n p
     unfolding passAccepting
-    header₁ e = let h = kept-refused length entries-read e in header-refused (sym (header-parts bs) ∙ rw (e₀, h))
+    header-accepting e = let h = kept-refused length entries-read e in sym (header-parts bs) ∙ rw (e₀, h)
 
     module _ {x : ℕ} {b₂ : List ℕ} (e₁ : passAccepting (l .locations) (l .accepting) b₁ ≡ value x b₂) where
       accepting-found : (xs : List ℕ) × (entries-read ≡ value xs b₂) × (length xs ≡ x)
       unfolding passAccepting
       accepting-found = kept-value length entries-read e₁
 
-      pub header₂ : {f : Refusal} → below 2 513 4 nowhere b₂ ≡ refusalAs f → HeaderAt s bs (headers.Refused f)
-      header₂ e = let h = accepting-found .1 in header-refused (sym (header-parts bs) ∙ rw (e₀, h, e))
+      pub header-count : {n p : ℕ} → below 2 513 4 nowhere b₂ ≡ refusal n p → readHeader bs ≡ refusal n p
+      header-count e = let h = accepting-found .1 in sym (header-parts bs) ∙ rw (e₀, h, e)
 
-      pub header₃ : {n : ℕ} (entries transitions : ℕ) → b₁ ≡ drop entries s → below 2 513 4 nowhere b₂ ≡ value n (drop transitions s)
-          → HeaderAt s bs (headers.Found (record { locations = l .locations; initial = l .initial; timers = l .timers; accepting = l .accepting; transitions = n }) entries transitions)
+      pub header-found : (s : List ℕ) {n : ℕ} (entries transitions : ℕ) → b₁ ≡ drop entries s → below 2 513 4 nowhere b₂ ≡ value n (drop transitions s)
+          → HeaderIs s bs (record { locations = l .locations; initial = l .initial; timers = l .timers; accepting = l .accepting; transitions = n }) entries transitions
       unfolding headerNumbers
-      header₃ {n} entries transitions here e =
+      header-found s {n} entries transitions here e =
           let h = accepting-found in
           let q = accepting-length _ _ _ (h .1) in
-          header-known record {
+          record {
             header = record { locations = l .locations; initial = l .initial; timers = l .timers; accepting = h .0; count = n };
             is = sym (header-parts bs) ∙ rw (e₀, h .1, e);
             numbers = rw q;

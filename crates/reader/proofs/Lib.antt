@@ -8,3 +8,4 @@ pub mod FillingTests
 pub mod RecordParts
 pub mod JudgeParts
 pub mod ReadParts
+pub mod Refusals

@@ -1,6 +1,6 @@
 -- The loops that judge the accepting locations and the transitions, on plain values: what is read so far, and the number that they answer.
 -- Assumes nothing.
-use mathlib.Core.Path.{_≡_, refl, sym, ap, _∙_}
+use mathlib.Core.Path.{_≡_, refl}
 use mathlib.Core.List.{List, [], _∷_, _++_}
 use Prim.Native.Nat.{ℕ, suc, _+_, _*_, _≤_, _<_}
 use native.Mathlib.Numerals.{add-one}
@@ -11,13 +11,13 @@ use Rattle.model.specs.Answer.{nowhere}
 use Rattle.model.specs.Chart.{Transition}
 use Rattle.chart_lists.specs.Lists.{allTests}
 use Rattle.chart_lists.proofs.Tests.{tests-more}
-use Rattle.file_format.specs.Parse.{Parsed, value, refusal, bind, guard, below, entry, rising}
+use Rattle.file_format.specs.Parse.{value, refusal, below, entry, rising}
 use Rattle.file_format.specs.Body.{readTransition, readTransitions}
 use Rattle.file_format.proofs.Parsed.{bind-value, guard-value, same-value, below-limit, kept-value, kept-refused}
 use Rattle.file_format.proofs.Items.{Turn, rising-first, transitions-first, turn-done, turn-refused, turn-again}
 use Rattle.fields.specs.Parts.{passTransition}
 use Rattle.reader.specs.Parts.{passAccepting, passTransitions}
-use Rattle.reader.proofs.RecordParts.{few-tests}
+use Rattle.fields.proofs.Parts.{pass-at-most}
 
 -- an entry of a rising list that was read is below the limit
 pub entry-limit : (w limit n p lo : ℕ) (bs : List ℕ) {x : ℕ} {t : List ℕ} → entry w limit n p lo bs ≡ value x t → x < limit
@@ -76,7 +76,7 @@ module _ {locations timers n i tests : ℕ} {start bs : List ℕ} (p : TestsCoun
     unfolding passTransition
     counted-again {g} {t} e =
         let k = kept-value (λ (r : Transition). length (r .tests)) (readTransition 2 locations timers i bs) e in
-        let f : g ≤ 8 = few-tests 2 locations timers i bs e in
+        let f : g ≤ 8 = pass-at-most 2 locations timers i bs e in
         record {
           done = p .done ++ (k .0 ∷ []);
           turn = rw (add-one i) (rw (add-one i) at (turn-again (p .turn) h (k .1)));

@@ -1,11 +1,11 @@
 -- What the reader answers and leaves in the lent lists, from what its parts answer and leave. Assumes nothing.
-use mathlib.Core.Path.{_≡_, refl, sym, ap, _∙_, subst}
+use mathlib.Core.Path.{_≡_, sym, ap, _∙_}
 use mathlib.Core.Bool.{Bool, true, false}
 use mathlib.Core.List.{List}
-use Prim.Native.Nat.{ℕ, _≤_}
+use Prim.Native.Nat.{ℕ}
 use lib.ListN.{length, drop}
-use Rattle.model.specs.Answer.{Answer, result, refused, then, unless, nowhere}
-use Rattle.model.specs.Chart.{Transition, Chart}
+use Rattle.model.specs.Answer.{Answer, result, refused, nowhere}
+use Rattle.model.specs.Chart.{Transition}
 use Rattle.chart_lists.specs.declared.Numbers.{Numbers}
 use Rattle.chart_lists.specs.Numbers.{numbersOf}
 use Rattle.chart_lists.specs.Lists.{Lists, lists, listsOf, laid, roomFor, put, allTests}

@@ -1,11 +1,9 @@
 -- Numbers stored behind the first entries of a lent list, and the tests' numbers stored so. Assumes nothing.
-use mathlib.Core.Path.{_≡_, refl, sym, ap, _∙_, subst}
+use mathlib.Core.Path.{_≡_, sym, ap, _∙_}
 use mathlib.Core.List.{List, [], _∷_, _++_, map, append-assoc, append-nil}
 use Prim.Native.Nat.{ℕ, _+_, _≤_, _<_}
-use native.Mathlib.Omega.{arith}
 use lib.ListN.{length, take, set, length-append, length-map, take-append-drop}
 use lib.Seq.{length-take-le}
-use Rattle.comparison.specs.declared.Comparison.{Comparison}
 use Rattle.comparison.specs.Comparison.{codeOf}
 use Rattle.model.specs.Chart.{Test}
 use Rattle.chart_lists.specs.Lists.{put}

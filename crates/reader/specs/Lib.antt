@@ -2,3 +2,4 @@ pub mod Reading
 pub mod Parts
 pub mod Meaning
 pub mod Stored
+pub mod Refusals

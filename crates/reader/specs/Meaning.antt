@@ -59,9 +59,10 @@ pub record HeaderIs (s bs : List ℕ) (m : Numbers) (entries transitions : ℕ) 
   pub end : List ℕ
   pub accepting : rising 2 (m .locations) 5 nowhere (m .accepting) (drop entries s) ≡ value (header .accepting) end
 
-pub record HeaderAt (s bs : List ℕ) (r : HeaderField) : Type 0 where
-  pub found : (m : Numbers) (entries transitions : ℕ) → r ≡ header.Found m entries transitions → HeaderIs s bs m entries transitions
-  pub refused : (f : Refusal) → r ≡ header.Refused f → readHeader bs ≡ refusalAs f
+-- what an answer of the code says of it
+abbrev pub HeaderAt : (s bs : List ℕ) → HeaderField → Type 0
+HeaderAt s bs (header.Found m entries transitions) = HeaderIs s bs m entries transitions
+HeaderAt s bs (header.Refused f) = readHeader bs ≡ refusalAs f
 
 abbrev pub headerRefusal : HeaderField → Refusal
 headerRefusal (header.Refused f) = f
@@ -76,10 +77,10 @@ pub record RecordIs (locations timers i : ℕ) (s bs : List ℕ) (h : Head) (ins
   pub head : headOf transition ≡ h
   pub tests : readTests 2 timers i (h .tests) (drop inside s) ≡ value (transition .tests) (drop next s)
 
-pub record RecordAt (locations timers i : ℕ) (s bs : List ℕ) (r : RecordField) : Type 0 where
-  pub found : (p q e w g inside next : ℕ) → r ≡ records.Found p q e w g inside next
-      → RecordIs locations timers i s bs (record { source = p; target = q; event = e; starts = w; tests = g }) inside next
-  pub refused : (f : Refusal) → r ≡ records.Refused f → readTransition 2 locations timers i bs ≡ refusalAs f
+abbrev pub RecordAt : (locations timers i : ℕ) → (s bs : List ℕ) → RecordField → Type 0
+RecordAt locations timers i s bs (records.Found p q e w g inside next) =
+    RecordIs locations timers i s bs (record { source = p; target = q; event = e; starts = w; tests = g }) inside next
+RecordAt locations timers i s bs (records.Refused f) = readTransition 2 locations timers i bs ≡ refusalAs f
 
 -- ---- the whole file
 
@@ -95,9 +96,9 @@ pub record ChartIs (s : List ℕ) (m : Numbers) (entries transitions tests : ℕ
   pub transitions-end : List ℕ
   pub transitions-are : readTransitions 2 (m .locations) (m .timers) (m .transitions) (drop transitions s) ≡ value (chart .transitions) transitions-end
 
-pub record FileJudged (s : List ℕ) (r : Judged) : Type 0 where
-  pub good : (m : Numbers) (entries transitions tests : ℕ) → r ≡ judged.Good m entries transitions tests → ChartIs s m entries transitions tests
-  pub refused : (f : Refusal) → r ≡ judged.Refused f → chartIn s ≡ refusedAs f
+abbrev pub FileJudged : List ℕ → Judged → Type 0
+FileJudged s (judged.Good m entries transitions tests) = ChartIs s m entries transitions tests
+FileJudged s (judged.Refused f) = chartIn s ≡ refusedAs f
 
 abbrev pub judgedRefusal : Judged → Refusal
 judgedRefusal (judged.Refused f) = f

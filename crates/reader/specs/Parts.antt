@@ -5,7 +5,6 @@ use Prim.Native.Nat.{ℕ}
 use lib.Dec.{leb}
 use lib.ListN.{length}
 use Rattle.model.specs.Answer.{nowhere}
-use Rattle.model.specs.Chart.{Transition}
 use Rattle.chart_lists.specs.Lists.{allTests}
 use Rattle.file_format.specs.Parse.{Parsed, value, bind, guard, number, below, rising}
 use Rattle.file_format.specs.Body.{readTransitions}

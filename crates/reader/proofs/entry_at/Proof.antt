@@ -1,4 +1,4 @@
-use mathlib.Core.Path.{_≡_, sym, _∙_}
+use mathlib.Core.Path.{sym, _∙_}
 use denote.Ref.{now}
 use Rattle.file_format.proofs.Reading.{entry-refused, entry-in, entry-low}
 use Rattle.fields.specs.Meaning.{meant}
@@ -6,34 +6,25 @@ use Rattle.fields.proofs.Answers.{told}
 use borrow.Author.Needs.{needs}
 use Rattle.reader.proofs.entry_at.Statement.{statement}
 use Rattle.reader.proofs.entry_at.Tie as tie
-use Rattle.reader.proofs.entry_at.Reads as reads
-use Rattle.reader.proofs.entry_at.Lts as lts
-use Rattle.fields.proofs.pair_below.Reads as pair-below-reads
 
--- src/lib.rt:124:9
 pair-below-requires : tie.Need-pair-below-requires
 pair-below-requires c κs = search needs
 
--- src/lib.rt:125:22
 enum-known-a : tie.Need-enum-known-a
 enum-known-a c = search needs
 
--- src/lib.rt:126:9
 enum-told : tie.Need-enum-told
 enum-told c = search needs
 
--- src/lib.rt:126:9
 returns : tie.Need-returns
 returns c = let k = c .before .before .pair-below .ensures in
     let h = told (meant (now (c .before .before .before .before .args .s))) (c .enum-told .given .1) k in
     k ∙ h ∙ sym (entry-refused _ _ _ _ _ _ h)
 
--- src/lib.rt:129:9
 returns-2 : tie.Need-returns-2
 returns-2 c = let h = told (meant (now (c .before .before .before .before .before .before .args .s))) (c .before .before .a .given .1) (c .before .before .before .before .pair-below .ensures) in
     sym (entry-low _ _ _ _ _ _ h (c .if1 .taken))
 
--- src/lib.rt:121:1
 returns-3 : tie.Need-returns-3
 returns-3 c = let h = told (meant (now (c .before .before .before .before .before .before .args .s))) (c .before .before .a .given .1) (c .before .before .before .before .pair-below .ensures) in
     sym (entry-in _ _ _ _ _ _ h (c .if1 .left))

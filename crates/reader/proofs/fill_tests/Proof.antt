@@ -1,16 +1,13 @@
 use native.Mathlib.Omega.{arith}
 use borrow.Author.Needs.{needs}
 use Prim.Native.Nat.{ℕ, _-_, _≤_}
-use mathlib.Core.Path.{_≡_, refl, sym, _∙_}
+use mathlib.Core.Path.{_≡_, refl, subst}
 use denote.Ref.{now}
-use lib.ListN.{length, drop, length-set}
+use lib.ListN.{length, drop}
+use Rattle.reader.specs.Meaning.{RecordAt}
 use Rattle.reader.proofs.FillingTests.{AllFilled, all-first, all-done, all-never, room-next, all-again}
 use Rattle.reader.proofs.fill_tests.Statement.{statement}
 use Rattle.reader.proofs.fill_tests.Tie as tie
-use Rattle.reader.proofs.fill_tests.Reads as reads
-use Rattle.reader.proofs.fill_tests.Lts as lts
-use Rattle.reader.proofs.fill_record_tests.Reads as fill-record-tests-reads
-use Rattle.reader.proofs.record_at.Reads as record-at-reads
 
 abbrev Inv-loop : tie.InvT-loop
 Inv-loop s at n locations timers tested₀ codes₀ constants₀ here₀ base₀ i₀ tested codes constants here base i = (length tested ≡ length tested₀) × (length codes ≡ length codes₀) × (length constants ≡ length constants₀)
@@ -23,77 +20,61 @@ abbrev μ-loop : tie.MeasureT-loop
 fits-in : {k n a l : ℕ} → k ≤ n → n ≤ a → l ≡ a → k ≤ l
 fits-in h r e = omega arith
 
--- src/lib.rt:466:5
 loop-holds : tie.Need-loop-holds Inv-loop μ-loop
 loop-holds c = let a = c .before .before .before .before .args in
     (refl, refl, refl, all-first (a .locations) (a .timers) (a .n) (drop (a .at) (now (a .s))) _ _ _)
 
--- src/lib.rt:467:55
 cast-record-at : tie.Need-cast-record-at Inv-loop μ-loop
 cast-record-at c = search needs
 
--- src/lib.rt:467:13
 record-at-requires : tie.Need-record-at-requires Inv-loop μ-loop
 record-at-requires c κs = search needs
 
--- src/lib.rt:473:13
 enum-known-a : tie.Need-enum-known-a Inv-loop μ-loop
 enum-known-a c = search needs
 
--- src/lib.rt:478:13
 enum-told : tie.Need-enum-told Inv-loop μ-loop
 enum-told c = search needs
 
--- src/lib.rt:478:13
 same-length : tie.Need-same-length Inv-loop μ-loop
 same-length c = c .before .before .before .before .loop .inv .0
 
--- src/lib.rt:478:13
 same-length-2 : tie.Need-same-length-2 Inv-loop μ-loop
 same-length-2 c = c .before .before .before .before .loop .inv .1
 
--- src/lib.rt:478:13
 same-length-3 : tie.Need-same-length-3 Inv-loop μ-loop
 same-length-3 c = c .before .before .before .before .loop .inv .2
 
--- src/lib.rt:478:13
 returns : tie.Need-returns Inv-loop μ-loop
-returns c = λ rs t e. absurd (all-never (c .before .before .before .before .loop .inv .3) (c .before .before .before .loop-test .taken) (c .before .before .record-at .ensures .refused _ (c .enum-told .given .1)) rs t e)
+returns c = λ rs t e. absurd (all-never (c .before .before .before .before .loop .inv .3) (c .before .before .before .loop-test .taken) (subst (RecordAt _ _ _ _ _) (c .enum-told .given .1) (c .before .before .record-at .ensures)) rs t e)
 
--- src/lib.rt:480:53
 cast-fill-record-tests : tie.Need-cast-fill-record-tests Inv-loop μ-loop
 cast-fill-record-tests c = search needs
 
--- src/lib.rt:480:9
 fill-record-tests-requires : tie.Need-fill-record-tests-requires Inv-loop μ-loop
-fill-record-tests-requires c κs = let x = c .before .before .before .before .before .before .record-at .ensures .found _ _ _ _ _ _ _ (c .before .before .before .before .a .given .1) in
+fill-record-tests-requires c κs = let x = subst (RecordAt _ _ _ _ _) (c .before .before .before .before .a .given .1) (c .before .before .before .before .before .before .record-at .ensures) in
     let f = c .before .before .before .before .before .before .before .before .before .before .before .before .before .pre .1 in
     let l = c .before .before .before .before .before .before .before .before .loop in
     let r = room-next (l .inv .3) (c .before .before .before .before .before .before .before .loop-test .taken) x (f .is) in
     (fits-in r (f .timers-fit) (l .inv .0), fits-in r (f .codes-fit) (l .inv .1), fits-in r (f .constants-fit) (l .inv .2))
 
--- src/lib.rt:481:17
 cast-base : tie.Need-cast-base Inv-loop μ-loop
 cast-base c = search needs
 
--- src/lib.rt:481:9
 add-base : tie.Need-add-base Inv-loop μ-loop
-add-base c = let x = c .before .before .before .before .before .before .before .before .before .before .before .before .before .record-at .ensures .found _ _ _ _ _ _ _ (c .before .before .before .before .before .before .before .before .before .before .before .a .given .1) in
+add-base c = let x = subst (RecordAt _ _ _ _ _) (c .before .before .before .before .before .before .before .before .before .before .before .a .given .1) (c .before .before .before .before .before .before .before .before .before .before .before .before .before .record-at .ensures) in
     let f = c .before .before .before .before .before .before .before .before .before .before .before .before .before .before .before .before .before .before .before .before .pre .1 in
     let r = room-next (c .before .before .before .before .before .before .before .before .before .before .before .before .before .before .before .loop .inv .3) (c .before .before .before .before .before .before .before .before .before .before .before .before .before .before .loop-test .taken) x (f .is) in
     omega (arith, f .timers-fit, c .before .before .before .before .before .before .before .before .before .before .before .before .before .before .before .before .before .before .before .before .good .1 .1 .1 .1 .1 .0 .0)
 
--- src/lib.rt:483:9
 add-i : tie.Need-add-i Inv-loop μ-loop
 add-i c = search needs
 
--- src/lib.rt:466:5
 loop-less : tie.Need-loop-less Inv-loop μ-loop
 loop-less c = search needs
 
--- src/lib.rt:466:5
 loop-again : tie.Need-loop-again Inv-loop μ-loop
-loop-again c = let x = c .before .before .before .before .before .before .before .before .before .before .before .before .before .record-at .ensures .found _ _ _ _ _ _ _ (c .before .before .before .before .before .before .before .before .before .before .before .a .given .1) in
+loop-again c = let x = subst (RecordAt _ _ _ _ _) (c .before .before .before .before .before .before .before .before .before .before .before .a .given .1) (c .before .before .before .before .before .before .before .before .before .before .before .before .before .record-at .ensures) in
     let l = c .before .before .before .before .before .before .before .before .before .before .before .before .before .before .before .loop .inv in (
       omega (arith, l .0, c .before .before .before .before .before .tested .given),
       omega (arith, l .1, c .before .before .before .codes .given),
@@ -101,19 +82,15 @@ loop-again c = let x = c .before .before .before .before .before .before .before
       all-again (l .3) (c .before .before .before .before .before .before .before .before .before .before .before .before .before .before .loop-test .taken) x (c .before .before .before .before .before .before .fill-record-tests .ensures),
     )
 
--- src/lib.rt:458:1
 same-length-4 : tie.Need-same-length-4 Inv-loop μ-loop
 same-length-4 c = c .before .loop .inv .0
 
--- src/lib.rt:458:1
 same-length-5 : tie.Need-same-length-5 Inv-loop μ-loop
 same-length-5 c = c .before .loop .inv .1
 
--- src/lib.rt:458:1
 same-length-6 : tie.Need-same-length-6 Inv-loop μ-loop
 same-length-6 c = c .before .loop .inv .2
 
--- src/lib.rt:458:1
 returns-2 : tie.Need-returns-2 Inv-loop μ-loop
 returns-2 c = all-done (c .before .loop .inv .3) (c .loop-test .left)
 

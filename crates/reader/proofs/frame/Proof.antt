@@ -1,66 +1,49 @@
 use denote.Ref.{now}
 use native.Mathlib.Omega.{arith}
-use lib.ListN.{length}
 use Rattle.fields.specs.Meaning.{meant}
 use Rattle.fields.proofs.Answers.{told}
 use Rattle.reader.proofs.FrameParts.{no-version, no-length, wrong-length, wrong-version, good-frame}
 use borrow.Author.Needs.{needs}
 use Rattle.reader.proofs.frame.Statement.{statement}
 use Rattle.reader.proofs.frame.Tie as tie
-use Rattle.reader.proofs.frame.Reads as reads
-use Rattle.reader.proofs.frame.Lts as lts
-use Rattle.fields.proofs.byte_at.Reads as byte-at-reads
-use Rattle.fields.proofs.quad_at.Reads as quad-at-reads
 
--- src/lib.rt:27:9
 byte-at-requires : tie.Need-byte-at-requires
 byte-at-requires c κs = search needs
 
--- src/lib.rt:28:22
 enum-known-a : tie.Need-enum-known-a
 enum-known-a c = search needs
 
--- src/lib.rt:29:31
 enum-told : tie.Need-enum-told
 enum-told c = search needs
 
--- src/lib.rt:29:9
 returns : tie.Need-returns
 returns c = let s = now (c .before .before .before .before .args .s) in
     no-version s (told (meant s) (c .enum-told .given .1) (c .before .before .byte-at .ensures .reads))
 
--- src/lib.rt:34:9
 quad-at-requires : tie.Need-quad-at-requires
 quad-at-requires c κs = search needs
 
--- src/lib.rt:35:22
 enum-known-b : tie.Need-enum-known-b
 enum-known-b c = search needs
 
--- src/lib.rt:36:31
 enum-told-2 : tie.Need-enum-told-2
 enum-told-2 c = search needs
 
--- src/lib.rt:36:9
 returns-2 : tie.Need-returns-2
 returns-2 c = let s = now (c .before .before .before .before .before .before .before .before .args .s) in
     no-length s (told (meant s) (c .before .before .before .before .a .given .1) (c .before .before .before .before .before .before .byte-at .ensures .reads)) (told (meant s) (c .enum-told2 .given .1) (c .before .before .quad-at .ensures .reads))
 
--- src/lib.rt:41:8
 add-if1 : tie.Need-add-if1
 add-if1 c = omega (arith, c .before .before .before .quad-at .ensures .small _ _ (c .before .b .given .1))
 
--- src/lib.rt:42:9
 returns-3 : tie.Need-returns-3
 returns-3 c = let s = now (c .before .before .before .before .before .before .before .before .before .before .args .s) in
     wrong-length s (told (meant s) (c .before .before .before .before .before .before .a .given .1) (c .before .before .before .before .before .before .before .before .byte-at .ensures .reads)) (told (meant s) (c .before .before .b .given .1) (c .before .before .before .before .quad-at .ensures .reads)) (c .if1 .taken)
 
--- src/lib.rt:48:9
 returns-4 : tie.Need-returns-4
 returns-4 c = let s = now (c .before .before .before .before .before .before .before .before .before .before .before .args .s) in
     wrong-version s (told (meant s) (c .before .before .before .before .before .before .before .a .given .1) (c .before .before .before .before .before .before .before .before .before .byte-at .ensures .reads)) (told (meant s) (c .before .before .before .b .given .1) (c .before .before .before .before .before .quad-at .ensures .reads)) (c .before .if1 .left) (c .if2 .taken)
 
--- src/lib.rt:24:1
 returns-5 : tie.Need-returns-5
 returns-5 c = let s = now (c .before .before .before .before .before .before .before .before .before .before .before .args .s) in
     good-frame s (told (meant s) (c .before .before .before .before .before .before .before .a .given .1) (c .before .before .before .before .before .before .before .before .before .byte-at .ensures .reads)) (told (meant s) (c .before .before .before .b .given .1) (c .before .before .before .before .before .quad-at .ensures .reads)) (c .before .if1 .left) (c .if2 .left)

@@ -1,18 +1,15 @@
 use borrow.Author.Needs.{needs}
 use native.Mathlib.Omega.{arith}
 use Prim.Native.Nat.{_-_}
-use mathlib.Core.Path.{_≡_, sym, _∙_}
+use mathlib.Core.Path.{_∙_}
 use denote.Ref.{now}
 use lib.ListN.{drop}
 use Rattle.fields.specs.Meaning.{meant}
 use Rattle.fields.proofs.Answers.{told}
-use Rattle.reader.proofs.RecordParts.{few-tests}
+use Rattle.fields.proofs.Parts.{pass-at-most}
 use Rattle.reader.proofs.Passing.{TestsCounted, counted-first, counted-done, counted-refused, counted-again}
 use Rattle.reader.proofs.judge_records.Statement.{statement}
 use Rattle.reader.proofs.judge_records.Tie as tie
-use Rattle.reader.proofs.judge_records.Reads as reads
-use Rattle.reader.proofs.judge_records.Lts as lts
-use Rattle.fields.proofs.pass_record.Reads as pass-record-reads
 
 abbrev Inv-loop : tie.InvT-loop
 Inv-loop s at n locations timers here₀ tests₀ i₀ here tests i = TestsCounted locations timers n i tests (drop at s) (drop here s)
@@ -20,52 +17,41 @@ Inv-loop s at n locations timers here₀ tests₀ i₀ here tests i = TestsCount
 abbrev μ-loop : tie.MeasureT-loop
 μ-loop s at n locations timers here₀ tests₀ i₀ here tests i = n - i
 
--- src/lib.rt:226:5
 loop-holds : tie.Need-loop-holds Inv-loop μ-loop
 loop-holds c = let a = c .before .args in counted-first (a .locations) (a .timers) (a .n) (drop (a .at) (now (a .s)))
 
--- src/lib.rt:227:65
 cast-pass-record : tie.Need-cast-pass-record Inv-loop μ-loop
 cast-pass-record c = search needs
 
--- src/lib.rt:227:13
 pass-record-requires : tie.Need-pass-record-requires Inv-loop μ-loop
 pass-record-requires c κs = search needs
 
--- src/lib.rt:228:26
 enum-known-a : tie.Need-enum-known-a Inv-loop μ-loop
 enum-known-a c = search needs
 
--- src/lib.rt:229:13
 enum-told : tie.Need-enum-told Inv-loop μ-loop
 enum-told c = search needs
 
--- src/lib.rt:229:13
 returns : tie.Need-returns Inv-loop μ-loop
 returns c = let a = c .before .before .before .before .before .before .args in
     let k = c .before .before .pass-record .ensures in
     let h = told (meant (now (a .s))) (c .enum-told .given .1) k in
     k ∙ h ∙ counted-refused (c .before .before .before .before .loop .inv) (c .before .before .before .loop-test .taken) h
 
--- src/lib.rt:231:9
 add-tests : tie.Need-add-tests Inv-loop μ-loop
 add-tests c = let a = c .before .before .before .before .before .before .before .args in
-    let h = few-tests _ _ _ _ _ (told (meant (now (a .s))) (c .before .a .given .1) (c .before .before .before .pass-record .ensures)) in
+    let h = pass-at-most _ _ _ _ _ (told (meant (now (a .s))) (c .before .a .given .1) (c .before .before .before .pass-record .ensures)) in
     omega (arith, c .before .before .before .before .before .loop .inv .few)
 
--- src/lib.rt:233:9
 add-i : tie.Need-add-i Inv-loop μ-loop
 add-i c = search needs
 
--- src/lib.rt:226:5
 loop-less : tie.Need-loop-less Inv-loop μ-loop
 loop-less c = search needs
 
--- src/lib.rt:226:5
 loop-again : tie.Need-loop-again Inv-loop μ-loop
 loop-again c = counted-again (c .before .before .before .before .before .loop .inv) (c .before .before .before .before .loop-test .taken) (told (meant (now (c .before .before .before .before .before .before .before .args .s))) (c .before .a .given .1) (c .before .before .before .pass-record .ensures))
 
--- src/lib.rt:219:1
 returns-2 : tie.Need-returns-2 Inv-loop μ-loop
 returns-2 c = counted-done (c .before .loop .inv) (c .loop-test .left)
 

@@ -3,22 +3,16 @@ use Rattle.reader.specs.Meaning.{judgedRefusal}
 use borrow.Author.Needs.{needs}
 use Rattle.reader.proofs.judged_refusal.Statement.{statement}
 use Rattle.reader.proofs.judged_refusal.Tie as tie
-use Rattle.reader.proofs.judged_refusal.Reads as reads
-use Rattle.reader.proofs.judged_refusal.Lts as lts
 
--- src/lib.rt:234:25
 enum-known-a : tie.Need-enum-known-a
 enum-known-a c = search needs
 
--- src/lib.rt:240:14
 enum-told : tie.Need-enum-told
 enum-told c = search needs
 
--- src/lib.rt:230:1
 returns : tie.Need-returns
 returns c = search needs
 
--- src/lib.rt:230:1
 returns-2 : tie.Need-returns-2
 returns-2 c = sym (ap judgedRefusal (c .enum-told .given .1))
 

@@ -2,7 +2,7 @@ use borrow.Author.Needs.{needs}
 use native.Mathlib.Omega.{arith}
 use Rattle.reader.proofs.Passing.{entry-limit}
 use Prim.Native.Nat.{_-_}
-use mathlib.Core.Path.{_≡_, sym, _∙_}
+use mathlib.Core.Path.{_∙_}
 use denote.Ref.{now}
 use lib.ListN.{drop}
 use Rattle.fields.specs.Meaning.{meant}
@@ -10,9 +10,6 @@ use Rattle.fields.proofs.Answers.{told}
 use Rattle.reader.proofs.Passing.{AcceptingRead, accepting-first, accepting-done, accepting-refused, accepting-again}
 use Rattle.reader.proofs.pass_accepting.Statement.{statement}
 use Rattle.reader.proofs.pass_accepting.Tie as tie
-use Rattle.reader.proofs.pass_accepting.Reads as reads
-use Rattle.reader.proofs.pass_accepting.Lts as lts
-use Rattle.reader.proofs.entry_at.Reads as entry-at-reads
 
 abbrev Inv-loop : tie.InvT-loop
 Inv-loop s at n locations here₀ lowest₀ k₀ here lowest k = AcceptingRead locations n k lowest (drop at s) (drop here s)
@@ -20,45 +17,35 @@ Inv-loop s at n locations here₀ lowest₀ k₀ here lowest k = AcceptingRead l
 abbrev μ-loop : tie.MeasureT-loop
 μ-loop s at n locations here₀ lowest₀ k₀ here lowest k = n - k
 
--- src/lib.rt:144:5
 loop-holds : tie.Need-loop-holds Inv-loop μ-loop
 loop-holds c = let a = c .before .args in accepting-first (a .locations) (a .n) (drop (a .at) (now (a .s)))
 
--- src/lib.rt:145:13
 entry-at-requires : tie.Need-entry-at-requires Inv-loop μ-loop
 entry-at-requires c κs = search needs
 
--- src/lib.rt:146:26
 enum-known-a : tie.Need-enum-known-a Inv-loop μ-loop
 enum-known-a c = search needs
 
--- src/lib.rt:147:13
 enum-told : tie.Need-enum-told Inv-loop μ-loop
 enum-told c = search needs
 
--- src/lib.rt:147:13
 returns : tie.Need-returns Inv-loop μ-loop
 returns c = let k = c .before .before .entry-at .ensures in
     let h = told (meant (now (c .before .before .before .before .before .before .args .s))) (c .enum-told .given .1) k in
     k ∙ h ∙ accepting-refused (c .before .before .before .before .loop .inv) (c .before .before .before .loop-test .taken) h
 
--- src/lib.rt:149:18
 add-lowest : tie.Need-add-lowest Inv-loop μ-loop
 add-lowest c = omega (arith, entry-limit _ _ _ _ _ _ (told (meant (now (c .before .before .before .before .before .before .before .args .s))) (c .before .a .given .1) (c .before .before .before .entry-at .ensures)))
 
--- src/lib.rt:151:9
 add-k : tie.Need-add-k Inv-loop μ-loop
 add-k c = search needs
 
--- src/lib.rt:144:5
 loop-less : tie.Need-loop-less Inv-loop μ-loop
 loop-less c = search needs
 
--- src/lib.rt:144:5
 loop-again : tie.Need-loop-again Inv-loop μ-loop
 loop-again c = accepting-again (c .before .before .before .before .before .loop .inv) (c .before .before .before .before .loop-test .taken) (told (meant (now (c .before .before .before .before .before .before .before .args .s))) (c .before .a .given .1) (c .before .before .before .entry-at .ensures))
 
--- src/lib.rt:138:1
 returns-2 : tie.Need-returns-2 Inv-loop μ-loop
 returns-2 c = accepting-done (c .before .loop .inv) (c .loop-test .left)
 

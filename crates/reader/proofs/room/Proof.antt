@@ -3,50 +3,39 @@ use Rattle.reader.specs.Parts.{enough}
 use Rattle.reader.proofs.Lengths.{first-short, first-long}
 use Rattle.reader.proofs.room.Statement.{statement}
 use Rattle.reader.proofs.room.Tie as tie
-use Rattle.reader.proofs.room.Reads as reads
-use Rattle.reader.proofs.room.Lts as lts
 
--- src/lib.rt:253:9
 returns : tie.Need-returns
 unfolding enough
 returns c = first-short _ (c .if1 .taken)
 
--- src/lib.rt:256:9
 returns-2 : tie.Need-returns-2
 unfolding enough
 returns-2 c = first-long (c .before .if1 .left) (first-short _ (c .if2 .taken))
 
--- src/lib.rt:259:9
 returns-3 : tie.Need-returns-3
 unfolding enough
 returns-3 c = first-long (c .before .before .if1 .left) (first-long (c .before .if2 .left) (first-short _ (c .if3 .taken)))
 
--- src/lib.rt:262:9
 returns-4 : tie.Need-returns-4
 unfolding enough
 returns-4 c = first-long (c .before .before .before .if1 .left) (first-long (c .before .before .if2 .left) (first-long (c .before .if3 .left) (first-short _ (c .if4 .taken))))
 
--- src/lib.rt:265:9
 returns-5 : tie.Need-returns-5
 unfolding enough
 returns-5 c = first-long (c .before .before .before .before .if1 .left) (first-long (c .before .before .before .if2 .left) (first-long (c .before .before .if3 .left) (first-long (c .before .if4 .left) (first-short _ (c .if5 .taken)))))
 
--- src/lib.rt:268:9
 returns-6 : tie.Need-returns-6
 unfolding enough
 returns-6 c = first-long (c .before .before .before .before .before .if1 .left) (first-long (c .before .before .before .before .if2 .left) (first-long (c .before .before .before .if3 .left) (first-long (c .before .before .if4 .left) (first-long (c .before .if5 .left) (first-short _ (c .if6 .taken))))))
 
--- src/lib.rt:271:9
 returns-7 : tie.Need-returns-7
 unfolding enough
 returns-7 c = first-long (c .before .before .before .before .before .before .if1 .left) (first-long (c .before .before .before .before .before .if2 .left) (first-long (c .before .before .before .before .if3 .left) (first-long (c .before .before .before .if4 .left) (first-long (c .before .before .if5 .left) (first-long (c .before .if6 .left) (first-short _ (c .if7 .taken)))))))
 
--- src/lib.rt:274:9
 returns-8 : tie.Need-returns-8
 unfolding enough
 returns-8 c = first-long (c .before .before .before .before .before .before .before .if1 .left) (first-long (c .before .before .before .before .before .before .if2 .left) (first-long (c .before .before .before .before .before .if3 .left) (first-long (c .before .before .before .before .if4 .left) (first-long (c .before .before .before .if5 .left) (first-long (c .before .before .if6 .left) (first-long (c .before .if7 .left) (first-short _ (c .if8 .taken))))))))
 
--- src/lib.rt:249:1
 returns-9 : tie.Need-returns-9
 unfolding enough
 returns-9 c = first-long (c .before .before .before .before .before .before .before .if1 .left) (first-long (c .before .before .before .before .before .before .if2 .left) (first-long (c .before .before .before .before .before .if3 .left) (first-long (c .before .before .before .before .if4 .left) (first-long (c .before .before .before .if5 .left) (first-long (c .before .before .if6 .left) (first-long (c .before .if7 .left) (first-long (c .if8 .left) refl)))))))

@@ -1,0 +1,36 @@
+-- The reader refuses with 1 to 8, at the places that these have, and with 21 at no place; with nothing else. Assumes nothing.
+use mathlib.Core.Path.{_≡_, refl, sym, _∙_}
+use mathlib.Core.Logic.{_⊎_, inl, inr}
+use mathlib.Core.Bool.{Bool, true, false}
+use mathlib.Core.List.{List}
+use Prim.Native.Nat.{ℕ}
+use Rattle.model.specs.Answer.{Answer, result, refused, then, unless, nowhere}
+use Rattle.model.specs.Chart.{Chart}
+use Rattle.chart_lists.specs.Numbers.{numbersOf}
+use Rattle.chart_lists.specs.Lists.{Lists, listsOf, roomFor}
+use Rattle.file_format.specs.File.{chartIn}
+use Rattle.file_format.proofs.Answers.{result-refused}
+use Rattle.file_format.proofs.Refusals.{refusals-of-chartIn}
+use Rattle.reader.specs.Reading.{readInto, readAnswer}
+use Rattle.reader.specs.Refusals.{RefusalOfReading}
+
+module _ (l : Lists) (bs : List ℕ) (n p : ℕ) where
+  room-refused : (c : Chart) (b : Bool) → unless b 21 nowhere (result c) ≡ refused n p → RefusalOfReading n p
+  room-refused c true e = absurd (result-refused refl e)
+  room-refused c false e = inr (cc, cc)
+
+  into-refused : readInto l bs ≡ refused n p → RefusalOfReading n p
+  unfolding readInto
+  into-refused e = go (chartIn bs) refl e
+    where
+      go : (x : Answer Chart) → chartIn bs ≡ x → then x (λ c. unless (roomFor (listsOf c) l) 21 nowhere (result c)) ≡ refused n p → RefusalOfReading n p
+      go (result c) k e = room-refused c (roomFor (listsOf c) l) e
+      go (refused m q) k e = inl (refusals-of-chartIn bs n p (k ∙ e))
+
+  pub refusals-of-reading : readAnswer l bs ≡ refused n p → RefusalOfReading n p
+  unfolding readAnswer
+  refusals-of-reading e = go (readInto l bs) refl e
+    where
+      go : (x : Answer Chart) → readInto l bs ≡ x → then x (λ c. result (numbersOf c)) ≡ refused n p → RefusalOfReading n p
+      go (result c) k e = absurd (result-refused refl e)
+      go (refused m q) k e = let a : m ≡ n = cc in let b : q ≡ p = cc in into-refused (rw (← a, ← b) k)
