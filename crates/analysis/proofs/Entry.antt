@@ -34,17 +34,25 @@ lent-lists e l = rw e l
 pub few-cells : {s t w u : List ℕ} {timers n : ℕ} → OfChart s t w u timers n → 64 * n ≤ 16384
 few-cells o = omega (arith, o .lists .locations-are, o .lists .valid .few-locations)
 
+module _ (c : Chart) (room : ℕ) where
+  pub short : room < c .locations → analysedChart room c ≡ refused 21 nowhere
+  unfolding analysedChart
+  short h = rw (lt-leb (c .locations) room h)
+
+  pub long-enough : c .locations ≤ room → analysedChart room c ≡ result c
+  unfolding analysedChart
+  long-enough h = rw (le-leb (c .locations) room h)
+
 module _ (c : Chart) (before : List ℕ) {n : ℕ} (e : n ≡ c .locations) where
   module _ (h : length before < n) where
-    short : analysedChart (length before) c ≡ refused 21 nowhere
-    unfolding analysedChart
-    short = rw (lt-leb (c .locations) (length before) (omega (arith, e)))
+    is-short : analysedChart (length before) c ≡ refused 21 nowhere
+    is-short = short c (length before) (omega (arith, e))
 
     pub short-answer : refused 21 nowhere ≡ figuresIn (analysedChart (length before) c)
-    short-answer = rw short
+    short-answer = rw is-short
 
     pub short-list : before ≡ listAfter (analysedChart (length before) c) before
-    short-list = rw short
+    short-list = rw is-short
 
   module _ {live : List ℕ} (l : live ≡ liveSets c) where
     made-length : length live ≡ n
@@ -58,20 +66,17 @@ module _ (c : Chart) (before : List ℕ) {n : ℕ} (e : n ≡ c .locations) wher
     seen-length rest = ap length (seen rest) ∙ made-length
 
     module _ (h : n ≤ length before) where
-      roomy : analysedChart (length before) c ≡ result c
-      unfolding analysedChart
-      roomy = rw (le-leb (c .locations) (length before) (omega (arith, e)))
+      is-long : analysedChart (length before) c ≡ result c
+      is-long = long-enough c (length before) (omega (arith, e))
 
       pub found-answer : {u f : ℕ} (rest : List ℕ) → u ≡ used c → f ≡ fullest (take n (live ++ rest))
           → result (record { used = u; floor = f }) ≡ figuresIn (analysedChart (length before) c)
       unfolding figuresOf floor
-      found-answer rest x y =
-          let z = y ∙ ap fullest (seen rest ∙ l) in
-          rw (roomy, x, z)
+      found-answer rest x y = let z = y ∙ ap fullest (seen rest ∙ l) in rw (is-long, x, z)
 
       pub found-list : live ++ drop n before ≡ listAfter (analysedChart (length before) c) before
       unfolding put
-      found-list = rw (roomy, l, e ∙ sym (length-live c))
+      found-list = rw (is-long, l, e ∙ sym (length-live c))
 
 -- ---- a file
 
