@@ -1,65 +1,112 @@
--- What the figures of the analysis mean: the words are the live sets by paths; floor is the count of the fullest one; it is at most used, since
--- the timers of a live set have different numbers below used; and used is 0 exactly where no timer is live anywhere. Assumes nothing.
-use mathlib.Core.Path.{_≡_, refl, sym, ap, _∙_, subst}
+-- What the figures of the analysis mean: each word is the live set of its location by paths; floor is the count of the fullest live set, and at
+-- most used, since the timers of one live set have different numbers; used is 0 exactly where no timer is live. Assumes nothing.
+use mathlib.Core.Path.{_≡_, refl, sym, ap, _∙_}
 use mathlib.Core.Logic.{_⊎_, inl, inr, _↔_}
 use mathlib.Core.Bool.{true}
 use mathlib.Core.Option.{Option, some, none}
-use mathlib.Core.List.{List, [], _∷_, map}
-use Prim.Native.Nat.{ℕ, zero, suc, max, _^_, _≤_, _<_}
+use mathlib.Core.List.{List, [], _∷_}
+use Prim.Native.Nat.{ℕ, zero, suc, _^_, _≤_, _<_}
 use native.Mathlib.Omega.{arith}
-use lib.Count.{ones, ones-le}
+use lib.Count.{ones}
 use lib.ListN.{length, getD}
 use Rattle.lists.specs.Lists.{memb}
-use Rattle.lists.specs.Rising.{Rising}
-use Rattle.lists.proofs.Bools.{not-both, lt-or-le}
-use Rattle.lists.proofs.Membership.{memb-head, memb-tail, memb-cases, memb-nth, nth-memb, nth-map, nth-unmap}
-use Rattle.lists.proofs.Gather.{rising-below}
-use Rattle.timer_set.specs.Members.{member, members, setOf}
-use Rattle.timer_set.proofs.Members.{member-setOf, setOf-lt, memb-members, members-rising}
-use Rattle.timer_set.proofs.Counts.{ones-members, ones-grow}
+use Rattle.lists.proofs.Bools.{lt-or-le}
+use Rattle.timer_set.specs.Members.{member, members}
+use Rattle.timer_set.proofs.Members.{memb-members, members-rising}
+use Rattle.timer_set.proofs.Counts.{ones-members}
 use Rattle.model.specs.Chart.{Chart}
 use Rattle.model.specs.Valid.{Valid}
 use Rattle.model.specs.Path.{Live}
 use Rattle.model.specs.Live.{live, liveFlow, liveSets}
 use Rattle.model.specs.Family.{livePairs}
-use Rattle.model.specs.FirstFit.{numberAt, firstFit, fullest, floor, board, used}
+use Rattle.model.specs.FirstFit.{numberAt, firstFit, usedBy, fullest, floor, board, used}
 use Rattle.model.proofs.Settled.{settled-words}
 use Rattle.model.proofs.FirstFit.{used-reached}
 use Rattle.model.proofs.PairNumbers.{placed-family, apart, below}
 use Rattle.model.proofs.BoardPlan.{pair-live, live-pairs-formed, live-number}
 use Rattle.model.proofs.LivePaths.{live-shaped, live-iff}
+use Rattle.analysis.proofs.DifferentNumbers.{few-numbers}
+use Rattle.analysis.proofs.Entry.{length-live}
 
--- ---- a rising list whose entries have different numbers below n is no longer than n
+-- ---- the fullest of sets
 
-module _ (g : ℕ → ℕ) where
-  memb-map : (l : List ℕ) (k : ℕ) → memb k (map g l) ≡ true → (j : ℕ) × (memb j l ≡ true) × (g j ≡ k)
-  memb-map l k m =
-      let n = memb-nth (map g l) k m in
-      let x = nth-unmap g l (n .0) (n .1) in
-      (x .0, nth-memb l (n .0) (x .1), x .2)
+pub fullest-most : (l : List ℕ) (q : ℕ) → ones (getD l q 0) ≤ fullest l
+unfolding fullest ones
+fullest-most [] q = omega arith
+fullest-most (w ∷ l) zero = omega arith
+fullest-most (w ∷ l) (suc q) = omega (arith, fullest-most l q)
 
-  module _ (n : ℕ) where
-    -- the set of their numbers has as many
-    enough : (limit lo : ℕ) (l : List ℕ) → Rising limit lo l → ((j : ℕ) → memb j l ≡ true → g j < n)
-        → ((i j : ℕ) → memb i l ≡ true → memb j l ≡ true → g i ≡ g j → i ≡ j) → length l ≤ ones (setOf (map g l))
-    enough limit lo [] r b a = omega arith
-    enough limit lo (x ∷ l) r b a =
-        go (ones-grow n (setOf (map g l)) (setOf (map g (x ∷ l))) (small l (λ j m. b j (memb-tail j x l m))) (small (x ∷ l) b) (λ j h m. within j m))
-        (enough limit (suc x) l (r .1) (λ j m. b j (memb-tail j x l m)) (λ i j p q. a i j (memb-tail i x l p) (memb-tail j x l q)))
-      where
-        small : (l : List ℕ) → ((j : ℕ) → memb j l ≡ true → g j < n) → setOf (map g l) < 2 ^ n
-        small l b = setOf-lt n (map g l) (λ k m. let y = memb-map l k m in subst (λ (k : ℕ). k < n) (y .2) (b (y .0) (y .1)))
+pub fullest-least : (n : ℕ) (l : List ℕ) → ((q : ℕ) → q < length l → ones (getD l q 0) ≤ n) → fullest l ≤ n
+unfolding fullest
+fullest-least n [] h = omega arith
+fullest-least n (w ∷ l) h = omega (arith, h 0 (omega arith), fullest-least n l (λ q b. h (suc q) (omega arith)))
 
-        within : (j : ℕ) → member (setOf (map g l)) j ≡ true → member (setOf (map g (x ∷ l))) j ≡ true
-        within j m = member-setOf (map g (x ∷ l)) j ∙ memb-tail j (g x) (map g l) (sym (member-setOf (map g l) j) ∙ m)
+pub fullest-reached : (l : List ℕ) → 1 ≤ length l → (q : ℕ) × (q < length l) × (ones (getD l q 0) ≡ fullest l)
+unfolding fullest
+fullest-reached [] h = absurd (omega arith)
+fullest-reached (w ∷ []) h = (0, omega arith, omega arith)
+fullest-reached (w ∷ v ∷ l) h = go (fullest-reached (v ∷ l) (omega arith)) (lt-or-le (ones w) (fullest (v ∷ l)))
+  where
+    go : (q : ℕ) × (q < length (v ∷ l)) × (ones (getD (v ∷ l) q 0) ≡ fullest (v ∷ l)) → (ones w < fullest (v ∷ l)) ⊎ (fullest (v ∷ l) ≤ ones w)
+        → (q : ℕ) × (q < length (w ∷ v ∷ l)) × (ones (getD (w ∷ v ∷ l) q 0) ≡ fullest (w ∷ v ∷ l))
+    go x (inl k) = (suc (x .0), omega (arith, x .1), omega (arith, x .2))
+    go x (inr k) = (0, omega arith, omega arith)
 
-        -- the first one's number is not among the others'
-        new : memb (g x) (map g l) ≡ true → ⊥
-        new m =
-            let y = memb-map l (g x) m in
-            omega (arith, a x (y .0) (memb-head x x l refl) (memb-tail (y .0) x l (y .1)) (sym (y .2)), rising-below limit (suc x) l (r .1) (y .0) (y .1) .0)
+-- ---- of a chart
 
-        go : (setOf (map g l) ≡ setOf (map g (x ∷ l))) ⊎ (ones (setOf (map g l)) < ones (setOf (map g (x ∷ l)))) → length l ≤ ones (setOf (map g l))
-            → suc (length l) ≤ ones (setOf (map g (x ∷ l)))
-        go (inl e) h = absurd (new (sym (member-setOf (map g l) (g x)) ∙ ap (λ (w : ℕ). member w (g x)) e ∙ member-setOf (map g (x ∷ l)) (g x) ∙ memb-head (g x) (g x) (map g l) refl))
-        go (inr h) k = omega arith
+abbrev numberOr0 : Option ℕ → ℕ
+numberOr0 (some k) = k
+numberOr0 none = 0
+
+module _ {W : ℕ} {c : Chart} (valid : Valid W c) where
+  -- the word of location q has the timers that are live at q
+  pub word-live : (q j : ℕ) → (member (getD (liveSets c) q 0) j ≡ true) ↔ Live c q j
+  unfolding live
+  word-live q j = live-iff valid q j
+
+  words : (q : ℕ) → getD (liveSets c) q 0 < 2 ^ 64
+  unfolding liveSets
+  words = settled-words (liveFlow c) (live-shaped valid)
+
+  -- no live set has more timers than are used: they have different numbers
+  module _ (q : ℕ) where
+    abbrev word : ℕ
+    word = getD (liveSets c) q 0
+
+    abbrev number : ℕ → ℕ
+    number j = numberOr0 (numberAt (board c) q j)
+
+    numbered : (j : ℕ) → memb j (members word) ≡ true → numberAt (board c) q j ≡ some (number j)
+    numbered j m = let n = live-number valid q j (word-live q j .0 (sym (memb-members word j (words q)) ∙ m)) in rw (n .1)
+
+    pub live-few : ones word ≤ used c
+    unfolding used board
+    live-few = rw (ones-members word (words q)) (few-numbers number (used c) 64 0 (members word) (members-rising word)
+        (λ j m. below (livePairs c) q j (number j) (numbered j m))
+        (λ i j m n e. apart (livePairs c) q i (number i) j (numbered i m) (numbered j n ∙ ap some (sym e))))
+
+  pub floor-used : floor c ≤ used c
+  unfolding floor
+  floor-used = fullest-least (used c) (liveSets c) (λ q h. live-few q)
+
+  -- floor is the count of the fullest live set of any location
+  pub floor-most : (q : ℕ) → ones (getD (liveSets c) q 0) ≤ floor c
+  unfolding floor
+  floor-most q = fullest-most (liveSets c) q
+
+  pub floor-reached : (q : ℕ) × (q < c .locations) × (ones (getD (liveSets c) q 0) ≡ floor c)
+  unfolding floor
+  floor-reached =
+      let x = fullest-reached (liveSets c) (omega (arith, length-live c, valid .some-location)) in
+      (x .0, omega (arith, x .1, length-live c), x .2)
+
+  pub used-none : (used c ≡ 0) ↔ ((q j : ℕ) → Live c q j → ⊥)
+  unfolding used board
+  used-none = (λ e q j l. let n = live-number valid q j l in omega (arith, below (livePairs c) q j (n .0) (n .1), e), λ f. none-used f (used c) refl)
+    where
+      none-used : ((q j : ℕ) → Live c q j → ⊥) → (n : ℕ) → used c ≡ n → used c ≡ 0
+      none-used f zero e = e
+      none-used f (suc k) e =
+          let x = used-reached (firstFit (livePairs c)) k e in
+          let a = placed-family (live-pairs-formed valid) (x .0) (x .1) (x .2) in
+          absurd (f _ _ (pair-live valid _ _ .0 (a .pair)))
