@@ -19,7 +19,7 @@ use Rattle.model.specs.Valid.{Valid}
 use Rattle.model.specs.Path.{Live}
 use Rattle.model.specs.Live.{live, liveFlow, liveSets}
 use Rattle.model.specs.Family.{livePairs}
-use Rattle.model.specs.FirstFit.{numberAt, firstFit, usedBy, fullest, floor, board, used}
+use Rattle.model.specs.FirstFit.{numberAt, firstFit, fullest, floor, board, used}
 use Rattle.model.proofs.Settled.{settled-words}
 use Rattle.model.proofs.FirstFit.{used-reached}
 use Rattle.model.proofs.PairNumbers.{placed-family, apart, below}

@@ -16,7 +16,7 @@ use Rattle.judgement.specs.Judging.{judgedIn}
 use Rattle.judgement.specs.Refusals.{RefusalOfJudgement}
 use Rattle.judgement.specs.Refusals.RefusalOfJudgement.{of-file, of-unreached, of-unstarted}
 use Rattle.judgement.proofs.Corollaries.{HoldsChart, Accepts, judged-9, judged-10, judged-1-to-8, judged-result, refusals-of-judgedIn}
-use Rattle.analysis.specs.Analysing.{Figures, figuresOf, figuresIn, analysedChart, analysedIn, analyseAnswer}
+use Rattle.analysis.specs.Analysing.{Figures, figuresOf, analysedIn, analyseAnswer}
 use Rattle.analysis.specs.Refusals.{RefusalOfAnalysis}
 use Rattle.analysis.specs.Refusals.RefusalOfAnalysis.{of-judgement, of-short-list}
 use Rattle.analysis.proofs.Entry.{short, long-enough}

@@ -1,5 +1,5 @@
 -- `analyse`: a refusal of the judgement stands; a chart that it hands on is analysed. Assumes nothing.
-use mathlib.Core.Path.{_≡_, sym, ap, _∙_}
+use mathlib.Core.Path.{sym, ap, _∙_}
 use mathlib.Core.List.{List}
 use Prim.Native.Nat.{ℕ}
 use Rattle.chart_lists.specs.declared.Numbers.{Numbers}

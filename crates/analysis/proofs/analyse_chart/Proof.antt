@@ -1,9 +1,6 @@
 -- `analyse_chart`: 21 where the list is short; else its front becomes the live sets, of which the fullest is the floor. Assumes nothing.
-use mathlib.Core.Path.{_≡_, sym, ap, _∙_}
-use mathlib.Core.List.{List}
-use Prim.Native.Nat.{ℕ, _*_, _≤_}
-use native.Mathlib.Omega.{arith}
-use lib.ListN.{length, drop}
+use mathlib.Core.Path.{sym, ap, _∙_}
+use Prim.Native.Nat.{ℕ, _*_}
 use lib.Seq.{length-take-le}
 use Rattle.judgement.proofs.OwnSets.{length-empty}
 use Rattle.analysis.proofs.Entry.{lent-lists, few-cells, short-answer, short-list, seen-length, found-answer, found-list}

@@ -1,7 +1,7 @@
 -- `fullest`: the larger of the most so far and the fullest of the sets to come is the fullest of all. Assumes nothing.
 use mathlib.Core.Path.{_≡_, refl, sym, ap, _∙_}
-use mathlib.Core.List.{List, []}
-use Prim.Native.Nat.{ℕ, suc, max, _+_, _-_, _≤_, _<_}
+use mathlib.Core.List.{List}
+use Prim.Native.Nat.{ℕ, max, _+_, _-_, _≤_, _<_}
 use native.Mathlib.Omega.{arith}
 use native.Mathlib.Numerals.{add-one}
 use lib.Count.{ones}
@@ -45,18 +45,19 @@ add-q c = search needs
 loop-less : tie.Need-loop-less Inv-loop μ-loop
 loop-less c = search needs
 
+-- the set that was counted is the next one
+counted : (c : tie.After-count Inv-loop μ-loop) → let l = c .before .before .before .loop in let sets = c .before .before .before .before .before .args .sets .now in
+    fullest (drop (l .q) sets) ≡ max (c .count .result) (fullest (drop (l .q + 1) sets))
+counted c = rw (c .count .ensures) (next (c .before .before .before .before .before .args .sets .now) (c .before .before .before .loop .q) (omega arith))
+
 loop-again : tie.Need-loop-again Inv-loop μ-loop
-loop-again c =
-    let l = c .before .before .before .before .loop in
-    (omega arith, refl, omega (arith, l .inv .2, next (c .before .before .before .before .before .before .args .sets .now) (l .q) (omega arith), c .before .count .ensures))
+loop-again c = let l = c .before .before .before .before .loop in (omega arith, refl, omega (arith, l .inv .2, counted (c .before)))
 
 loop-less-2 : tie.Need-loop-less-2 Inv-loop μ-loop
 loop-less-2 c = search needs
 
 loop-again-2 : tie.Need-loop-again-2 Inv-loop μ-loop
-loop-again-2 c =
-    let l = c .before .before .before .before .loop in
-    (omega arith, refl, omega (arith, l .inv .2, next (c .before .before .before .before .before .before .args .sets .now) (l .q) (omega arith), c .before .count .ensures))
+loop-again-2 c = let l = c .before .before .before .before .loop in (omega arith, refl, omega (arith, l .inv .2, counted (c .before)))
 
 returns : tie.Need-returns Inv-loop μ-loop
 returns c = let l = c .before .loop in omega (arith, l .inv .2, none (c .before .before .before .args .sets .now) {q = l .q} (omega arith))
