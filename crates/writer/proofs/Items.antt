@@ -5,13 +5,12 @@ use mathlib.Core.Option.{some, Option·some-injective, Option·none-ne-some}
 use mathlib.Core.List.{List, [], _∷_}
 use Prim.Native.Nat.{ℕ, zero, suc, _+_, _-_, _≤_, _<_}
 use native.Mathlib.Nat.{add-assoc, add-zero, zero-add, sub-zero}
-use native.Mathlib.Numerals.{add-one}
 use native.Mathlib.Omega.{arith}
 use lib.ListN.{length, getElem?}
 use Rattle.lists.specs.Rising.{All}
 use Rattle.model.specs.Answer.{Answer, result, refused, then}
 use Rattle.file_format.specs.Lengths.{total}
-use Rattle.file_format.proofs.File.{then-result}
+use Rattle.file_format.proofs.Answers.{then-result}
 use Rattle.writer.proofs.Answers.{then-then, then-same}
 use Rattle.writer.proofs.Entries.{nth-bound}
 
