@@ -2,7 +2,6 @@
 use mathlib.Core.Path.{_≡_, refl, sym, ap, _∙_}
 use mathlib.Core.Bool.{Bool, true, false}
 use Prim.Native.Nat.{ℕ}
-use native.Mathlib.Omega.{arith}
 use Rattle.model.specs.Answer.{Answer, result, refused, then, unless}
 use Rattle.chart_lists.specs.declared.Refusal.{Refusal}
 use Rattle.chart_lists.specs.Numbers.{refusedAs}

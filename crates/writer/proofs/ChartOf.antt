@@ -1,19 +1,16 @@
 -- What it takes for a chart to be handed over: its numbers, and its accepting locations and transitions in the lists. Assumes nothing.
-use mathlib.Core.Path.{_≡_, refl, sym, ap, _∙_, subst}
-use mathlib.Core.Bool.{Bool, true}
-use mathlib.Core.List.{List, [], _∷_}
-use Prim.Native.Nat.{ℕ, suc, _+_, _≤_, _<_}
-use native.Mathlib.Omega.{arith}
+use mathlib.Core.Path.{_≡_, refl, sym, _∙_, subst}
+use Prim.Native.Nat.{suc, _+_, _≤_, _<_}
 use lib.Dec.{leb, ltb}
-use lib.ListN.{length, getElem?}
+use lib.ListN.{length}
 use borrow.Author.Tests.{lt-ltb, ltb-true, le-leb, leb-true}
-use Rattle.model.specs.Answer.{Answer, result, then, unless, nowhere}
-use Rattle.model.specs.Chart.{Transition, Chart}
+use Rattle.model.specs.Answer.{result, nowhere}
+use Rattle.model.specs.Chart.{Chart}
 use Rattle.file_format.proofs.File.{then-result, unless-result}
 use Rattle.chart_lists.specs.Lists.{Lists}
 use Rattle.chart_lists.specs.declared.Numbers.{Numbers}
-use Rattle.writer.specs.Handing.{entryBelow, handedAccepting, handedTransition, handedTransitions, handed}
-use Rattle.writer.proofs.Items.{items, items-length, items-each, Each}
+use Rattle.writer.specs.Handing.{handedAccepting, handedTransition, handedTransitions, handed}
+use Rattle.writer.proofs.Items.{items-length, items-each, Each}
 use Rattle.writer.proofs.Parts.{acceptingItem, accepting-items, transitions-items}
 
 pub record ChartOf (m : Numbers) (l : Lists) (c : Chart) : Type 0 where

@@ -5,7 +5,7 @@ use mathlib.Core.List.{List, [], _∷_}
 use Prim.Native.Nat.{ℕ, zero, suc, _≤_, _<_}
 use native.Mathlib.Omega.{arith}
 use lib.ListN.{length, getD, getElem?}
-use Rattle.model.specs.Answer.{Answer, result, refused, nowhere}
+use Rattle.model.specs.Answer.{result, refused, nowhere}
 use Rattle.writer.specs.Handing.{present, entryAt}
 
 pub nth-in : (l : List ℕ) (k : ℕ) → k < length l → getElem? l k ≡ some (getD l k 0)

@@ -1,10 +1,10 @@
 -- The bytes of numbers, tests and started timers, item by item. Assumes nothing.
-use mathlib.Core.Path.{_≡_, refl, sym, ap, _∙_}
-use mathlib.Core.Bool.{Bool, true, false}
+use mathlib.Core.Path.{_≡_, refl, sym, _∙_}
+use mathlib.Core.Bool.{true, false}
 use mathlib.Core.List.{List, [], _∷_, _++_, append-assoc, append-nil}
-use Prim.Native.Nat.{ℕ, zero, suc, _+_, _*_, _≤_}
+use Prim.Native.Nat.{ℕ, zero, suc, _+_, _*_}
 use native.Mathlib.Omega.{arith}
-use lib.ListN.{length, getD, length-append}
+use lib.ListN.{length, length-append}
 use Rattle.lists.specs.Lists.{gather, pick}
 use Rattle.timer_set.specs.Members.{member, members}
 use Rattle.file_format.specs.Parse.{digits, writeAll}
@@ -54,7 +54,7 @@ unfolding headBytes
 length-head size source target event s = simp (length-append, length-digits)
 
 -- its parts one after another, s being the number of started timers
-module _ (source target event w : ℕ) (l : Lists) (k g s : ℕ) (e : s ≡ length (members w)) where
+module _ (source target event w g s : ℕ) (e : s ≡ length (members w)) where
   abbrev head : List ℕ
   head = headBytes (7 + s + 4 * g) source target event s
 
@@ -64,6 +64,6 @@ module _ (source target event w : ℕ) (l : Lists) (k g s : ℕ) (e : s ≡ leng
   pub length-counted : 8 + s + 1 ≡ length ((head ++ writeAll (digits 1) (members w)) ++ digits 1 g)
   length-counted = simp (length-append, length-head, length-starts, length-digits) (omega arith)
 
-  pub record-parts : ((head ++ writeAll (digits 1) (members w)) ++ digits 1 g) ++ testsBytes l k g ≡ recordBytes source target event w l k g
+  pub record-parts : (l : Lists) (k : ℕ) → ((head ++ writeAll (digits 1) (members w)) ++ digits 1 g) ++ testsBytes l k g ≡ recordBytes source target event w l k g
   unfolding recordBytes recordLength
-  record-parts = rw e (simp append-assoc)
+  record-parts l k = rw e (simp append-assoc)

@@ -1,22 +1,21 @@
 -- The file of a chart that is handed over is what the code writes for it, part by part. Assumes nothing.
-use mathlib.Core.Path.{_≡_, refl, sym, ap, _∙_}
+use mathlib.Core.Path.{_≡_, sym, ap, _∙_}
 use mathlib.Core.Option.{some}
-use mathlib.Core.List.{List, [], _∷_, _++_, append-assoc}
-use Prim.Native.Nat.{ℕ, zero, suc, _+_, _-_, _*_, _^_, _≤_, _<_}
-use native.Mathlib.Nat.{add-zero, zero-add}
+use mathlib.Core.List.{List, _++_, append-assoc}
+use Prim.Native.Nat.{ℕ, suc, _+_, _-_, _*_, _≤_}
+use native.Mathlib.Nat.{zero-add}
 use native.Mathlib.Omega.{arith}
 use lib.ListN.{length, getD, getElem?, length-append}
-use Rattle.lists.specs.Lists.{gather}
-use Rattle.model.specs.Answer.{Answer, result, then, unless, nowhere}
+use Rattle.model.specs.Answer.{Answer, result}
 use Rattle.model.specs.Chart.{Transition, Chart}
 use Rattle.file_format.specs.Parse.{digits, writeAll}
 use Rattle.file_format.specs.Body.{writeTransition, writeHeader, writeBody}
 use Rattle.file_format.specs.File.{writeFile, fileOf}
 use Rattle.file_format.specs.Lengths.{total, transitionLength}
-use Rattle.file_format.proofs.Lengths.{length-digits, length-numbers, length-transition, length-all}
+use Rattle.file_format.proofs.Lengths.{length-digits, length-transition, length-all}
 use Rattle.chart_lists.specs.Lists.{Lists}
 use Rattle.chart_lists.specs.declared.Numbers.{Numbers}
-use Rattle.writer.specs.Handing.{entryBelow, handedTransitions, handed}
+use Rattle.writer.specs.Handing.{handedTransitions, handed}
 use Rattle.writer.specs.Parts.{passTransitions}
 use Rattle.writer.specs.Bytes.{numberBytes, frontBytes, Room, bytesOf, records, Judged}
 use Rattle.writer.proofs.Entries.{nth-is}
@@ -35,17 +34,17 @@ unfolding frontBytes fileOf writeFile writeBody writeHeader records
 written-parts c n m e a b d f g = rw (e, a, b, d, f, g) (simp append-assoc)
 
 -- how long they are
-module _ (n : ℕ) (m : Numbers) (l : List ℕ) where
+module _ (n : ℕ) (m : Numbers) where
   pub length-front : 12 ≡ length (frontBytes n m)
   unfolding frontBytes
   length-front = simp (length-append, length-digits)
 
-  pub length-accepted : 12 + 2 * m .accepting ≡ length (frontBytes n m ++ numberBytes 2 l (m .accepting))
+  pub length-accepted : (l : List ℕ) → 12 + 2 * m .accepting ≡ length (frontBytes n m ++ numberBytes 2 l (m .accepting))
   unfolding numberBytes
-  length-accepted = simp length-append (omega (arith, length-front, gather-length (λ i. digits 2 (getD l i 0)) 2 (λ i. length-digits 2 (getD l i 0)) (m .accepting)))
+  length-accepted l = simp length-append (omega (arith, length-front, gather-length (λ i. digits 2 (getD l i 0)) 2 (λ i. length-digits 2 (getD l i 0)) (m .accepting)))
 
-  pub length-counted : 12 + 2 * m .accepting + 2 ≡ length ((frontBytes n m ++ numberBytes 2 l (m .accepting)) ++ digits 2 (m .transitions))
-  length-counted = simp (length-append, length-digits) (omega (arith, length-accepted, length-append (frontBytes n m) (numberBytes 2 l (m .accepting))))
+  pub length-counted : (l : List ℕ) → 12 + 2 * m .accepting + 2 ≡ length ((frontBytes n m ++ numberBytes 2 l (m .accepting)) ++ digits 2 (m .transitions))
+  length-counted l = simp (length-append, length-digits) (omega (arith, length-accepted l, length-append (frontBytes n m) (numberBytes 2 l (m .accepting))))
 
 module _ (m : Numbers) (l : Lists) (c : Chart) (h : ChartOf m l c) where
   -- ---- accepting locations

@@ -1,8 +1,8 @@
 -- What it takes for a test and a transition to be handed over: the entries of the lists that they are made of. Assumes nothing.
 use mathlib.Core.Path.{_≡_, refl, sym, ap, _∙_, subst}
-use mathlib.Core.Bool.{Bool, true, false, not}
+use mathlib.Core.Bool.{false, not}
 use mathlib.Core.Option.{Option, none, some}
-use mathlib.Core.List.{List, []}
+use mathlib.Core.List.{List}
 use Prim.Native.Nat.{ℕ, _≤_, _<_}
 use lib.Dec.{leb, ltb}
 use lib.ListN.{length, getElem?}
@@ -11,7 +11,7 @@ use Rattle.timer_set.specs.Members.{members}
 use Rattle.comparison.specs.declared.Comparison.{Comparison}
 use Rattle.comparison.specs.Comparison.{comparisonOf, codeOf}
 use Rattle.comparison.proofs.Comparisons.{comparison-code, code-comparison}
-use Rattle.model.specs.Answer.{Answer, result, refused, then, unless, nowhere}
+use Rattle.model.specs.Answer.{result, nowhere}
 use Rattle.model.specs.Chart.{Test, Transition}
 use Rattle.file_format.proofs.File.{result-refused, then-result, unless-result}
 use Rattle.chart_lists.specs.Lists.{Lists}

@@ -1,22 +1,21 @@
 -- What the judgement of a part gives, by what its fields give. Assumes nothing.
 use mathlib.Core.Path.{_≡_, refl, sym, ap, _∙_}
-use mathlib.Core.Bool.{Bool, true, false, not}
+use mathlib.Core.Bool.{true, false, not}
 use mathlib.Core.Option.{none, some}
 use mathlib.Core.List.{List}
-use Prim.Native.Nat.{ℕ, suc, _+_, _*_, _≤_, _<_, _^_}
-use lib.Dec.{leb, ltb}
+use Prim.Native.Nat.{ℕ, _+_, _*_, _≤_, _<_, _^_}
 use lib.ListN.{length, getD}
 use lib.Count.{ones}
 use borrow.Author.Tests.{lt-ltb, le-ltb, le-leb, lt-leb}
-use Rattle.timer_set.specs.Members.{members, allBelow}
+use Rattle.timer_set.specs.Members.{allBelow}
 use Rattle.timer_set.proofs.Counts.{ones-members}
 use Rattle.comparison.specs.declared.Comparison.{Comparison}
 use Rattle.comparison.specs.Comparison.{comparisonOf}
-use Rattle.model.specs.Answer.{Answer, result, refused, then, unless, nowhere}
+use Rattle.model.specs.Answer.{Answer, result, refused, then, nowhere}
 use Rattle.chart_lists.specs.Lists.{Lists}
 use Rattle.chart_lists.specs.declared.Numbers.{Numbers}
 use Rattle.writer.specs.Handing.{entryAt, entryBelow, beyond}
-use Rattle.writer.specs.Parts.{limited, passNumbers, passAccepting, passCode, testLists, passTest, passTests, passCount, passEnds, passStarts, Sizes, passTransition, passTransitions, passChart}
+use Rattle.writer.specs.Parts.{limited, passNumbers, passAccepting, passCode, testLists, passTest, passTests, passCount, passEnds, passStarts, passTransition, passTransitions, passChart}
 use Rattle.writer.proofs.Entries.{entry-in, entry-out}
 use Rattle.writer.proofs.Limits.{entry-below}
 use Rattle.writer.proofs.Parts.{acceptingItem, transitionLists, pass-test, pass-transition, pass-chart}

@@ -13,3 +13,10 @@ pub mod Records
 pub mod ChartOf
 pub mod FileBytes
 pub mod Writing
+pub mod Beginnings
+pub mod Starts
+pub mod HandedValid
+pub mod HandedLists
+pub mod ValidHanded
+pub mod RoundTrip
+pub mod Refusals

@@ -1,22 +1,20 @@
 -- The parts that the code judges make up the chart that is handed over. Assumes nothing.
-use mathlib.Core.Path.{_≡_, refl, sym, ap, _∙_}
-use mathlib.Core.Bool.{Bool, true, false, not}
-use mathlib.Core.Option.{Option, none, some}
+use mathlib.Core.Path.{_≡_, refl, sym, _∙_}
+use mathlib.Core.Bool.{Bool, true, false}
 use mathlib.Core.List.{List, [], _∷_}
 use Prim.Native.Nat.{ℕ, zero, suc, _+_, _*_}
 use native.Mathlib.Omega.{arith}
 use lib.Dec.{leb, ltb}
 use lib.ListN.{length}
-use Rattle.comparison.specs.Comparison.{comparisonOf}
-use Rattle.model.specs.Answer.{Answer, result, refused, then, unless, nowhere}
-use Rattle.model.specs.Chart.{Test, Transition, Chart}
+use Rattle.model.specs.Answer.{Answer, result, then, unless, nowhere}
+use Rattle.model.specs.Chart.{Chart}
 use Rattle.file_format.specs.File.{fileOf}
 use Rattle.file_format.specs.Lengths.{total, transitionLength, bodyLength, fileLength}
 use Rattle.file_format.proofs.Lengths.{length-file}
 use Rattle.chart_lists.specs.Lists.{Lists, lists}
 use Rattle.chart_lists.specs.declared.Numbers.{Numbers}
-use Rattle.writer.specs.Handing.{entryAt, entryBelow, handedAccepting, known, handedTest, handedTests, handedTransition, handedTransitions, handed}
-use Rattle.writer.specs.Parts.{passNumbers, passAccepting, passCode, testLists, passTest, passTests, passCount, passEnds, passStarts, Sizes, sizesOf, passTransition, passTransitions, passChart}
+use Rattle.writer.specs.Handing.{entryAt, entryBelow, handedAccepting, handedTest, handedTests, handedTransition, handedTransitions, handed}
+use Rattle.writer.specs.Parts.{passNumbers, passAccepting, passCode, testLists, passTest, passTests, passCount, passEnds, passStarts, sizesOf, passTransition, passTransitions, passChart}
 use Rattle.writer.proofs.Answers.{then-id, then-then, then-unless, then-same}
 use Rattle.writer.proofs.Items.{items, items-same}
 

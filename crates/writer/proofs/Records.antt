@@ -1,22 +1,19 @@
 -- The record of a transition that is handed over is what the code writes for it, and so are all of them. Assumes nothing.
 use mathlib.Core.Path.{_≡_, refl, sym, ap, _∙_, subst}
-use mathlib.Core.Option.{Option, none, some, Option·some-injective, Option·none-ne-some}
-use mathlib.Core.List.{List, [], _∷_, _++_, append-assoc}
-use Prim.Native.Nat.{ℕ, zero, suc, _+_, _-_, _*_, _^_, _≤_, _<_}
-use native.Mathlib.Nat.{add-assoc, add-zero}
-use native.Mathlib.Numerals.{add-one, one-add}
+use mathlib.Core.Option.{Option, none, some}
+use mathlib.Core.List.{List, [], _∷_, append-assoc}
+use Prim.Native.Nat.{ℕ, zero, suc, _+_, _-_, _*_, _≤_, _<_}
+use native.Mathlib.Numerals.{add-one}
 use native.Mathlib.Omega.{arith}
-use lib.ListN.{length, drop, getD, getElem?, length-append}
+use lib.ListN.{length, drop, getD, getElem?}
 use borrow.Rule.Slice.PartMut.{midOf, putMid}
 use Rattle.lists.specs.Lists.{gather}
-use Rattle.lists.specs.Rising.{All}
 use Rattle.timer_set.specs.Members.{members}
 use Rattle.comparison.specs.Comparison.{codeOf}
-use Rattle.model.specs.Answer.{Answer, result, refused, then}
+use Rattle.model.specs.Answer.{Answer, result, refused}
 use Rattle.model.specs.Chart.{Test, Transition}
-use Rattle.file_format.specs.Parse.{digits, writeAll}
-use Rattle.file_format.specs.Body.{recordLength, writeTest, writeTransition}
-use Rattle.file_format.specs.Lengths.{transitionLength}
+use Rattle.file_format.specs.Parse.{writeAll}
+use Rattle.file_format.specs.Body.{writeTest, writeTransition}
 use Rattle.file_format.proofs.Lengths.{length-transition}
 use Rattle.chart_lists.specs.Lists.{Lists, put}
 use Rattle.writer.specs.Handing.{handedTest, handedTests, handedTransition, handedTransitions}

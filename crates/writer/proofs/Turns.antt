@@ -2,13 +2,13 @@
 -- can be. Assumes nothing.
 use mathlib.Core.Path.{_≡_, refl, sym, ap, _∙_}
 use mathlib.Core.List.{List, [], _∷_}
-use Prim.Native.Nat.{ℕ, suc, _+_, _*_, _≤_, _<_}
+use Prim.Native.Nat.{ℕ, suc, _+_, _*_, _≤_}
 use native.Mathlib.Omega.{arith}
 use lib.ListN.{length}
 use Rattle.lists.proofs.Gather.{rising-length}
 use Rattle.timer_set.specs.Members.{members}
 use Rattle.timer_set.proofs.Members.{members-rising}
-use Rattle.model.specs.Answer.{Answer, result, refused, then}
+use Rattle.model.specs.Answer.{result, refused}
 use Rattle.model.specs.Chart.{Test, Transition}
 use Rattle.file_format.specs.Body.{recordLength}
 use Rattle.file_format.specs.Lengths.{total, transitionLength}

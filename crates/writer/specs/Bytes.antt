@@ -1,7 +1,7 @@
 -- The bytes that the code writes, by the entries of the lists. That they are those of the chart handed over is shown in proofs/.
 -- Assumes nothing.
 use mathlib.Core.Path.{_≡_}
-use mathlib.Core.List.{List, [], _∷_, _++_}
+use mathlib.Core.List.{List, [], _++_}
 use Prim.Native.Nat.{ℕ, _+_, _≤_}
 use lib.ListN.{length, getD}
 use Rattle.lists.specs.Lists.{gather}

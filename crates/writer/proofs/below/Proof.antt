@@ -1,11 +1,9 @@
 use mathlib.Core.Path.{refl, sym, _∙_}
+use borrow.Author.Needs.{needs}
 use Rattle.writer.proofs.Answers.{found, turned}
 use Rattle.writer.proofs.Limits.{limited-refused, limited-in, limited-over}
-use borrow.Author.Needs.{needs}
 use Rattle.writer.proofs.below.Statement.{statement}
 use Rattle.writer.proofs.below.Tie as tie
-use Rattle.writer.proofs.below.Reads as reads
-use Rattle.writer.proofs.below.Lts as lts
 
 enum-known-a : tie.Need-enum-known-a
 enum-known-a c = search needs

@@ -1,11 +1,9 @@
 use mathlib.Core.Path.{sym}
 use native.Mathlib.Omega.{arith}
-use Rattle.writer.proofs.Entries.{entry-in, entry-out}
 use borrow.Author.Needs.{needs}
+use Rattle.writer.proofs.Entries.{entry-in, entry-out}
 use Rattle.writer.proofs.byte_at.Statement.{statement}
 use Rattle.writer.proofs.byte_at.Tie as tie
-use Rattle.writer.proofs.byte_at.Reads as reads
-use Rattle.writer.proofs.byte_at.Lts as lts
 
 shared-slice-read-t7 : tie.Need-shared-slice-read-t7
 shared-slice-read-t7 c = search needs

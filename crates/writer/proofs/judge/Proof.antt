@@ -1,21 +1,12 @@
-use Rattle.writer.proofs.Turns.{accepting-count, transitions-most}
-use mathlib.Core.Path.{refl, sym, ap, _∙_}
-use denote.Ref.{now}
+use mathlib.Core.Path.{sym, _∙_}
+use Prim.Native.Nat.{_≤_, _<_}
 use native.Mathlib.Omega.{arith}
-use Rattle.writer.proofs.Answers.{found, turned, refused-of}
-use Rattle.writer.proofs.Turns.{transitions-most}
-use Rattle.writer.proofs.Judging.{chart-numbers, chart-accepting, chart-many, chart-transitions, chart-in}
-use mathlib.Core.List.{[]}
-use Rattle.chart_lists.specs.Lists.{lists}
 use borrow.Author.Needs.{needs}
+use Rattle.writer.proofs.Turns.{accepting-count, transitions-most}
+use Rattle.writer.proofs.Answers.{found, turned, refused-of}
+use Rattle.writer.proofs.Judging.{chart-numbers, chart-accepting, chart-many, chart-transitions, chart-in}
 use Rattle.writer.proofs.judge.Statement.{statement}
 use Rattle.writer.proofs.judge.Tie as tie
-use Rattle.writer.proofs.judge.Reads as reads
-use Rattle.writer.proofs.judge.Lts as lts
-use Rattle.writer.proofs.judge_accepting.Reads as judge-accepting-reads
-use Rattle.writer.proofs.judge_numbers.Reads as judge-numbers-reads
-use Rattle.writer.proofs.judge_transitions.Reads as judge-transitions-reads
-use Rattle.writer.proofs.refusal_of.Reads as refusal-of-reads
 
 judge-numbers-requires : tie.Need-judge-numbers-requires
 judge-numbers-requires c κs = search needs
@@ -30,7 +21,7 @@ refusal-of-requires : tie.Need-refusal-of-requires
 refusal-of-requires c κs = search needs
 
 returns : tie.Need-returns
-returns c = refused-of (c .before .enum-told2 .given .1) (c .refusal-of .ensures) ∙ sym (chart-numbers (c .before .before .before .before .before .before .before .before .before .before .before .before .before .args .m) (lists (now (c .before .before .before .before .before .before .before .before .before .before .before .before .before .args .accepting)) (now (c .before .before .before .before .before .before .before .before .before .before .before .before .before .args .sources)) (now (c .before .before .before .before .before .before .before .before .before .before .before .before .before .args .targets)) (now (c .before .before .before .before .before .before .before .before .before .before .before .before .before .args .events)) (now (c .before .before .before .before .before .before .before .before .before .before .before .before .before .args .starts)) (now (c .before .before .before .before .before .before .before .before .before .before .before .before .before .args .counts)) (now (c .before .before .before .before .before .before .before .before .before .before .before .before .before .args .timers)) (now (c .before .before .before .before .before .before .before .before .before .before .before .before .before .args .codes)) (now (c .before .before .before .before .before .before .before .before .before .before .before .before .before .args .constants))) (turned (c .before .enum-told2 .given .1) (c .before .before .before .judge-numbers .ensures)))
+returns c = refused-of (c .before .enum-told2 .given .1) (c .refusal-of .ensures) ∙ sym (chart-numbers _ _ (turned (c .before .enum-told2 .given .1) (c .before .before .before .judge-numbers .ensures)))
 
 judge-accepting-requires : tie.Need-judge-accepting-requires
 judge-accepting-requires c κs = search needs
@@ -45,10 +36,10 @@ refusal-of-requires-2 : tie.Need-refusal-of-requires-2
 refusal-of-requires-2 c κs = search needs
 
 returns-2 : tie.Need-returns-2
-returns-2 c = refused-of (c .before .enum-told3 .given .1) (c .refusal-of2 .ensures) ∙ sym (chart-accepting (c .before .before .before .before .before .before .before .before .before .before .before .before .before .before .before .before .args .m) (lists (now (c .before .before .before .before .before .before .before .before .before .before .before .before .before .before .before .before .args .accepting)) (now (c .before .before .before .before .before .before .before .before .before .before .before .before .before .before .before .before .args .sources)) (now (c .before .before .before .before .before .before .before .before .before .before .before .before .before .before .before .before .args .targets)) (now (c .before .before .before .before .before .before .before .before .before .before .before .before .before .before .before .before .args .events)) (now (c .before .before .before .before .before .before .before .before .before .before .before .before .before .before .before .before .args .starts)) (now (c .before .before .before .before .before .before .before .before .before .before .before .before .before .before .before .before .args .counts)) (now (c .before .before .before .before .before .before .before .before .before .before .before .before .before .before .before .before .args .timers)) (now (c .before .before .before .before .before .before .before .before .before .before .before .before .before .before .before .before .args .codes)) (now (c .before .before .before .before .before .before .before .before .before .before .before .before .before .before .before .before .args .constants))) (found (c .before .before .before .before .enum-told .given .1) (c .before .before .before .before .before .before .judge-numbers .ensures)) (turned (c .before .enum-told3 .given .1) (c .before .before .before .judge-accepting .ensures)))
+returns-2 c = refused-of (c .before .enum-told3 .given .1) (c .refusal-of2 .ensures) ∙ sym (chart-accepting _ _ (found (c .before .before .before .before .enum-told .given .1) (c .before .before .before .before .before .before .judge-numbers .ensures)) (turned (c .before .enum-told3 .given .1) (c .before .before .before .judge-accepting .ensures)))
 
 returns-3 : tie.Need-returns-3
-returns-3 c = sym (chart-many (c .before .before .before .before .before .before .before .before .before .before .before .before .before .before .before .before .before .before .args .m) (lists (now (c .before .before .before .before .before .before .before .before .before .before .before .before .before .before .before .before .before .before .args .accepting)) (now (c .before .before .before .before .before .before .before .before .before .before .before .before .before .before .before .before .before .before .args .sources)) (now (c .before .before .before .before .before .before .before .before .before .before .before .before .before .before .before .before .before .before .args .targets)) (now (c .before .before .before .before .before .before .before .before .before .before .before .before .before .before .before .before .before .before .args .events)) (now (c .before .before .before .before .before .before .before .before .before .before .before .before .before .before .before .before .before .before .args .starts)) (now (c .before .before .before .before .before .before .before .before .before .before .before .before .before .before .before .before .before .before .args .counts)) (now (c .before .before .before .before .before .before .before .before .before .before .before .before .before .before .before .before .before .before .args .timers)) (now (c .before .before .before .before .before .before .before .before .before .before .before .before .before .before .before .before .before .before .args .codes)) (now (c .before .before .before .before .before .before .before .before .before .before .before .before .before .before .before .before .before .before .args .constants))) (found (c .before .before .before .before .before .before .enum-told .given .1) (c .before .before .before .before .before .before .before .before .judge-numbers .ensures)) (found (c .before .before .before .b .given .1) (c .before .before .before .before .before .judge-accepting .ensures)) (search needs))
+returns-3 c = sym (chart-many _ _ (found (c .before .before .before .before .before .before .enum-told .given .1) (c .before .before .before .before .before .before .before .before .judge-numbers .ensures)) (found (c .before .before .before .b .given .1) (c .before .before .before .before .before .judge-accepting .ensures)) (search needs))
 
 judge-transitions-requires : tie.Need-judge-transitions-requires
 judge-transitions-requires c κs = search needs
@@ -63,19 +54,26 @@ refusal-of-requires-3 : tie.Need-refusal-of-requires-3
 refusal-of-requires-3 c κs = search needs
 
 returns-4 : tie.Need-returns-4
-returns-4 c = refused-of (c .before .enum-told4 .given .1) (c .refusal-of3 .ensures) ∙ sym (chart-transitions (c .before .before .before .before .before .before .before .before .before .before .before .before .before .before .before .before .before .before .before .before .before .before .args .m) (lists (now (c .before .before .before .before .before .before .before .before .before .before .before .before .before .before .before .before .before .before .before .before .before .before .args .accepting)) (now (c .before .before .before .before .before .before .before .before .before .before .before .before .before .before .before .before .before .before .before .before .before .before .args .sources)) (now (c .before .before .before .before .before .before .before .before .before .before .before .before .before .before .before .before .before .before .before .before .before .before .args .targets)) (now (c .before .before .before .before .before .before .before .before .before .before .before .before .before .before .before .before .before .before .before .before .before .before .args .events)) (now (c .before .before .before .before .before .before .before .before .before .before .before .before .before .before .before .before .before .before .before .before .before .before .args .starts)) (now (c .before .before .before .before .before .before .before .before .before .before .before .before .before .before .before .before .before .before .before .before .before .before .args .counts)) (now (c .before .before .before .before .before .before .before .before .before .before .before .before .before .before .before .before .before .before .before .before .before .before .args .timers)) (now (c .before .before .before .before .before .before .before .before .before .before .before .before .before .before .before .before .before .before .before .before .before .before .args .codes)) (now (c .before .before .before .before .before .before .before .before .before .before .before .before .before .before .before .before .before .before .before .before .before .before .args .constants))) (found (c .before .before .before .before .before .before .before .before .before .before .enum-told .given .1) (c .before .before .before .before .before .before .before .before .before .before .before .before .judge-numbers .ensures)) (found (c .before .before .before .before .before .before .before .b .given .1) (c .before .before .before .before .before .before .before .before .before .judge-accepting .ensures)) (search needs) (turned (c .before .enum-told4 .given .1) (c .before .before .before .judge-transitions .ensures)))
+returns-4 c = refused-of (c .before .enum-told4 .given .1) (c .refusal-of3 .ensures) ∙ sym (chart-transitions _ _ (found (c .before .before .before .before .before .before .before .before .before .before .enum-told .given .1) (c .before .before .before .before .before .before .before .before .before .before .before .before .judge-numbers .ensures)) (found (c .before .before .before .before .before .before .before .b .given .1) (c .before .before .before .before .before .before .before .before .before .judge-accepting .ensures)) (search needs) (turned (c .before .enum-told4 .given .1) (c .before .before .before .judge-transitions .ensures)))
+
+-- the length of the file is no large number
+few : (c : tie.After-known-told2) → (c .before .before .before .before .before .before .before .b .given .0 .0 < 65536) × (c .before .d .given .0 .0 ≤ 53760)
+few c =
+    let a = accepting-count _ _ _ (found (c .before .before .before .before .before .before .before .b .given .1) (c .before .before .before .before .before .before .before .before .before .judge-accepting .ensures)) in
+    let t = transitions-most _ _ _ _ (found (c .before .d .given .1) (c .before .before .before .judge-transitions .ensures)) in
+    (omega (arith, a, c .before .before .before .before .before .struct-known), omega (arith, t, c .before .before .before .before .if1 .left))
 
 mul-t22 : tie.Need-mul-t22
-mul-t22 c = omega (arith, accepting-count (c .before .before .before .before .before .before .before .before .before .before .before .before .before .before .before .before .before .before .before .before .before .before .args .m .locations) (now (c .before .before .before .before .before .before .before .before .before .before .before .before .before .before .before .before .before .before .before .before .before .before .args .accepting)) (c .before .before .before .before .before .before .before .before .before .before .before .before .before .before .before .before .before .before .before .before .before .before .args .m .accepting) (found (c .before .before .before .before .before .before .before .b .given .1) (c .before .before .before .before .before .before .before .before .before .judge-accepting .ensures)), transitions-most (lists [] (now (c .before .before .before .before .before .before .before .before .before .before .before .before .before .before .before .before .before .before .before .before .before .before .args .sources)) (now (c .before .before .before .before .before .before .before .before .before .before .before .before .before .before .before .before .before .before .before .before .before .before .args .targets)) (now (c .before .before .before .before .before .before .before .before .before .before .before .before .before .before .before .before .before .before .before .before .before .before .args .events)) (now (c .before .before .before .before .before .before .before .before .before .before .before .before .before .before .before .before .before .before .before .before .before .before .args .starts)) (now (c .before .before .before .before .before .before .before .before .before .before .before .before .before .before .before .before .before .before .before .before .before .before .args .counts)) (now (c .before .before .before .before .before .before .before .before .before .before .before .before .before .before .before .before .before .before .before .before .before .before .args .timers)) (now (c .before .before .before .before .before .before .before .before .before .before .before .before .before .before .before .before .before .before .before .before .before .before .args .codes)) (now (c .before .before .before .before .before .before .before .before .before .before .before .before .before .before .before .before .before .before .before .before .before .before .args .constants))) (c .before .before .before .before .before .before .before .before .before .before .before .before .before .before .before .before .before .before .before .before .before .before .args .m .locations) (c .before .before .before .before .before .before .before .before .before .before .before .before .before .before .before .before .before .before .before .before .before .before .args .m .timers) (c .before .before .before .before .before .before .before .before .before .before .before .before .before .before .before .before .before .before .before .before .before .before .args .m .transitions) (found (c .before .d .given .1) (c .before .before .before .judge-transitions .ensures)), c .before .before .before .before .if1 .left, c .before .before .before .before .before .struct-known)
+mul-t22 c = omega (arith, few c .0, few c .1)
 
 add-t23 : tie.Need-add-t23
-add-t23 c = omega (arith, accepting-count (c .before .before .before .before .before .before .before .before .before .before .before .before .before .before .before .before .before .before .before .before .before .before .args .m .locations) (now (c .before .before .before .before .before .before .before .before .before .before .before .before .before .before .before .before .before .before .before .before .before .before .args .accepting)) (c .before .before .before .before .before .before .before .before .before .before .before .before .before .before .before .before .before .before .before .before .before .before .args .m .accepting) (found (c .before .before .before .before .before .before .before .b .given .1) (c .before .before .before .before .before .before .before .before .before .judge-accepting .ensures)), transitions-most (lists [] (now (c .before .before .before .before .before .before .before .before .before .before .before .before .before .before .before .before .before .before .before .before .before .before .args .sources)) (now (c .before .before .before .before .before .before .before .before .before .before .before .before .before .before .before .before .before .before .before .before .before .before .args .targets)) (now (c .before .before .before .before .before .before .before .before .before .before .before .before .before .before .before .before .before .before .before .before .before .before .args .events)) (now (c .before .before .before .before .before .before .before .before .before .before .before .before .before .before .before .before .before .before .before .before .before .before .args .starts)) (now (c .before .before .before .before .before .before .before .before .before .before .before .before .before .before .before .before .before .before .before .before .before .before .args .counts)) (now (c .before .before .before .before .before .before .before .before .before .before .before .before .before .before .before .before .before .before .before .before .before .before .args .timers)) (now (c .before .before .before .before .before .before .before .before .before .before .before .before .before .before .before .before .before .before .before .before .before .before .args .codes)) (now (c .before .before .before .before .before .before .before .before .before .before .before .before .before .before .before .before .before .before .before .before .before .before .args .constants))) (c .before .before .before .before .before .before .before .before .before .before .before .before .before .before .before .before .before .before .before .before .before .before .args .m .locations) (c .before .before .before .before .before .before .before .before .before .before .before .before .before .before .before .before .before .before .before .before .before .before .args .m .timers) (c .before .before .before .before .before .before .before .before .before .before .before .before .before .before .before .before .before .before .before .before .before .before .args .m .transitions) (found (c .before .d .given .1) (c .before .before .before .judge-transitions .ensures)), c .before .before .before .before .if1 .left, c .before .before .before .before .before .struct-known)
+add-t23 c = omega (arith, few c .0, few c .1)
 
 add-t25 : tie.Need-add-t25
-add-t25 c = omega (arith, accepting-count (c .before .before .before .before .before .before .before .before .before .before .before .before .before .before .before .before .before .before .before .before .before .before .args .m .locations) (now (c .before .before .before .before .before .before .before .before .before .before .before .before .before .before .before .before .before .before .before .before .before .before .args .accepting)) (c .before .before .before .before .before .before .before .before .before .before .before .before .before .before .before .before .before .before .before .before .before .before .args .m .accepting) (found (c .before .before .before .before .before .before .before .b .given .1) (c .before .before .before .before .before .before .before .before .before .judge-accepting .ensures)), transitions-most (lists [] (now (c .before .before .before .before .before .before .before .before .before .before .before .before .before .before .before .before .before .before .before .before .before .before .args .sources)) (now (c .before .before .before .before .before .before .before .before .before .before .before .before .before .before .before .before .before .before .before .before .before .before .args .targets)) (now (c .before .before .before .before .before .before .before .before .before .before .before .before .before .before .before .before .before .before .before .before .before .before .args .events)) (now (c .before .before .before .before .before .before .before .before .before .before .before .before .before .before .before .before .before .before .before .before .before .before .args .starts)) (now (c .before .before .before .before .before .before .before .before .before .before .before .before .before .before .before .before .before .before .before .before .before .before .args .counts)) (now (c .before .before .before .before .before .before .before .before .before .before .before .before .before .before .before .before .before .before .before .before .before .before .args .timers)) (now (c .before .before .before .before .before .before .before .before .before .before .before .before .before .before .before .before .before .before .before .before .before .before .args .codes)) (now (c .before .before .before .before .before .before .before .before .before .before .before .before .before .before .before .before .before .before .before .before .before .before .args .constants))) (c .before .before .before .before .before .before .before .before .before .before .before .before .before .before .before .before .before .before .before .before .before .before .args .m .locations) (c .before .before .before .before .before .before .before .before .before .before .before .before .before .before .before .before .before .before .before .before .before .before .args .m .timers) (c .before .before .before .before .before .before .before .before .before .before .before .before .before .before .before .before .before .before .before .before .before .before .args .m .transitions) (found (c .before .d .given .1) (c .before .before .before .judge-transitions .ensures)), c .before .before .before .before .if1 .left, c .before .before .before .before .before .struct-known)
+add-t25 c = omega (arith, few c .0, few c .1)
 
 returns-5 : tie.Need-returns-5
-returns-5 c = sym (chart-in (c .before .before .before .before .before .before .before .before .before .before .before .before .before .before .before .before .before .before .before .before .before .before .args .m) (lists (now (c .before .before .before .before .before .before .before .before .before .before .before .before .before .before .before .before .before .before .before .before .before .before .args .accepting)) (now (c .before .before .before .before .before .before .before .before .before .before .before .before .before .before .before .before .before .before .before .before .before .before .args .sources)) (now (c .before .before .before .before .before .before .before .before .before .before .before .before .before .before .before .before .before .before .before .before .before .before .args .targets)) (now (c .before .before .before .before .before .before .before .before .before .before .before .before .before .before .before .before .before .before .before .before .before .before .args .events)) (now (c .before .before .before .before .before .before .before .before .before .before .before .before .before .before .before .before .before .before .before .before .before .before .args .starts)) (now (c .before .before .before .before .before .before .before .before .before .before .before .before .before .before .before .before .before .before .before .before .before .before .args .counts)) (now (c .before .before .before .before .before .before .before .before .before .before .before .before .before .before .before .before .before .before .before .before .before .before .args .timers)) (now (c .before .before .before .before .before .before .before .before .before .before .before .before .before .before .before .before .before .before .before .before .before .before .args .codes)) (now (c .before .before .before .before .before .before .before .before .before .before .before .before .before .before .before .before .before .before .before .before .before .before .args .constants))) (found (c .before .before .before .before .before .before .before .before .before .before .enum-told .given .1) (c .before .before .before .before .before .before .before .before .before .before .before .before .judge-numbers .ensures)) (found (c .before .before .before .before .before .before .before .b .given .1) (c .before .before .before .before .before .before .before .before .before .judge-accepting .ensures)) (search needs) (found (c .before .d .given .1) (c .before .before .before .judge-transitions .ensures)))
+returns-5 c = sym (chart-in _ _ (found (c .before .before .before .before .before .before .before .before .before .before .enum-told .given .1) (c .before .before .before .before .before .before .before .before .before .before .before .before .judge-numbers .ensures)) (found (c .before .before .before .before .before .before .before .b .given .1) (c .before .before .before .before .before .before .before .before .before .judge-accepting .ensures)) (search needs) (found (c .before .d .given .1) (c .before .before .before .judge-transitions .ensures)))
 
 pub judge-spec : {M : Type 1} → statement M
 judge-spec =

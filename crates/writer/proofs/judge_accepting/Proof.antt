@@ -1,19 +1,14 @@
-use Rattle.writer.proofs.Handed.{below-some}
-use borrow.Author.Needs.{needs}
+use mathlib.Core.Path.{refl, sym, _∙_}
 use Prim.Native.Nat.{_-_}
-use mathlib.Core.Path.{refl, sym, ap, _∙_}
-use denote.Ref.{now}
 use native.Mathlib.Omega.{arith}
+use borrow.Author.Needs.{needs}
+use Rattle.writer.proofs.Handed.{below-some}
 use Rattle.writer.proofs.Answers.{found, turned}
 use Rattle.writer.proofs.Items.{turn-done, turn-refused, turn-again}
 use Rattle.writer.proofs.Turns.{AcceptingTurn, accepting-first}
 use Rattle.writer.proofs.Judging.{entry-limited, accepting-refused, accepting-low, accepting-in}
 use Rattle.writer.proofs.judge_accepting.Statement.{statement}
 use Rattle.writer.proofs.judge_accepting.Tie as tie
-use Rattle.writer.proofs.judge_accepting.Reads as reads
-use Rattle.writer.proofs.judge_accepting.Lts as lts
-use Rattle.writer.proofs.below.Reads as below-reads
-use Rattle.writer.proofs.pair_at.Reads as pair-at-reads
 
 abbrev Inv-loop : tie.InvT-loop
 Inv-loop accepting locations n lowest₀ k₀ lowest k = AcceptingTurn locations accepting n lowest k
@@ -40,17 +35,17 @@ enum-told : tie.Need-enum-told Inv-loop μ-loop
 enum-told c = search needs
 
 returns : tie.Need-returns Inv-loop μ-loop
-returns c = let e = entry-limited (now (c .before .before .before .before .before .before .before .args .accepting)) (c .before .before .before .before .before .loop .k) (c .before .before .before .before .before .before .before .args .locations) 5 65535 (c .before .before .before .pair-at .ensures) (c .before .before .below .ensures) in
+returns c = let e = entry-limited _ _ _ _ _ (c .before .before .before .pair-at .ensures) (c .before .before .below .ensures) in
     let h = turned (c .enum-told .given .1) e in
     e ∙ h ∙ sym (turn-refused (c .before .before .before .before .before .loop .inv) (c .before .before .before .before .loop-test .taken) (accepting-refused _ _ _ _ h))
 
 returns-2 : tie.Need-returns-2 Inv-loop μ-loop
-returns-2 c = let e = entry-limited (now (c .before .before .before .before .before .before .before .before .before .args .accepting)) (c .before .before .before .before .before .before .before .loop .k) (c .before .before .before .before .before .before .before .before .before .args .locations) 5 65535 (c .before .before .before .before .before .pair-at .ensures) (c .before .before .before .before .below .ensures) in
+returns-2 c = let e = entry-limited _ _ _ _ _ (c .before .before .before .before .before .pair-at .ensures) (c .before .before .before .before .below .ensures) in
     sym (turn-refused (c .before .before .before .before .before .before .before .loop .inv) (c .before .before .before .before .before .before .loop-test .taken) (accepting-low _ _ _ _ (found (c .before .before .a .given .1) e) (c .if1 .taken)))
 
 add-lowest : tie.Need-add-lowest Inv-loop μ-loop
-add-lowest c = let e = entry-limited (now (c .before .before .before .before .before .before .before .before .before .args .accepting)) (c .before .before .before .before .before .before .before .loop .k) (c .before .before .before .before .before .before .before .before .before .args .locations) 5 65535 (c .before .before .before .before .before .pair-at .ensures) (c .before .before .before .before .below .ensures) in
-    omega (arith, below-some (now (c .before .before .before .before .before .before .before .before .before .args .accepting)) (c .before .before .before .before .before .before .before .loop .k) (c .before .before .before .before .before .before .before .before .before .args .locations) 5 65535 (found (c .before .before .a .given .1) e) .1)
+add-lowest c = let e = entry-limited _ _ _ _ _ (c .before .before .before .before .before .pair-at .ensures) (c .before .before .before .before .below .ensures) in
+    omega (arith, below-some _ _ _ _ _ (found (c .before .before .a .given .1) e) .1)
 
 add-k : tie.Need-add-k Inv-loop μ-loop
 add-k c = search needs
@@ -59,7 +54,7 @@ loop-less : tie.Need-loop-less Inv-loop μ-loop
 loop-less c = search needs
 
 loop-again : tie.Need-loop-again Inv-loop μ-loop
-loop-again c = let e = entry-limited (now (c .before .before .before .before .before .before .before .before .before .args .accepting)) (c .before .before .before .before .before .before .before .loop .k) (c .before .before .before .before .before .before .before .before .before .args .locations) 5 65535 (c .before .before .before .before .before .pair-at .ensures) (c .before .before .before .before .below .ensures) in
+loop-again c = let e = entry-limited _ _ _ _ _ (c .before .before .before .before .before .pair-at .ensures) (c .before .before .before .before .below .ensures) in
     turn-again (c .before .before .before .before .before .before .before .loop .inv) (c .before .before .before .before .before .before .loop-test .taken) _ _ _ (accepting-in _ _ _ _ (found (c .before .before .a .given .1) e) (c .if1 .left)) (omega arith) (omega arith) refl
 
 cast-t13 : tie.Need-cast-t13 Inv-loop μ-loop

@@ -1,13 +1,10 @@
-use mathlib.Core.Path.{refl, sym, ap, _∙_}
+use mathlib.Core.Path.{sym, ap, _∙_}
 use native.Mathlib.Omega.{arith}
+use borrow.Author.Needs.{needs}
 use Rattle.comparison.specs.Decoding.{decodedOf}
 use Rattle.writer.proofs.Judging.{code-cut, code-unknown, code-known}
-use borrow.Author.Needs.{needs}
 use Rattle.writer.proofs.judge_code.Statement.{statement}
 use Rattle.writer.proofs.judge_code.Tie as tie
-use Rattle.writer.proofs.judge_code.Reads as reads
-use Rattle.writer.proofs.judge_code.Lts as lts
-use Rattle.comparison.proofs.decode.Reads as decode-reads
 
 returns : tie.Need-returns
 returns c = sym (code-cut _ _ _ (search needs))

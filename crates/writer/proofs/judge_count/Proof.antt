@@ -1,15 +1,9 @@
-use mathlib.Core.Path.{refl, sym, ap, _∙_}
-use denote.Ref.{now}
-use Rattle.writer.proofs.Answers.{found, turned}
-use Rattle.writer.specs.Parts.{testLists}
-use Rattle.writer.proofs.Judging.{count-cut, count-many, count-tests}
+use mathlib.Core.Path.{sym, _∙_}
 use borrow.Author.Needs.{needs}
+use Rattle.writer.proofs.Answers.{found, turned}
+use Rattle.writer.proofs.Judging.{count-cut, count-many, count-tests}
 use Rattle.writer.proofs.judge_count.Statement.{statement}
 use Rattle.writer.proofs.judge_count.Tie as tie
-use Rattle.writer.proofs.judge_count.Reads as reads
-use Rattle.writer.proofs.judge_count.Lts as lts
-use Rattle.writer.proofs.byte_at.Reads as byte-at-reads
-use Rattle.writer.proofs.judge_tests.Reads as judge-tests-reads
 
 byte-at-requires : tie.Need-byte-at-requires
 byte-at-requires c κs = search needs
@@ -21,16 +15,16 @@ enum-told : tie.Need-enum-told
 enum-told c = search needs
 
 returns : tie.Need-returns
-returns c = let h = turned (c .enum-told .given .1) (c .before .before .byte-at .ensures) in c .before .before .byte-at .ensures ∙ h ∙ sym (count-cut (testLists (now (c .before .before .before .before .before .before .before .args .timers)) (now (c .before .before .before .before .before .before .before .args .codes)) (now (c .before .before .before .before .before .before .before .args .constants))) (now (c .before .before .before .before .before .before .before .args .counts)) (c .before .before .before .before .before .before .before .args .limit) (c .before .before .before .before .before .before .before .args .i) (c .before .before .before .before .before .before .before .args .k) h)
+returns c = let h = turned (c .enum-told .given .1) (c .before .before .byte-at .ensures) in c .before .before .byte-at .ensures ∙ h ∙ sym (count-cut _ _ _ _ _ h)
 
 returns-2 : tie.Need-returns-2
-returns-2 c = sym (count-many (testLists (now (c .before .before .before .before .before .before .before .before .before .args .timers)) (now (c .before .before .before .before .before .before .before .before .before .args .codes)) (now (c .before .before .before .before .before .before .before .before .before .args .constants))) (now (c .before .before .before .before .before .before .before .before .before .args .counts)) (c .before .before .before .before .before .before .before .before .before .args .limit) (c .before .before .before .before .before .before .before .before .before .args .i) (c .before .before .before .before .before .before .before .before .before .args .k) (found (c .before .before .a .given .1) (c .before .before .before .before .byte-at .ensures)) (c .if1 .taken))
+returns-2 c = sym (count-many _ _ _ _ _ (found (c .before .before .a .given .1) (c .before .before .before .before .byte-at .ensures)) (c .if1 .taken))
 
 judge-tests-requires : tie.Need-judge-tests-requires
 judge-tests-requires c κs = search needs
 
 returns-3 : tie.Need-returns-3
-returns-3 c = c .judge-tests .ensures ∙ sym (count-tests (testLists (now (c .before .before .before .before .before .before .before .before .before .before .args .timers)) (now (c .before .before .before .before .before .before .before .before .before .before .args .codes)) (now (c .before .before .before .before .before .before .before .before .before .before .args .constants))) (now (c .before .before .before .before .before .before .before .before .before .before .args .counts)) (c .before .before .before .before .before .before .before .before .before .before .args .limit) (c .before .before .before .before .before .before .before .before .before .before .args .i) (c .before .before .before .before .before .before .before .before .before .before .args .k) (found (c .before .before .before .a .given .1) (c .before .before .before .before .before .byte-at .ensures)) (c .before .if1 .left))
+returns-3 c = c .judge-tests .ensures ∙ sym (count-tests _ _ _ _ _ (found (c .before .before .before .a .given .1) (c .before .before .before .before .before .byte-at .ensures)) (c .before .if1 .left))
 
 pub judge-count-spec : {M : Type 1} → statement M
 judge-count-spec =

@@ -1,10 +1,8 @@
-use borrow.Author.Needs.{needs}
 use mathlib.Core.Path.{sym}
+use borrow.Author.Needs.{needs}
 use Rattle.writer.proofs.Judging.{numbers-many, numbers-none, numbers-initial, numbers-timers, numbers-in}
 use Rattle.writer.proofs.judge_numbers.Statement.{statement}
 use Rattle.writer.proofs.judge_numbers.Tie as tie
-use Rattle.writer.proofs.judge_numbers.Reads as reads
-use Rattle.writer.proofs.judge_numbers.Lts as lts
 
 returns : tie.Need-returns
 returns c = sym (numbers-many _ (search needs))

@@ -1,16 +1,10 @@
+use mathlib.Core.Path.{sym, ap, _∙_}
+use borrow.Author.Needs.{needs}
 use Rattle.model.specs.Answer.{result}
-use mathlib.Core.Path.{refl, sym, ap, _∙_}
-use denote.Ref.{now}
 use Rattle.writer.proofs.Answers.{found, turned}
 use Rattle.writer.proofs.Judging.{starts-cut, starts-beyond, starts-in}
-use borrow.Author.Needs.{needs}
 use Rattle.writer.proofs.judge_starts.Statement.{statement}
 use Rattle.writer.proofs.judge_starts.Tie as tie
-use Rattle.writer.proofs.judge_starts.Reads as reads
-use Rattle.writer.proofs.judge_starts.Lts as lts
-use Rattle.timer_set.proofs.TimerSet.all_below.Reads as all-below-reads
-use Rattle.timer_set.proofs.TimerSet.count.Reads as count-reads
-use Rattle.writer.proofs.word_at.Reads as word-at-reads
 
 word-at-requires : tie.Need-word-at-requires
 word-at-requires c κs = search needs
@@ -22,7 +16,7 @@ enum-told : tie.Need-enum-told
 enum-told c = search needs
 
 returns : tie.Need-returns
-returns c = let h = turned (c .enum-told .given .1) (c .before .before .word-at .ensures) in c .before .before .word-at .ensures ∙ h ∙ sym (starts-cut (now (c .before .before .before .before .args .starts)) (c .before .before .before .before .args .timers) (c .before .before .before .before .args .i) h)
+returns c = let h = turned (c .enum-told .given .1) (c .before .before .word-at .ensures) in c .before .before .word-at .ensures ∙ h ∙ sym (starts-cut _ _ _ h)
 
 all-below-requires : tie.Need-all-below-requires
 all-below-requires c κs = search needs
@@ -34,10 +28,10 @@ cast-t10 : tie.Need-cast-t10
 cast-t10 c = search needs
 
 returns-2 : tie.Need-returns-2
-returns-2 c = ap result (c .count .ensures) ∙ sym (starts-in (now (c .before .before .before .before .before .before .before .before .args .starts)) (c .before .before .before .before .before .before .before .before .args .timers) (c .before .before .before .before .before .before .before .before .args .i) (found (c .before .before .before .before .a .given .1) (c .before .before .before .before .before .before .word-at .ensures)) (sym (c .before .before .all-below .ensures) ∙ c .before .if1 .taken) (search needs))
+returns-2 c = ap result (c .count .ensures) ∙ sym (starts-in _ _ _ (found (c .before .before .before .before .a .given .1) (c .before .before .before .before .before .before .word-at .ensures)) (sym (c .before .before .all-below .ensures) ∙ c .before .if1 .taken) (search needs))
 
 returns-3 : tie.Need-returns-3
-returns-3 c = sym (starts-beyond (now (c .before .before .before .before .before .before .before .args .starts)) (c .before .before .before .before .before .before .before .args .timers) (c .before .before .before .before .before .before .before .args .i) (found (c .before .before .before .a .given .1) (c .before .before .before .before .before .word-at .ensures)) (sym (c .before .all-below .ensures) ∙ c .if1 .left))
+returns-3 c = sym (starts-beyond _ _ _ (found (c .before .before .before .a .given .1) (c .before .before .before .before .before .word-at .ensures)) (sym (c .before .all-below .ensures) ∙ c .if1 .left))
 
 pub judge-starts-spec : {M : Type 1} → statement M
 judge-starts-spec =

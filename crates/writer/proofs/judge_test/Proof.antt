@@ -1,17 +1,9 @@
-use mathlib.Core.Path.{refl, sym, ap, _∙_}
-use denote.Ref.{now}
-use Rattle.writer.proofs.Answers.{found, turned}
-use Rattle.writer.specs.Parts.{testLists}
-use Rattle.writer.proofs.Judging.{entry-limited, test-timer, test-code, test-constant}
+use mathlib.Core.Path.{sym, _∙_}
 use borrow.Author.Needs.{needs}
+use Rattle.writer.proofs.Answers.{found, turned}
+use Rattle.writer.proofs.Judging.{entry-limited, test-timer, test-code, test-constant}
 use Rattle.writer.proofs.judge_test.Statement.{statement}
 use Rattle.writer.proofs.judge_test.Tie as tie
-use Rattle.writer.proofs.judge_test.Reads as reads
-use Rattle.writer.proofs.judge_test.Lts as lts
-use Rattle.writer.proofs.below.Reads as below-reads
-use Rattle.writer.proofs.byte_at.Reads as byte-at-reads
-use Rattle.writer.proofs.judge_code.Reads as judge-code-reads
-use Rattle.writer.proofs.pair_at.Reads as pair-at-reads
 
 byte-at-requires : tie.Need-byte-at-requires
 byte-at-requires c κs = search needs
@@ -26,9 +18,9 @@ enum-told-2 : tie.Need-enum-told-2
 enum-told-2 c = search needs
 
 returns : tie.Need-returns
-returns c = let e = entry-limited (now (c .before .before .before .before .before .before .before .args .timers)) (c .before .before .before .before .before .before .before .args .k) (c .before .before .before .before .before .before .before .args .limit) 6 (c .before .before .before .before .before .before .before .args .place) (c .before .before .before .byte-at .ensures) (c .before .before .below .ensures) in
+returns c = let e = entry-limited _ _ _ _ _ (c .before .before .before .byte-at .ensures) (c .before .before .below .ensures) in
     let h = turned (c .enum-told2 .given .1) e in
-    e ∙ h ∙ sym (test-timer (testLists (now (c .before .before .before .before .before .before .before .args .timers)) (now (c .before .before .before .before .before .before .before .args .codes)) (now (c .before .before .before .before .before .before .before .args .constants))) (c .before .before .before .before .before .before .before .args .limit) (c .before .before .before .before .before .before .before .args .place) (c .before .before .before .before .before .before .before .args .k) h)
+    e ∙ h ∙ sym (test-timer _ _ _ _ h)
 
 judge-code-requires : tie.Need-judge-code-requires
 judge-code-requires c κs = search needs
@@ -40,16 +32,16 @@ enum-told-4 : tie.Need-enum-told-4
 enum-told-4 c = search needs
 
 returns-2 : tie.Need-returns-2
-returns-2 c = let e = entry-limited (now (c .before .before .before .before .before .before .before .before .before .before .args .timers)) (c .before .before .before .before .before .before .before .before .before .before .args .k) (c .before .before .before .before .before .before .before .before .before .before .args .limit) 6 (c .before .before .before .before .before .before .before .before .before .before .args .place) (c .before .before .before .before .before .before .byte-at .ensures) (c .before .before .before .before .before .below .ensures) in
+returns-2 c = let e = entry-limited _ _ _ _ _ (c .before .before .before .before .before .before .byte-at .ensures) (c .before .before .before .before .before .below .ensures) in
     let h = turned (c .enum-told4 .given .1) (c .before .before .judge-code .ensures) in
-    c .before .before .judge-code .ensures ∙ h ∙ sym (test-code (testLists (now (c .before .before .before .before .before .before .before .before .before .before .args .timers)) (now (c .before .before .before .before .before .before .before .before .before .before .args .codes)) (now (c .before .before .before .before .before .before .before .before .before .before .args .constants))) (c .before .before .before .before .before .before .before .before .before .before .args .limit) (c .before .before .before .before .before .before .before .before .before .before .args .place) (c .before .before .before .before .before .before .before .before .before .before .args .k) (found (c .before .before .before .enum-told .given .1) e) h)
+    c .before .before .judge-code .ensures ∙ h ∙ sym (test-code _ _ _ _ (found (c .before .before .before .enum-told .given .1) e) h)
 
 pair-at-requires : tie.Need-pair-at-requires
 pair-at-requires c κs = search needs
 
 returns-3 : tie.Need-returns-3
-returns-3 c = let e = entry-limited (now (c .before .before .before .before .before .before .before .before .before .before .before .args .timers)) (c .before .before .before .before .before .before .before .before .before .before .before .args .k) (c .before .before .before .before .before .before .before .before .before .before .before .args .limit) 6 (c .before .before .before .before .before .before .before .before .before .before .before .args .place) (c .before .before .before .before .before .before .before .byte-at .ensures) (c .before .before .before .before .before .before .below .ensures) in
-    c .pair-at .ensures ∙ sym (test-constant (testLists (now (c .before .before .before .before .before .before .before .before .before .before .before .args .timers)) (now (c .before .before .before .before .before .before .before .before .before .before .before .args .codes)) (now (c .before .before .before .before .before .before .before .before .before .before .before .args .constants))) (c .before .before .before .before .before .before .before .before .before .before .before .args .limit) (c .before .before .before .before .before .before .before .before .before .before .before .args .place) (c .before .before .before .before .before .before .before .before .before .before .before .args .k) (found (c .before .before .before .before .enum-told .given .1) e) (found (c .before .enum-told3 .given .1) (c .before .before .before .judge-code .ensures)))
+returns-3 c = let e = entry-limited _ _ _ _ _ (c .before .before .before .before .before .before .before .byte-at .ensures) (c .before .before .before .before .before .before .below .ensures) in
+    c .pair-at .ensures ∙ sym (test-constant _ _ _ _ (found (c .before .before .before .before .enum-told .given .1) e) (found (c .before .enum-told3 .given .1) (c .before .before .before .judge-code .ensures)))
 
 pub judge-test-spec : {M : Type 1} → statement M
 judge-test-spec =

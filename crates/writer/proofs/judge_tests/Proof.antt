@@ -1,17 +1,13 @@
-use borrow.Author.Needs.{needs}
-use Prim.Native.Nat.{_-_, _+_}
 use mathlib.Core.Path.{_≡_, refl, sym, _∙_}
-use denote.Ref.{now}
+use Prim.Native.Nat.{_-_, _+_}
 use native.Mathlib.Omega.{arith}
-use Rattle.writer.proofs.Answers.{found, turned}
+use borrow.Author.Needs.{needs}
 use Rattle.writer.specs.Parts.{testLists}
+use Rattle.writer.proofs.Answers.{found, turned}
 use Rattle.writer.proofs.Items.{turn-done, turn-refused, turn-again}
 use Rattle.writer.proofs.Turns.{TestsTurn, tests-first, test-turned, test-found}
 use Rattle.writer.proofs.judge_tests.Statement.{statement}
 use Rattle.writer.proofs.judge_tests.Tie as tie
-use Rattle.writer.proofs.judge_tests.Reads as reads
-use Rattle.writer.proofs.judge_tests.Lts as lts
-use Rattle.writer.proofs.judge_test.Reads as judge-test-reads
 
 abbrev Inv-loop : tie.InvT-loop
 Inv-loop timers codes constants limit place k g at₀ t₀ at t = (at ≡ k + t) × TestsTurn (testLists timers codes constants) limit place k g at t

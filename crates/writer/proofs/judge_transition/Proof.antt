@@ -1,20 +1,9 @@
-use mathlib.Core.Path.{refl, sym, ap, _∙_}
-use denote.Ref.{now}
+use mathlib.Core.Path.{sym, _∙_}
+use borrow.Author.Needs.{needs}
 use Rattle.writer.proofs.Answers.{found, turned, refused-of}
 use Rattle.writer.proofs.Judging.{transition-ends, transition-starts, transition-tests, transition-in}
-use mathlib.Core.List.{[]}
-use Rattle.chart_lists.specs.Lists.{lists}
-use Rattle.chart_lists.specs.Numbers.{refusedAs}
-use Rattle.writer.specs.Meaning.{refusalOf}
-use borrow.Author.Needs.{needs}
 use Rattle.writer.proofs.judge_transition.Statement.{statement}
 use Rattle.writer.proofs.judge_transition.Tie as tie
-use Rattle.writer.proofs.judge_transition.Reads as reads
-use Rattle.writer.proofs.judge_transition.Lts as lts
-use Rattle.writer.proofs.judge_count.Reads as judge-count-reads
-use Rattle.writer.proofs.judge_ends.Reads as judge-ends-reads
-use Rattle.writer.proofs.judge_starts.Reads as judge-starts-reads
-use Rattle.writer.proofs.refusal_of.Reads as refusal-of-reads
 
 judge-ends-requires : tie.Need-judge-ends-requires
 judge-ends-requires c κs = search needs
@@ -29,7 +18,7 @@ refusal-of-requires : tie.Need-refusal-of-requires
 refusal-of-requires c κs = search needs
 
 returns : tie.Need-returns
-returns c = refused-of (c .before .enum-told2 .given .1) (c .refusal-of .ensures) ∙ sym (transition-ends (lists [] (now (c .before .before .before .before .before .before .before .before .before .before .before .before .args .sources)) (now (c .before .before .before .before .before .before .before .before .before .before .before .before .args .targets)) (now (c .before .before .before .before .before .before .before .before .before .before .before .before .args .events)) (now (c .before .before .before .before .before .before .before .before .before .before .before .before .args .starts)) (now (c .before .before .before .before .before .before .before .before .before .before .before .before .args .counts)) (now (c .before .before .before .before .before .before .before .before .before .before .before .before .args .timers)) (now (c .before .before .before .before .before .before .before .before .before .before .before .before .args .codes)) (now (c .before .before .before .before .before .before .before .before .before .before .before .before .args .constants))) (c .before .before .before .before .before .before .before .before .before .before .before .before .args .m .locations) (c .before .before .before .before .before .before .before .before .before .before .before .before .args .m .timers) (c .before .before .before .before .before .before .before .before .before .before .before .before .args .i) (c .before .before .before .before .before .before .before .before .before .before .before .before .args .k) (turned (c .before .enum-told2 .given .1) (c .before .before .before .judge-ends .ensures)))
+returns c = refused-of (c .before .enum-told2 .given .1) (c .refusal-of .ensures) ∙ sym (transition-ends _ _ _ _ _ (turned (c .before .enum-told2 .given .1) (c .before .before .before .judge-ends .ensures)))
 
 judge-starts-requires : tie.Need-judge-starts-requires
 judge-starts-requires c κs = search needs
@@ -44,7 +33,7 @@ refusal-of-requires-2 : tie.Need-refusal-of-requires-2
 refusal-of-requires-2 c κs = search needs
 
 returns-2 : tie.Need-returns-2
-returns-2 c = refused-of (c .before .enum-told3 .given .1) (c .refusal-of2 .ensures) ∙ sym (transition-starts (lists [] (now (c .before .before .before .before .before .before .before .before .before .before .before .before .before .before .before .args .sources)) (now (c .before .before .before .before .before .before .before .before .before .before .before .before .before .before .before .args .targets)) (now (c .before .before .before .before .before .before .before .before .before .before .before .before .before .before .before .args .events)) (now (c .before .before .before .before .before .before .before .before .before .before .before .before .before .before .before .args .starts)) (now (c .before .before .before .before .before .before .before .before .before .before .before .before .before .before .before .args .counts)) (now (c .before .before .before .before .before .before .before .before .before .before .before .before .before .before .before .args .timers)) (now (c .before .before .before .before .before .before .before .before .before .before .before .before .before .before .before .args .codes)) (now (c .before .before .before .before .before .before .before .before .before .before .before .before .before .before .before .args .constants))) (c .before .before .before .before .before .before .before .before .before .before .before .before .before .before .before .args .m .locations) (c .before .before .before .before .before .before .before .before .before .before .before .before .before .before .before .args .m .timers) (c .before .before .before .before .before .before .before .before .before .before .before .before .before .before .before .args .i) (c .before .before .before .before .before .before .before .before .before .before .before .before .before .before .before .args .k) (found (c .before .before .before .before .enum-told .given .1) (c .before .before .before .before .before .before .judge-ends .ensures)) (turned (c .before .enum-told3 .given .1) (c .before .before .before .judge-starts .ensures)))
+returns-2 c = refused-of (c .before .enum-told3 .given .1) (c .refusal-of2 .ensures) ∙ sym (transition-starts _ _ _ _ _ (found (c .before .before .before .before .enum-told .given .1) (c .before .before .before .before .before .before .judge-ends .ensures)) (turned (c .before .enum-told3 .given .1) (c .before .before .before .judge-starts .ensures)))
 
 judge-count-requires : tie.Need-judge-count-requires
 judge-count-requires c κs = search needs
@@ -59,10 +48,10 @@ refusal-of-requires-3 : tie.Need-refusal-of-requires-3
 refusal-of-requires-3 c κs = search needs
 
 returns-3 : tie.Need-returns-3
-returns-3 c = refused-of (c .before .enum-told4 .given .1) (c .refusal-of3 .ensures) ∙ sym (transition-tests (lists [] (now (c .before .before .before .before .before .before .before .before .before .before .before .before .before .before .before .before .before .before .before .args .sources)) (now (c .before .before .before .before .before .before .before .before .before .before .before .before .before .before .before .before .before .before .before .args .targets)) (now (c .before .before .before .before .before .before .before .before .before .before .before .before .before .before .before .before .before .before .before .args .events)) (now (c .before .before .before .before .before .before .before .before .before .before .before .before .before .before .before .before .before .before .before .args .starts)) (now (c .before .before .before .before .before .before .before .before .before .before .before .before .before .before .before .before .before .before .before .args .counts)) (now (c .before .before .before .before .before .before .before .before .before .before .before .before .before .before .before .before .before .before .before .args .timers)) (now (c .before .before .before .before .before .before .before .before .before .before .before .before .before .before .before .before .before .before .before .args .codes)) (now (c .before .before .before .before .before .before .before .before .before .before .before .before .before .before .before .before .before .before .before .args .constants))) (c .before .before .before .before .before .before .before .before .before .before .before .before .before .before .before .before .before .before .before .args .m .locations) (c .before .before .before .before .before .before .before .before .before .before .before .before .before .before .before .before .before .before .before .args .m .timers) (c .before .before .before .before .before .before .before .before .before .before .before .before .before .before .before .before .before .before .before .args .i) (c .before .before .before .before .before .before .before .before .before .before .before .before .before .before .before .before .before .before .before .args .k) (found (c .before .before .before .before .before .before .before .before .enum-told .given .1) (c .before .before .before .before .before .before .before .before .before .before .judge-ends .ensures)) (found (c .before .before .before .before .before .b .given .1) (c .before .before .before .before .before .before .before .judge-starts .ensures)) (turned (c .before .enum-told4 .given .1) (c .before .before .before .judge-count .ensures)))
+returns-3 c = refused-of (c .before .enum-told4 .given .1) (c .refusal-of3 .ensures) ∙ sym (transition-tests _ _ _ _ _ (found (c .before .before .before .before .before .before .before .before .enum-told .given .1) (c .before .before .before .before .before .before .before .before .before .before .judge-ends .ensures)) (found (c .before .before .before .before .before .b .given .1) (c .before .before .before .before .before .before .before .judge-starts .ensures)) (turned (c .before .enum-told4 .given .1) (c .before .before .before .judge-count .ensures)))
 
 returns-4 : tie.Need-returns-4
-returns-4 c = sym (transition-in (lists [] (now (c .before .before .before .before .before .before .before .before .before .before .before .before .before .before .before .before .before .before .before .args .sources)) (now (c .before .before .before .before .before .before .before .before .before .before .before .before .before .before .before .before .before .before .before .args .targets)) (now (c .before .before .before .before .before .before .before .before .before .before .before .before .before .before .before .before .before .before .before .args .events)) (now (c .before .before .before .before .before .before .before .before .before .before .before .before .before .before .before .before .before .before .before .args .starts)) (now (c .before .before .before .before .before .before .before .before .before .before .before .before .before .before .before .before .before .before .before .args .counts)) (now (c .before .before .before .before .before .before .before .before .before .before .before .before .before .before .before .before .before .before .before .args .timers)) (now (c .before .before .before .before .before .before .before .before .before .before .before .before .before .before .before .before .before .before .before .args .codes)) (now (c .before .before .before .before .before .before .before .before .before .before .before .before .before .before .before .before .before .before .before .args .constants))) (c .before .before .before .before .before .before .before .before .before .before .before .before .before .before .before .before .before .before .before .args .m .locations) (c .before .before .before .before .before .before .before .before .before .before .before .before .before .before .before .before .before .before .before .args .m .timers) (c .before .before .before .before .before .before .before .before .before .before .before .before .before .before .before .before .before .before .before .args .i) (c .before .before .before .before .before .before .before .before .before .before .before .before .before .before .before .before .before .before .before .args .k) (found (c .before .before .before .before .before .before .before .before .enum-told .given .1) (c .before .before .before .before .before .before .before .before .before .before .judge-ends .ensures)) (found (c .before .before .before .before .before .b .given .1) (c .before .before .before .before .before .before .before .judge-starts .ensures)) (found (c .before .d .given .1) (c .before .before .before .judge-count .ensures)))
+returns-4 c = sym (transition-in _ _ _ _ _ (found (c .before .before .before .before .before .before .before .before .enum-told .given .1) (c .before .before .before .before .before .before .before .before .before .before .judge-ends .ensures)) (found (c .before .before .before .before .before .b .given .1) (c .before .before .before .before .before .before .before .judge-starts .ensures)) (found (c .before .d .given .1) (c .before .before .before .judge-count .ensures)))
 
 pub judge-transition-spec : {M : Type 1} → statement M
 judge-transition-spec =

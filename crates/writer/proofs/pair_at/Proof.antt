@@ -1,11 +1,9 @@
 use mathlib.Core.Path.{sym}
 use native.Mathlib.Omega.{arith}
-use Rattle.writer.proofs.Entries.{entry-in, entry-out}
 use borrow.Author.Needs.{needs}
+use Rattle.writer.proofs.Entries.{entry-in, entry-out}
 use Rattle.writer.proofs.pair_at.Statement.{statement}
 use Rattle.writer.proofs.pair_at.Tie as tie
-use Rattle.writer.proofs.pair_at.Reads as reads
-use Rattle.writer.proofs.pair_at.Lts as lts
 
 mul-t6 : tie.Need-mul-t6
 mul-t6 c = search needs

@@ -1,19 +1,16 @@
-use borrow.Author.Needs.{needs}
-use Prim.Native.Nat.{_-_}
-use mathlib.Core.Path.{refl, sym, ap, _∙_}
+use mathlib.Core.Path.{refl}
+use Prim.Native.Nat.{_+_, _-_, _≤_}
 use denote.Ref.{now}
 use native.Mathlib.Omega.{arith}
-use lib.ListN.{getD}
+use lib.ListN.{length, getD}
+use borrow.Author.Needs.{needs}
 use Rattle.file_format.proofs.Lengths.{length-digits}
 use Rattle.file_format.specs.Parse.{digits}
 use Rattle.writer.specs.Bytes.{numberBytes}
 use Rattle.writer.proofs.Part.{mid-room}
-use Rattle.writer.proofs.Writes.{Wrote, wrote-first, wrote-done, wrote-room, wrote-none, wrote-again, even-room}
+use Rattle.writer.proofs.Writes.{Wrote, wrote-first, wrote-done, wrote-again, even-room}
 use Rattle.writer.proofs.put_accepting.Statement.{statement}
 use Rattle.writer.proofs.put_accepting.Tie as tie
-use Rattle.writer.proofs.put_accepting.Reads as reads
-use Rattle.writer.proofs.put_accepting.Lts as lts
-use Rattle.writer.proofs.put_pair.Reads as put-pair-reads
 
 abbrev Inv-loop : tie.InvT-loop
 Inv-loop out₀ accepting n at₀ i₀ out at i = Wrote (λ i. digits 2 (getD accepting i 0)) n out₀ out at i
@@ -24,11 +21,14 @@ abbrev μ-loop : tie.MeasureT-loop
 loop-holds : tie.Need-loop-holds Inv-loop μ-loop
 loop-holds c = wrote-first _ _ _
 
+room : (c : tie.In-loop Inv-loop μ-loop) → c .before .loop .at + 2 ≤ length (c .before .loop .out)
+room c = even-room _ 2 (λ i. length-digits 2 _) _ (c .before .loop .inv) (c .loop-test .taken) (c .before .before .before .before .pre .1)
+
 sub-put-pair : tie.Need-sub-put-pair Inv-loop μ-loop
-sub-put-pair c = let r = even-room (λ i. digits 2 (getD (now (c .before .before .before .before .args .accepting)) i 0)) 2 (λ i. length-digits 2 _) (c .before .before .before .before .args .n) (c .before .loop .inv) (c .loop-test .taken) (c .before .before .before .before .pre .1) in omega arith
+sub-put-pair c = omega (arith, room c)
 
 part-put-pair-start : tie.Need-part-put-pair-start Inv-loop μ-loop
-part-put-pair-start c = let r = even-room (λ i. digits 2 (getD (now (c .before .before .before .before .args .accepting)) i 0)) 2 (λ i. length-digits 2 _) (c .before .before .before .before .args .n) (c .before .loop .inv) (c .loop-test .taken) (c .before .before .before .before .pre .1) in omega arith
+part-put-pair-start c = omega (arith, room c)
 
 part-put-pair-end : tie.Need-part-put-pair-end Inv-loop μ-loop
 part-put-pair-end c = search needs
@@ -43,10 +43,10 @@ shared-slice-read-put-pair : tie.Need-shared-slice-read-put-pair Inv-loop μ-loo
 shared-slice-read-put-pair c = search needs
 
 put-pair-requires : tie.Need-put-pair-requires Inv-loop μ-loop
-put-pair-requires c κs = let r = even-room (λ i. digits 2 (getD (now (c .before .before .before .before .before .before .args .accepting)) i 0)) 2 (λ i. length-digits 2 _) (c .before .before .before .before .before .before .args .n) (c .before .before .before .loop .inv) (c .before .before .loop-test .taken) (c .before .before .before .before .before .before .pre .1) in mid-room (c .before .before .before .loop .at) (c .before .before .before .loop .out) 2 r
+put-pair-requires c κs = mid-room (c .before .before .before .loop .at) (c .before .before .before .loop .out) 2 (room (c .before .before))
 
 add-at : tie.Need-add-at Inv-loop μ-loop
-add-at c = let r = even-room (λ i. digits 2 (getD (now (c .before .before .before .before .before .before .before .before .before .args .accepting)) i 0)) 2 (λ i. length-digits 2 _) (c .before .before .before .before .before .before .before .before .before .args .n) (c .before .before .before .before .before .before .loop .inv) (c .before .before .before .before .before .loop-test .taken) (c .before .before .before .before .before .before .before .before .before .pre .1) in omega (arith, c .before .before .before .before .before .before .before .before .before .good)
+add-at c = omega (arith, room (c .before .before .before .before .before), c .before .before .before .before .before .before .before .before .before .good)
 
 add-i : tie.Need-add-i Inv-loop μ-loop
 add-i c = search needs

@@ -1,10 +1,8 @@
 use denote.Ref.{now}
-use Rattle.writer.proofs.Part.{put-one}
 use borrow.Author.Needs.{needs}
+use Rattle.writer.proofs.Part.{put-one}
 use Rattle.writer.proofs.put_byte.Statement.{statement}
 use Rattle.writer.proofs.put_byte.Tie as tie
-use Rattle.writer.proofs.put_byte.Reads as reads
-use Rattle.writer.proofs.put_byte.Lts as lts
 
 slice-write-out : tie.Need-slice-write-out
 slice-write-out c = search needs

@@ -1,16 +1,11 @@
-use lib.ListN.{length-append}
 use mathlib.Core.List.{append-assoc}
-use Rattle.file_format.proofs.Lengths.{length-digits}
-use Rattle.writer.proofs.Part.{laid-first, laid-next, laid-done}
-use Rattle.writer.specs.Bytes.{frontBytes}
+use lib.ListN.{length-append}
 use borrow.Author.Needs.{needs}
+use Rattle.file_format.proofs.Lengths.{length-digits}
+use Rattle.writer.specs.Bytes.{frontBytes}
+use Rattle.writer.proofs.Part.{laid-first, laid-next, laid-done}
 use Rattle.writer.proofs.put_front.Statement.{statement}
 use Rattle.writer.proofs.put_front.Tie as tie
-use Rattle.writer.proofs.put_front.Reads as reads
-use Rattle.writer.proofs.put_front.Lts as lts
-use Rattle.writer.proofs.put_byte.Reads as put-byte-reads
-use Rattle.writer.proofs.put_pair.Reads as put-pair-reads
-use Rattle.writer.proofs.put_quad.Reads as put-quad-reads
 
 put-byte-requires : tie.Need-put-byte-requires
 put-byte-requires c κs = search needs

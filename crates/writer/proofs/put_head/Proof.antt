@@ -1,15 +1,11 @@
-use lib.ListN.{length-append}
 use mathlib.Core.List.{append-assoc}
-use Rattle.file_format.proofs.Lengths.{length-digits}
-use Rattle.writer.proofs.Part.{laid-first, laid-next, laid-done}
-use Rattle.writer.specs.Bytes.{headBytes}
+use lib.ListN.{length-append}
 use borrow.Author.Needs.{needs}
+use Rattle.file_format.proofs.Lengths.{length-digits}
+use Rattle.writer.specs.Bytes.{headBytes}
+use Rattle.writer.proofs.Part.{laid-first, laid-next, laid-done}
 use Rattle.writer.proofs.put_head.Statement.{statement}
 use Rattle.writer.proofs.put_head.Tie as tie
-use Rattle.writer.proofs.put_head.Reads as reads
-use Rattle.writer.proofs.put_head.Lts as lts
-use Rattle.writer.proofs.put_byte.Reads as put-byte-reads
-use Rattle.writer.proofs.put_pair.Reads as put-pair-reads
 
 put-pair-requires : tie.Need-put-pair-requires
 put-pair-requires c κs = search needs

@@ -1,10 +1,8 @@
 use denote.Ref.{now}
-use Rattle.writer.proofs.Part.{put-two}
 use borrow.Author.Needs.{needs}
+use Rattle.writer.proofs.Part.{put-two}
 use Rattle.writer.proofs.put_pair.Statement.{statement}
 use Rattle.writer.proofs.put_pair.Tie as tie
-use Rattle.writer.proofs.put_pair.Reads as reads
-use Rattle.writer.proofs.put_pair.Lts as lts
 
 cast-out : tie.Need-cast-out
 cast-out c = search needs

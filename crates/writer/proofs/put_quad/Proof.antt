@@ -1,13 +1,9 @@
 use lib.ListN.{length-append}
-use Rattle.file_format.proofs.Lengths.{length-digits}
-use Rattle.writer.proofs.Part.{laid-first, laid-next, laid-done}
-use Rattle.writer.proofs.Part.{digits-four}
 use borrow.Author.Needs.{needs}
+use Rattle.file_format.proofs.Lengths.{length-digits}
+use Rattle.writer.proofs.Part.{laid-first, laid-next, laid-done, digits-four}
 use Rattle.writer.proofs.put_quad.Statement.{statement}
 use Rattle.writer.proofs.put_quad.Tie as tie
-use Rattle.writer.proofs.put_quad.Reads as reads
-use Rattle.writer.proofs.put_quad.Lts as lts
-use Rattle.writer.proofs.put_pair.Reads as put-pair-reads
 
 cast-put-pair : tie.Need-cast-put-pair
 cast-put-pair c = search needs

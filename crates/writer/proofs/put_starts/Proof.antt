@@ -1,20 +1,14 @@
-use borrow.Author.Needs.{needs}
-use Prim.Native.Nat.{_-_}
-use mathlib.Core.Path.{_≡_, refl, sym, ap, _∙_}
-use denote.Ref.{now}
+use mathlib.Core.Path.{_≡_, sym, ap, _∙_}
+use Prim.Native.Nat.{_+_, _-_, _≤_}
 use native.Mathlib.Omega.{arith}
 use lib.ListN.{length}
+use borrow.Author.Needs.{needs}
 use Rattle.file_format.proofs.Lengths.{length-digits}
-use Rattle.timer_set.specs.Members.{members}
 use Rattle.writer.proofs.Fields.{startItem, start-in, start-out, starts-bytes, length-starts}
 use Rattle.writer.proofs.Part.{mid-room}
-use Rattle.writer.proofs.Writes.{Wrote, wrote-first, wrote-done, wrote-room, wrote-none, wrote-again, even-room}
+use Rattle.writer.proofs.Writes.{Wrote, wrote-first, wrote-done, wrote-room, wrote-none, wrote-again}
 use Rattle.writer.proofs.put_starts.Statement.{statement}
 use Rattle.writer.proofs.put_starts.Tie as tie
-use Rattle.writer.proofs.put_starts.Reads as reads
-use Rattle.writer.proofs.put_starts.Lts as lts
-use Rattle.timer_set.proofs.TimerSet.has.Reads as has-reads
-use Rattle.writer.proofs.put_byte.Reads as put-byte-reads
 
 abbrev Inv-loop : tie.InvT-loop
 Inv-loop out₀ set at₀ j₀ out at j = Wrote (startItem (set .bits)) 64 out₀ out at j
@@ -31,32 +25,28 @@ add-j c = search needs
 has-requires : tie.Need-has-requires Inv-loop μ-loop
 has-requires c κs = search needs
 
+room : (c : tie.Then1 Inv-loop μ-loop) → c .before .before .before .loop .at + 1 ≤ length (c .before .before .before .loop .out)
+room c =
+    let w = c .before .before .before .before .before .args .set .bits in
+    let l = c .before .before .before .loop in
+    let e : length (startItem w (l .j)) ≡ 1 = ap length (start-in w (l .j) (sym (c .before .has .ensures) ∙ c .if1 .taken)) ∙ length-digits 1 (l .j) in
+    let b = ap length (starts-bytes w) ∙ length-starts w in
+    rw e at (wrote-room (l .inv) (c .before .before .loop-test .taken) (rw b (c .before .before .before .before .before .pre)))
+
 sub-put-byte : tie.Need-sub-put-byte Inv-loop μ-loop
-sub-put-byte c = let e : length (startItem (c .before .before .before .before .before .args .set .bits) (c .before .before .before .loop .j)) ≡ 1 = ap length (start-in (c .before .before .before .before .before .args .set .bits) (c .before .before .before .loop .j) (sym (c .before .has .ensures) ∙ c .if1 .taken)) ∙ length-digits 1 (c .before .before .before .loop .j) in
-    let b = ap length (starts-bytes (c .before .before .before .before .before .args .set .bits)) ∙ length-starts (c .before .before .before .before .before .args .set .bits) in
-    let r = wrote-room (c .before .before .before .loop .inv) (c .before .before .loop-test .taken) (rw b (c .before .before .before .before .before .pre)) in
-    omega arith
+sub-put-byte c = omega (arith, room c)
 
 part-put-byte-start : tie.Need-part-put-byte-start Inv-loop μ-loop
-part-put-byte-start c = let e : length (startItem (c .before .before .before .before .before .args .set .bits) (c .before .before .before .loop .j)) ≡ 1 = ap length (start-in (c .before .before .before .before .before .args .set .bits) (c .before .before .before .loop .j) (sym (c .before .has .ensures) ∙ c .if1 .taken)) ∙ length-digits 1 (c .before .before .before .loop .j) in
-    let b = ap length (starts-bytes (c .before .before .before .before .before .args .set .bits)) ∙ length-starts (c .before .before .before .before .before .args .set .bits) in
-    let r = wrote-room (c .before .before .before .loop .inv) (c .before .before .loop-test .taken) (rw b (c .before .before .before .before .before .pre)) in
-    omega arith
+part-put-byte-start c = omega (arith, room c)
 
 part-put-byte-end : tie.Need-part-put-byte-end Inv-loop μ-loop
 part-put-byte-end c = search needs
 
 put-byte-requires : tie.Need-put-byte-requires Inv-loop μ-loop
-put-byte-requires c κs = let e : length (startItem (c .before .before .before .before .before .before .args .set .bits) (c .before .before .before .before .loop .j)) ≡ 1 = ap length (start-in (c .before .before .before .before .before .before .args .set .bits) (c .before .before .before .before .loop .j) (sym (c .before .before .has .ensures) ∙ c .before .if1 .taken)) ∙ length-digits 1 (c .before .before .before .before .loop .j) in
-    let b = ap length (starts-bytes (c .before .before .before .before .before .before .args .set .bits)) ∙ length-starts (c .before .before .before .before .before .before .args .set .bits) in
-    let r = wrote-room (c .before .before .before .before .loop .inv) (c .before .before .before .loop-test .taken) (rw b (c .before .before .before .before .before .before .pre)) in
-    mid-room (c .before .before .before .before .loop .at) (c .before .before .before .before .loop .out) 1 (rw e at r)
+put-byte-requires c κs = mid-room (c .before .before .before .before .loop .at) (c .before .before .before .before .loop .out) 1 (room (c .before))
 
 add-at : tie.Need-add-at Inv-loop μ-loop
-add-at c = let e : length (startItem (c .before .before .before .before .before .before .before .before .before .args .set .bits) (c .before .before .before .before .before .before .before .loop .j)) ≡ 1 = ap length (start-in (c .before .before .before .before .before .before .before .before .before .args .set .bits) (c .before .before .before .before .before .before .before .loop .j) (sym (c .before .before .before .before .before .has .ensures) ∙ c .before .before .before .before .if1 .taken)) ∙ length-digits 1 (c .before .before .before .before .before .before .before .loop .j) in
-    let b = ap length (starts-bytes (c .before .before .before .before .before .before .before .before .before .args .set .bits)) ∙ length-starts (c .before .before .before .before .before .before .before .before .before .args .set .bits) in
-    let r = wrote-room (c .before .before .before .before .before .before .before .loop .inv) (c .before .before .before .before .before .before .loop-test .taken) (rw b (c .before .before .before .before .before .before .before .before .before .pre)) in
-    omega (arith, c .before .before .before .before .before .before .before .before .before .good)
+add-at c = omega (arith, room (c .before .before .before .before), c .before .before .before .before .before .before .before .before .before .good)
 
 loop-less : tie.Need-loop-less Inv-loop μ-loop
 loop-less c = search needs

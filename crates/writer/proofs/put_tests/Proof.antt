@@ -1,18 +1,16 @@
-use borrow.Author.Needs.{needs}
-use Prim.Native.Nat.{_-_, _+_}
-use mathlib.Core.Path.{_≡_, refl, sym, ap, _∙_}
+use mathlib.Core.Path.{_≡_}
+use Prim.Native.Nat.{_+_, _-_, _≤_}
 use denote.Ref.{now}
 use native.Mathlib.Omega.{arith}
+use lib.ListN.{length}
+use borrow.Author.Needs.{needs}
 use Rattle.writer.specs.Parts.{testLists}
 use Rattle.writer.specs.Bytes.{testAt, testsBytes}
-use Rattle.writer.proofs.Fields.{length-test, length-testAt}
+use Rattle.writer.proofs.Fields.{length-testAt}
 use Rattle.writer.proofs.Part.{mid-room}
-use Rattle.writer.proofs.Writes.{Wrote, wrote-first, wrote-done, wrote-room, wrote-none, wrote-again, even-room}
+use Rattle.writer.proofs.Writes.{Wrote, wrote-first, wrote-done, wrote-again, even-room}
 use Rattle.writer.proofs.put_tests.Statement.{statement}
 use Rattle.writer.proofs.put_tests.Tie as tie
-use Rattle.writer.proofs.put_tests.Reads as reads
-use Rattle.writer.proofs.put_tests.Lts as lts
-use Rattle.writer.proofs.put_test.Reads as put-test-reads
 
 abbrev Inv-loop : tie.InvT-loop
 Inv-loop out₀ timers codes constants k g at₀ here₀ t₀ out at here t = (here ≡ k + t) × Wrote (λ t. testAt (testLists timers codes constants) (k + t)) g out₀ out at t
@@ -23,11 +21,14 @@ abbrev μ-loop : tie.MeasureT-loop
 loop-holds : tie.Need-loop-holds Inv-loop μ-loop
 loop-holds c = (omega arith, wrote-first _ _ _)
 
+room : (c : tie.In-loop Inv-loop μ-loop) → c .before .loop .at + 4 ≤ length (c .before .loop .out)
+room c = even-room _ 4 (λ t. length-testAt _ _) _ (c .before .loop .inv .1) (c .loop-test .taken) (c .before .before .before .before .before .before .pre .3)
+
 sub-put-test : tie.Need-sub-put-test Inv-loop μ-loop
-sub-put-test c = let r = even-room (λ t. testAt (testLists (now (c .before .before .before .before .before .before .args .timers)) (now (c .before .before .before .before .before .before .args .codes)) (now (c .before .before .before .before .before .before .args .constants))) (c .before .before .before .before .before .before .args .k + t)) 4 (λ t. length-testAt (testLists (now (c .before .before .before .before .before .before .args .timers)) (now (c .before .before .before .before .before .before .args .codes)) (now (c .before .before .before .before .before .before .args .constants))) (c .before .before .before .before .before .before .args .k + t)) (c .before .before .before .before .before .before .args .g) (c .before .loop .inv .1) (c .loop-test .taken) (c .before .before .before .before .before .before .pre .3) in omega arith
+sub-put-test c = omega (arith, room c)
 
 part-put-test-start : tie.Need-part-put-test-start Inv-loop μ-loop
-part-put-test-start c = let r = even-room (λ t. testAt (testLists (now (c .before .before .before .before .before .before .args .timers)) (now (c .before .before .before .before .before .before .args .codes)) (now (c .before .before .before .before .before .before .args .constants))) (c .before .before .before .before .before .before .args .k + t)) 4 (λ t. length-testAt (testLists (now (c .before .before .before .before .before .before .args .timers)) (now (c .before .before .before .before .before .before .args .codes)) (now (c .before .before .before .before .before .before .args .constants))) (c .before .before .before .before .before .before .args .k + t)) (c .before .before .before .before .before .before .args .g) (c .before .loop .inv .1) (c .loop-test .taken) (c .before .before .before .before .before .before .pre .3) in omega arith
+part-put-test-start c = omega (arith, room c)
 
 part-put-test-end : tie.Need-part-put-test-end Inv-loop μ-loop
 part-put-test-end c = search needs
@@ -45,10 +46,10 @@ shared-slice-read-put-test-3 : tie.Need-shared-slice-read-put-test-3 Inv-loop μ
 shared-slice-read-put-test-3 c = search needs
 
 put-test-requires : tie.Need-put-test-requires Inv-loop μ-loop
-put-test-requires c κs = let r = even-room (λ t. testAt (testLists (now (c .before .before .before .before .before .before .before .before .before .before .args .timers)) (now (c .before .before .before .before .before .before .before .before .before .before .args .codes)) (now (c .before .before .before .before .before .before .before .before .before .before .args .constants))) (c .before .before .before .before .before .before .before .before .before .before .args .k + t)) 4 (λ t. length-testAt (testLists (now (c .before .before .before .before .before .before .before .before .before .before .args .timers)) (now (c .before .before .before .before .before .before .before .before .before .before .args .codes)) (now (c .before .before .before .before .before .before .before .before .before .before .args .constants))) (c .before .before .before .before .before .before .before .before .before .before .args .k + t)) (c .before .before .before .before .before .before .before .before .before .before .args .g) (c .before .before .before .before .before .loop .inv .1) (c .before .before .before .before .loop-test .taken) (c .before .before .before .before .before .before .before .before .before .before .pre .3) in mid-room (c .before .before .before .before .before .loop .at) (c .before .before .before .before .before .loop .out) 4 r
+put-test-requires c κs = mid-room (c .before .before .before .before .before .loop .at) (c .before .before .before .before .before .loop .out) 4 (room (c .before .before .before .before))
 
 add-at : tie.Need-add-at Inv-loop μ-loop
-add-at c = let r = even-room (λ t. testAt (testLists (now (c .before .before .before .before .before .before .before .before .before .before .before .before .before .args .timers)) (now (c .before .before .before .before .before .before .before .before .before .before .before .before .before .args .codes)) (now (c .before .before .before .before .before .before .before .before .before .before .before .before .before .args .constants))) (c .before .before .before .before .before .before .before .before .before .before .before .before .before .args .k + t)) 4 (λ t. length-testAt (testLists (now (c .before .before .before .before .before .before .before .before .before .before .before .before .before .args .timers)) (now (c .before .before .before .before .before .before .before .before .before .before .before .before .before .args .codes)) (now (c .before .before .before .before .before .before .before .before .before .before .before .before .before .args .constants))) (c .before .before .before .before .before .before .before .before .before .before .before .before .before .args .k + t)) (c .before .before .before .before .before .before .before .before .before .before .before .before .before .args .g) (c .before .before .before .before .before .before .before .before .loop .inv .1) (c .before .before .before .before .before .before .before .loop-test .taken) (c .before .before .before .before .before .before .before .before .before .before .before .before .before .pre .3) in omega (arith, c .before .before .before .before .before .before .before .before .before .before .before .before .before .good)
+add-at c = omega (arith, room (c .before .before .before .before .before .before .before), c .before .before .before .before .before .before .before .before .before .before .before .before .before .good)
 
 add-here : tie.Need-add-here Inv-loop μ-loop
 add-here c = search needs
@@ -61,7 +62,8 @@ loop-less c = search needs
 
 loop-again : tie.Need-loop-again Inv-loop μ-loop
 unfolding testAt
-loop-again c = (omega (arith, c .before .before .before .before .before .before .before .before .loop .inv .0), wrote-again (c .before .before .before .before .before .before .before .before .loop .inv .1) (c .before .before .before .before .before .before .before .loop-test .taken) (rw (← c .before .before .before .before .before .before .before .before .loop .inv .0)) (c .before .before .put-test .ensures) (c .before .before .put-test .kept .0) (omega (arith, length-testAt (testLists (now (c .before .before .before .before .before .before .before .before .before .before .before .before .before .args .timers)) (now (c .before .before .before .before .before .before .before .before .before .before .before .before .before .args .codes)) (now (c .before .before .before .before .before .before .before .before .before .before .before .before .before .args .constants))) (c .before .before .before .before .before .before .before .before .loop .here))))
+loop-again c = let a = c .before .before .before .before .before .before .before .before .before .before .before .before .before .args in
+    (omega (arith, c .before .before .before .before .before .before .before .before .loop .inv .0), wrote-again (c .before .before .before .before .before .before .before .before .loop .inv .1) (c .before .before .before .before .before .before .before .loop-test .taken) (rw (← c .before .before .before .before .before .before .before .before .loop .inv .0)) (c .before .before .put-test .ensures) (c .before .before .put-test .kept .0) (omega (arith, length-testAt (testLists (now (a .timers)) (now (a .codes)) (now (a .constants))) (c .before .before .before .before .before .before .before .before .loop .here))))
 
 same-length : tie.Need-same-length Inv-loop μ-loop
 same-length c = c .before .loop .inv .1 .long

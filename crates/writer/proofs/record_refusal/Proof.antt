@@ -1,10 +1,8 @@
 use mathlib.Core.Path.{sym, ap}
-use Rattle.writer.specs.Meaning.{recordRefusal}
 use borrow.Author.Needs.{needs}
+use Rattle.writer.specs.Meaning.{recordRefusal}
 use Rattle.writer.proofs.record_refusal.Statement.{statement}
 use Rattle.writer.proofs.record_refusal.Tie as tie
-use Rattle.writer.proofs.record_refusal.Reads as reads
-use Rattle.writer.proofs.record_refusal.Lts as lts
 
 enum-known-a : tie.Need-enum-known-a
 enum-known-a c = search needs

@@ -1,10 +1,8 @@
 use mathlib.Core.Path.{sym, ap}
-use Rattle.writer.specs.Meaning.{refusalOf}
 use borrow.Author.Needs.{needs}
+use Rattle.writer.specs.Meaning.{refusalOf}
 use Rattle.writer.proofs.refusal_of.Statement.{statement}
 use Rattle.writer.proofs.refusal_of.Tie as tie
-use Rattle.writer.proofs.refusal_of.Reads as reads
-use Rattle.writer.proofs.refusal_of.Lts as lts
 
 enum-known-a : tie.Need-enum-known-a
 enum-known-a c = search needs

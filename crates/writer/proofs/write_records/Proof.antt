@@ -1,17 +1,14 @@
-use borrow.Author.Needs.{needs}
-use Prim.Native.Nat.{ℕ, _+_, _-_}
-use mathlib.Core.Path.{refl, sym, ap, _∙_}
+use mathlib.Core.Path.{ap}
 use mathlib.Core.List.{[]}
+use Prim.Native.Nat.{ℕ, _+_, _-_}
 use denote.Ref.{now}
 use native.Mathlib.Omega.{arith}
+use borrow.Author.Needs.{needs}
 use Rattle.chart_lists.specs.Lists.{Lists, lists}
 use Rattle.writer.proofs.Part.{mid-room}
 use Rattle.writer.proofs.Records.{Writing, writing-first, writing-done, Next, writing-next, writing-again}
 use Rattle.writer.proofs.write_records.Statement.{statement}
 use Rattle.writer.proofs.write_records.Tie as tie
-use Rattle.writer.proofs.write_records.Reads as reads
-use Rattle.writer.proofs.write_records.Lts as lts
-use Rattle.writer.proofs.write_record.Reads as write-record-reads
 
 abbrev Inv-loop : tie.InvT-loop
 Inv-loop out₀ m sources targets events starts counts timers codes constants at₀ k₀ i₀ out at k i = Writing (lists [] sources targets events starts counts timers codes constants) (m .locations) (m .timers) (m .transitions) out₀ out at k i
@@ -20,7 +17,7 @@ abbrev μ-loop : tie.MeasureT-loop
 μ-loop out₀ m sources targets events starts counts timers codes constants at₀ k₀ i₀ out at k i = m .transitions - i
 
 loop-holds : tie.Need-loop-holds Inv-loop μ-loop
-loop-holds c = writing-first (lists [] (now (c .before .before .before .before .before .before .before .before .before .args .sources)) (now (c .before .before .before .before .before .before .before .before .before .args .targets)) (now (c .before .before .before .before .before .before .before .before .before .args .events)) (now (c .before .before .before .before .before .before .before .before .before .args .starts)) (now (c .before .before .before .before .before .before .before .before .before .args .counts)) (now (c .before .before .before .before .before .before .before .before .before .args .timers)) (now (c .before .before .before .before .before .before .before .before .before .args .codes)) (now (c .before .before .before .before .before .before .before .before .before .args .constants))) (c .before .before .before .before .before .before .before .before .before .args .m .locations) (c .before .before .before .before .before .before .before .before .before .args .m .timers) (c .before .before .before .before .before .before .before .before .before .args .m .transitions) (now (c .before .before .before .before .before .before .before .before .before .args .out)) (c .before .before .before .before .before .before .before .before .before .pre)
+loop-holds c = writing-first _ _ _ _ _ (c .before .before .before .before .before .before .before .before .before .pre)
 
 cast-if1 : tie.Need-cast-if1 Inv-loop μ-loop
 cast-if1 c = search needs
@@ -37,7 +34,7 @@ handed-lists c =
 next : (c : tie.Then1 Inv-loop μ-loop)
     → Next (handed-lists c) (start c .args .m .locations) (start c .args .m .timers) (start c .args .m .transitions) (now (start c .args .out)) (start c .pre)
     (c .before .before .loop .inv) (c .if1 .taken)
-next c = writing-next (handed-lists c) (start c .args .m .locations) (start c .args .m .timers) (start c .args .m .transitions) (now (start c .args .out)) (start c .pre) (c .before .before .loop .inv) (c .if1 .taken)
+next c = writing-next _ _ _ _ _ (start c .pre) (c .before .before .loop .inv) (c .if1 .taken)
 
 shared-slice-read-g : tie.Need-shared-slice-read-g Inv-loop μ-loop
 shared-slice-read-g c = next (c .before) .count
@@ -91,13 +88,13 @@ loop-less : tie.Need-loop-less Inv-loop μ-loop
 loop-less c = search needs
 
 loop-again : tie.Need-loop-again Inv-loop μ-loop
-loop-again c = writing-again (lists [] (now (c .before .before .before .before .before .before .before .before .before .before .before .before .before .before .before .before .before .before .before .before .before .args .sources)) (now (c .before .before .before .before .before .before .before .before .before .before .before .before .before .before .before .before .before .before .before .before .before .args .targets)) (now (c .before .before .before .before .before .before .before .before .before .before .before .before .before .before .before .before .before .before .before .before .before .args .events)) (now (c .before .before .before .before .before .before .before .before .before .before .before .before .before .before .before .before .before .before .before .before .before .args .starts)) (now (c .before .before .before .before .before .before .before .before .before .before .before .before .before .before .before .before .before .before .before .before .before .args .counts)) (now (c .before .before .before .before .before .before .before .before .before .before .before .before .before .before .before .before .before .before .before .before .before .args .timers)) (now (c .before .before .before .before .before .before .before .before .before .before .before .before .before .before .before .before .before .before .before .before .before .args .codes)) (now (c .before .before .before .before .before .before .before .before .before .before .before .before .before .before .before .before .before .before .before .before .before .args .constants))) (c .before .before .before .before .before .before .before .before .before .before .before .before .before .before .before .before .before .before .before .before .before .args .m .locations) (c .before .before .before .before .before .before .before .before .before .before .before .before .before .before .before .before .before .before .before .before .before .args .m .timers) (c .before .before .before .before .before .before .before .before .before .before .before .before .before .before .before .before .before .before .before .before .before .args .m .transitions) (now (c .before .before .before .before .before .before .before .before .before .before .before .before .before .before .before .before .before .before .before .before .before .args .out)) (c .before .before .before .before .before .before .before .before .before .before .before .before .before .before .before .before .before .before .before .before .before .pre) (c .before .before .before .before .before .before .before .before .before .before .before .loop .inv) (c .before .before .before .before .before .before .before .before .before .if1 .taken) (c .before .before .write-record .ensures .1) (c .before .before .write-record .kept .0) (ap (λ (x : ℕ). c .before .before .before .before .before .before .before .before .before .before .before .loop .at + x) (c .before .before .write-record .ensures .0))
+loop-again c = writing-again _ _ _ _ _ (c .before .before .before .before .before .before .before .before .before .before .before .before .before .before .before .before .before .before .before .before .before .pre) (c .before .before .before .before .before .before .before .before .before .before .before .loop .inv) (c .before .before .before .before .before .before .before .before .before .if1 .taken) (c .before .before .write-record .ensures .1) (c .before .before .write-record .kept .0) (ap (λ (x : ℕ). c .before .before .before .before .before .before .before .before .before .before .before .loop .at + x) (c .before .before .write-record .ensures .0))
 
 same-length : tie.Need-same-length Inv-loop μ-loop
 same-length c = c .before .before .loop .inv .wrote .long
 
 returns : tie.Need-returns Inv-loop μ-loop
-returns c = writing-done (lists [] (now (c .before .before .before .before .before .before .before .before .before .before .before .before .args .sources)) (now (c .before .before .before .before .before .before .before .before .before .before .before .before .args .targets)) (now (c .before .before .before .before .before .before .before .before .before .before .before .before .args .events)) (now (c .before .before .before .before .before .before .before .before .before .before .before .before .args .starts)) (now (c .before .before .before .before .before .before .before .before .before .before .before .before .args .counts)) (now (c .before .before .before .before .before .before .before .before .before .before .before .before .args .timers)) (now (c .before .before .before .before .before .before .before .before .before .before .before .before .args .codes)) (now (c .before .before .before .before .before .before .before .before .before .before .before .before .args .constants))) (c .before .before .before .before .before .before .before .before .before .before .before .before .args .m .locations) (c .before .before .before .before .before .before .before .before .before .before .before .before .args .m .timers) (c .before .before .before .before .before .before .before .before .before .before .before .before .args .m .transitions) (now (c .before .before .before .before .before .before .before .before .before .before .before .before .args .out)) (c .before .before .before .before .before .before .before .before .before .before .before .before .pre) (c .before .before .loop .inv) (c .if1 .left)
+returns c = writing-done _ _ _ _ _ (c .before .before .before .before .before .before .before .before .before .before .before .before .pre) (c .before .before .loop .inv) (c .if1 .left)
 
 pub write-records-spec : {M : Type 1} → statement M
 write-records-spec =
