@@ -5,7 +5,7 @@ use Prim.Native.Nat.{ℕ}
 use Rattle.model.specs.Answer.{Answer, result, refused, then, unless}
 use Rattle.chart_lists.specs.declared.Refusal.{Refusal}
 use Rattle.chart_lists.specs.Numbers.{refusedAs}
-use Rattle.file_format.proofs.File.{result-refused}
+use Rattle.file_format.proofs.Answers.{result-refused}
 use Rattle.writer.specs.declared.Entry.{Entry}
 use Rattle.writer.specs.declared.Entry.the-variants as entry
 use Rattle.writer.specs.declared.Record.{Record}

@@ -6,7 +6,7 @@ use lib.ListN.{length}
 use borrow.Author.Tests.{lt-ltb, ltb-true, le-leb, leb-true}
 use Rattle.model.specs.Answer.{result, nowhere}
 use Rattle.model.specs.Chart.{Chart}
-use Rattle.file_format.proofs.File.{then-result, unless-result}
+use Rattle.file_format.proofs.Answers.{then-result, unless-result}
 use Rattle.chart_lists.specs.Lists.{Lists}
 use Rattle.chart_lists.specs.declared.Numbers.{Numbers}
 use Rattle.writer.specs.Handing.{handedAccepting, handedTransition, handedTransitions, handed}

@@ -13,7 +13,7 @@ use Rattle.comparison.specs.Comparison.{comparisonOf, codeOf}
 use Rattle.comparison.proofs.Comparisons.{comparison-code, code-comparison}
 use Rattle.model.specs.Answer.{result, nowhere}
 use Rattle.model.specs.Chart.{Test, Transition}
-use Rattle.file_format.proofs.File.{result-refused, then-result, unless-result}
+use Rattle.file_format.proofs.Answers.{result-refused, then-result, unless-result}
 use Rattle.chart_lists.specs.Lists.{Lists}
 use Rattle.writer.specs.Handing.{present, entryAt, entryBelow, known, handedTest, handedTests, beyond, handedTransition}
 use Rattle.writer.proofs.Items.{items-length}

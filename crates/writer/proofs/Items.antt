@@ -10,7 +10,7 @@ use lib.ListN.{length, getElem?}
 use Rattle.lists.specs.Rising.{All}
 use Rattle.model.specs.Answer.{Answer, result, refused, then}
 use Rattle.file_format.specs.Lengths.{total}
-use Rattle.file_format.proofs.File.{then-result}
+use Rattle.file_format.proofs.Answers.{then-result}
 use Rattle.writer.proofs.Answers.{then-then, then-same}
 use Rattle.writer.proofs.Entries.{nth-bound}
 

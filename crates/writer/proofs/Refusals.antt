@@ -12,7 +12,7 @@ use Rattle.comparison.specs.declared.Comparison.{Comparison}
 use Rattle.comparison.specs.Comparison.{comparisonOf}
 use Rattle.model.specs.Answer.{Answer, result, refused, then, unless, nowhere}
 use Rattle.file_format.specs.File.{fileOf}
-use Rattle.file_format.proofs.File.{result-refused}
+use Rattle.file_format.proofs.Answers.{result-refused}
 use Rattle.chart_lists.specs.Lists.{Lists}
 use Rattle.chart_lists.specs.declared.Numbers.{Numbers}
 use Rattle.writer.specs.Handing.{present, entryAt, entryBelow, known, handedAccepting, handedTest, handedTests, beyond, handedTransition, handedTransitions, handed, writeInto, writeAnswer}

@@ -9,7 +9,8 @@ use Rattle.model.specs.Answer.{result, nowhere}
 use Rattle.model.specs.Chart.{Chart}
 use Rattle.file_format.specs.File.{chartIn, fileOf}
 use Rattle.file_format.proofs.RoundTrip.{Bytes}
-use Rattle.file_format.proofs.File.{then-result, unless-result, chart-survives, file-survives, reads-valid}
+use Rattle.file_format.proofs.Answers.{then-result, unless-result}
+use Rattle.file_format.proofs.File.{chart-survives, file-survives, reads-valid}
 use Rattle.chart_lists.specs.Lists.{Lists, listsOf, put}
 use Rattle.chart_lists.specs.Numbers.{numbersOf}
 use Rattle.chart_lists.specs.declared.Numbers.{Numbers}
