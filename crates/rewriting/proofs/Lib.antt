@@ -1,4 +1,8 @@
 pub mod RewrittenLists
 pub mod Order
+pub mod Board
+pub mod Written
+pub mod Entry
 pub mod Fits
+pub mod Outcomes
 pub mod Refusals
