@@ -131,9 +131,26 @@ module _ (bs : List ℕ) (bytes : Bytes bs) {m : Numbers} (a s t e w g j x k tes
     constants = whole-begins _ (replicate 4096 0) (ap (λ (y : Lists). y .constants) all-laid);
   }
 
-  few-timers : length j ≤ 4096
-  few-timers = let c = held .chart in
-      omega (arith, front-length (map (λ (y : Test). y .timer) (allTests (c .transitions))) 4096 (length-map (allTests (c .transitions)) _) (all-tests (held .valid)) (held .timers-are))
+  -- the lengths of the whole arrays
+  tests-length : (f : Test → ℕ) {l : List ℕ} → l ≡ put (map f (allTests (held .chart .transitions))) (replicate 4096 0) → length l ≡ 4096
+  tests-length f h = front-length (map f (allTests (held .chart .transitions))) 4096 (length-map (allTests (held .chart .transitions)) f) (all-tests (held .valid)) h
+
+  pub events-length : length e ≡ 512
+  unfolding laid listsOf largest
+  events-length =
+      front-length (map (λ (r : Transition). r .event) (held .chart .transitions)) 512 (length-map (held .chart .transitions) _) (held .valid .few-transitions)
+      (ap (λ (y : Lists). y .events) all-laid)
+
+  pub timers-length : length j ≡ 4096
+  timers-length = tests-length _ (held .timers-are)
+
+  pub codes-length : length x ≡ 4096
+  unfolding laid listsOf largest
+  codes-length = tests-length _ (ap (λ (y : Lists). y .codes) all-laid)
+
+  pub constants-length : length k ≡ 4096
+  unfolding laid listsOf largest
+  constants-length = tests-length _ (ap (λ (y : Lists). y .constants) all-laid)
 
   pub lists-held : ListsOfChart (judged-held .chart) m lent (take (m .transitions) tested)
   unfolding judged-held
@@ -147,6 +164,6 @@ module _ (bs : List ℕ) (bytes : Bytes bs) {m : Numbers} (a s t e w g j x k tes
     starts-are = of-all held _ (held .starts-are);
     tests-are = tests-of held;
     timers-for = timers-for held;
-    few-timers = few-timers;
+    few-timers = omega (arith, timers-length);
     tested-are = of-all held _ tested-held;
   }

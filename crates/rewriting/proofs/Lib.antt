@@ -1,6 +1,7 @@
 pub mod RewrittenLists
 pub mod Order
 pub mod Board
+pub mod Lent
 pub mod Written
 pub mod Entry
 pub mod Fits

@@ -16,7 +16,7 @@ use Rattle.model.specs.Judge.{Rewriting, judged, fitted, rewriting}
 use Rattle.model.proofs.BoardPlan.{board-blocked}
 use Rattle.file_format.specs.File.{chartIn, fileOf}
 use Rattle.judgement.specs.Judging.{judgedIn}
-use Rattle.rewriting.specs.Rewriting.{rewriteInto}
+use Rattle.rewriting.specs.Rewriting.{figuresOf, rewriteInto, bufferAfter}
 use Rattle.rewriting.specs.Parts.{intoRoom, fittedInto}
 
 -- ---- of a chart that is judged
@@ -43,6 +43,14 @@ module _ (K room : ℕ) (c : Chart) where
       go : (b : Bool) → unless b 21 nowhere (result made) ≡ then (unless b 21 nowhere (result (rewritten c))) (λ (d : Chart). result (record { used = used c; chart = d }))
       go true = refl
       go false = refl
+
+  -- a refusal is the answer, and the buffer stays
+  module _ {n p : ℕ} (e : fittedInto K room c ≡ refused n p) where
+    pub figures-refused : refused n p ≡ then (fittedInto K room c) (λ x. result (figuresOf x))
+    figures-refused = sym (ap (λ (y : Answer Rewriting). then y (λ x. result (figuresOf x))) e)
+
+    pub buffer-refused : (out : List ℕ) → out ≡ bufferAfter (fittedInto K room c) out
+    buffer-refused out = sym (ap (λ (y : Answer Rewriting). bufferAfter y out) e)
 
 -- ---- of a file
 

@@ -82,10 +82,10 @@ module _ {c : Chart} {m : Numbers} {l : Lists} {tested : List ℕ} (x : ListsOfC
 
 module _ (K room : ℕ) (c : Chart) (limit : K ≤ 64) (fits : used c ≤ K) where
   -- the figures, with the timers used beside the length
-  pub figures-written : {w : Answer ℕ} → w ≡ then (intoRoom room (rewritten c)) (λ d. result (length (fileOf d)))
-      → then w (λ n. result (record { used = used c; length = n })) ≡ then (fittedInto K room c) (λ y. result (figuresOf y))
+  pub figures-written : {w : Answer ℕ} {count : ℕ} → count ≡ used c → w ≡ then (intoRoom room (rewritten c)) (λ d. result (length (fileOf d)))
+      → then w (λ n. result (record { used = count; length = n })) ≡ then (fittedInto K room c) (λ y. result (figuresOf y))
   unfolding figuresOf
-  figures-written e = rw (e, fitted-21 K room c limit fits) (go (intoRoom room (rewritten c)))
+  figures-written u e = rw (u, e, fitted-21 K room c limit fits) (go (intoRoom room (rewritten c)))
     where
       go : (y : Answer Chart)
           → then (then y (λ (d : Chart). result (length (fileOf d)))) (λ (n : ℕ). result (record { used = used c; length = n }))
