@@ -1,0 +1,53 @@
+-- A rising list whose entries have different numbers below n is no longer than n: the set of the numbers has at most n. Assumes nothing.
+use mathlib.Core.Path.{_≡_, refl, sym, ap, _∙_, subst}
+use mathlib.Core.Logic.{_⊎_, inl, inr}
+use mathlib.Core.Bool.{true}
+use mathlib.Core.List.{List, [], _∷_, map}
+use Prim.Native.Nat.{ℕ, suc, _^_, _≤_, _<_}
+use native.Mathlib.Omega.{arith}
+use lib.Count.{ones, ones-le}
+use lib.ListN.{length}
+use Rattle.lists.specs.Lists.{memb}
+use Rattle.lists.specs.Rising.{Rising}
+use Rattle.lists.proofs.Membership.{memb-head, memb-tail, memb-nth, nth-memb, nth-unmap}
+use Rattle.lists.proofs.Gather.{rising-below}
+use Rattle.timer_set.specs.Members.{member, setOf}
+use Rattle.timer_set.proofs.Members.{member-setOf, setOf-lt}
+use Rattle.timer_set.proofs.Counts.{ones-grow}
+
+module _ (g : ℕ → ℕ) where
+  memb-map : (l : List ℕ) (k : ℕ) → memb k (map g l) ≡ true → (j : ℕ) × (memb j l ≡ true) × (g j ≡ k)
+  memb-map l k m =
+      let n = memb-nth (map g l) k m in
+      let x = nth-unmap g l (n .0) (n .1) in
+      (x .0, nth-memb l (n .0) (x .1), x .2)
+
+  module _ (n : ℕ) where
+    small : (l : List ℕ) → ((j : ℕ) → memb j l ≡ true → g j < n) → setOf (map g l) < 2 ^ n
+    small l b = setOf-lt n (map g l) (λ k m. let y = memb-map l k m in subst (λ (k : ℕ). k < n) (y .2) (b (y .0) (y .1)))
+
+    -- the set of their numbers has as many
+    enough : (limit lo : ℕ) (l : List ℕ) → Rising limit lo l → ((j : ℕ) → memb j l ≡ true → g j < n)
+        → ((i j : ℕ) → memb i l ≡ true → memb j l ≡ true → g i ≡ g j → i ≡ j) → length l ≤ ones (setOf (map g l))
+    enough limit lo [] r b a = omega arith
+    enough limit lo (x ∷ l) r b a =
+        go (ones-grow n (setOf (map g l)) (setOf (map g (x ∷ l))) (small l (λ j m. b j (memb-tail j x l m))) (small (x ∷ l) b) (λ j h m. within j m))
+        (enough limit (suc x) l (r .1) (λ j m. b j (memb-tail j x l m)) (λ i j p q. a i j (memb-tail i x l p) (memb-tail j x l q)))
+      where
+        within : (j : ℕ) → member (setOf (map g l)) j ≡ true → member (setOf (map g (x ∷ l))) j ≡ true
+        within j m = member-setOf (map g (x ∷ l)) j ∙ memb-tail j (g x) (map g l) (sym (member-setOf (map g l) j) ∙ m)
+
+        -- the first one's number is not among the others'
+        new : memb (g x) (map g l) ≡ true → ⊥
+        new m =
+            let y = memb-map l (g x) m in
+            omega (arith, a x (y .0) (memb-head x x l refl) (memb-tail (y .0) x l (y .1)) (sym (y .2)), rising-below limit (suc x) l (r .1) (y .0) (y .1) .0)
+
+        go : (setOf (map g l) ≡ setOf (map g (x ∷ l))) ⊎ (ones (setOf (map g l)) < ones (setOf (map g (x ∷ l)))) → length l ≤ ones (setOf (map g l))
+            → suc (length l) ≤ ones (setOf (map g (x ∷ l)))
+        go (inl e) h = absurd (new (sym (member-setOf (map g l) (g x)) ∙ ap (λ (w : ℕ). member w (g x)) e ∙ member-setOf (map g (x ∷ l)) (g x) ∙ memb-head (g x) (g x) (map g l) refl))
+        go (inr h) k = omega arith
+
+    pub few-numbers : (limit lo : ℕ) (l : List ℕ) → Rising limit lo l → ((j : ℕ) → memb j l ≡ true → g j < n)
+        → ((i j : ℕ) → memb i l ≡ true → memb j l ≡ true → g i ≡ g j → i ≡ j) → length l ≤ n
+    few-numbers limit lo l r b a = omega (arith, enough limit lo l r b a, ones-le n (setOf (map g l)) (small l b))

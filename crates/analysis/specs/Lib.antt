@@ -1,0 +1,2 @@
+pub mod Analysing
+pub mod Refusals
