@@ -46,20 +46,20 @@ module _ {A B : Type 0} where
 pub found : {a : Entry} {x : ℕ} {s : Answer ℕ} → a ≡ entry.Value x → meant a ≡ s → s ≡ result x
 found e h = sym h ∙ ap meant e
 
-pub turned : {a : Entry} {f : Refusal} {s : Answer ℕ} → a ≡ entry.Refused f → meant a ≡ s → s ≡ refusedAs f
-turned e h = sym h ∙ ap meant e
+pub refused-by : {a : Entry} {f : Refusal} {s : Answer ℕ} → a ≡ entry.Refused f → meant a ≡ s → s ≡ refusedAs f
+refused-by e h = sym h ∙ ap meant e
 
 pub found-record : {a : Record} {s g : ℕ} {x : Answer Sizes} → a ≡ recorded.Found s g → meantRecord a ≡ x → x ≡ result (record { starts = s; tests = g })
 found-record e h = sym h ∙ ap meantRecord e
 
-pub turned-record : {a : Record} {f : Refusal} {x : Answer Sizes} → a ≡ recorded.Refused f → meantRecord a ≡ x → x ≡ refusedAs f
-turned-record e h = sym h ∙ ap meantRecord e
+pub refused-record-by : {a : Record} {f : Refusal} {x : Answer Sizes} → a ≡ recorded.Refused f → meantRecord a ≡ x → x ≡ refusedAs f
+refused-record-by e h = sym h ∙ ap meantRecord e
 
 pub found-written : {a : Written} {n : ℕ} {s : Answer ℕ} → a ≡ written.File n → meantWritten a ≡ s → s ≡ result n
 found-written e h = sym h ∙ ap meantWritten e
 
-pub turned-written : {a : Written} {f : Refusal} {s : Answer ℕ} → a ≡ written.Refused f → meantWritten a ≡ s → s ≡ refusedAs f
-turned-written e h = sym h ∙ ap meantWritten e
+pub refused-written-by : {a : Written} {f : Refusal} {s : Answer ℕ} → a ≡ written.Refused f → meantWritten a ≡ s → s ≡ refusedAs f
+refused-written-by e h = sym h ∙ ap meantWritten e
 
 -- the refusal that is handed on
 pub refused-of : {A : Type 0} {a : Entry} {f g : Refusal} → a ≡ entry.Refused f → g ≡ refusalOf a → refusedAs {A = A} g ≡ refusedAs f

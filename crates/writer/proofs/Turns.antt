@@ -55,18 +55,18 @@ transitions-first l locations timers n = rw (transitions-items l locations timer
 -- ---- items
 
 module _ (l : Lists) (timers i k : ℕ) where
-  pub test-turned : {n p : ℕ} → passTest l timers i k ≡ refused n p → handedTest l timers i k ≡ refused n p
+  pub test-refused : {n p : ℕ} → passTest l timers i k ≡ refused n p → handedTest l timers i k ≡ refused n p
   unfolding passTest
-  test-turned e = kept-refused (handedTest l timers i k) _ e
+  test-refused e = kept-refused (handedTest l timers i k) _ e
 
   pub test-found : {v : ℕ} → passTest l timers i k ≡ result v → (t : Test) × (handedTest l timers i k ≡ result t)
   unfolding passTest
   test-found e = let x = kept-result (handedTest l timers i k) _ e in (x .0, x .1)
 
 module _ (l : Lists) (locations timers i k : ℕ) where
-  pub transition-turned : {n p : ℕ} → passTransition l locations timers i k ≡ refused n p → handedTransition l locations timers i k ≡ refused n p
+  pub transition-refused : {n p : ℕ} → passTransition l locations timers i k ≡ refused n p → handedTransition l locations timers i k ≡ refused n p
   unfolding passTransition
-  transition-turned e = kept-refused (handedTransition l locations timers i k) _ e
+  transition-refused e = kept-refused (handedTransition l locations timers i k) _ e
 
   pub transition-found : {z : Sizes} → passTransition l locations timers i k ≡ result z → (r : Transition) × (handedTransition l locations timers i k ≡ result r) × (sizesOf r ≡ z)
   unfolding passTransition

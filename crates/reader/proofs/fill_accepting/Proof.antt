@@ -55,7 +55,8 @@ loop-less : tie.Need-loop-less Inv-loop μ-loop
 loop-less c = search needs
 
 loop-again : tie.Need-loop-again Inv-loop μ-loop
-loop-again c = let h = told (meant (now (c .before .before .before .before .before .before .before .before .args .s))) (c .before .a .given .1) (c .before .before .before .entry-at .ensures) in
+loop-again c =
+    let h = told (meant (now (c .before .before .before .before .before .before .before .before .args .s))) (c .before .a .given .1) (c .before .before .before .entry-at .ensures) in
     (simp length-set (c .before .before .before .before .before .loop .inv .0), filled-again (c .before .before .before .before .before .loop .inv .1) (c .before .before .before .before .loop-test .taken) (c .before .before .before .before .before .before .before .before .pre) h)
 
 same-length-2 : tie.Need-same-length-2 Inv-loop μ-loop

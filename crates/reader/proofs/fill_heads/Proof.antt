@@ -9,14 +9,16 @@ use Rattle.reader.proofs.fill_heads.Statement.{statement}
 use Rattle.reader.proofs.fill_heads.Tie as tie
 
 abbrev Inv-loop : tie.InvT-loop
-Inv-loop s at n locations timers sources₀ targets₀ events₀ starts₀ counts₀ here₀ k₀ sources targets events starts counts here k = (length sources ≡ length sources₀) × (length targets ≡ length targets₀) × (length events ≡ length events₀) × (length starts ≡ length starts₀) × (length counts ≡ length counts₀)
+Inv-loop s at n locations timers sources₀ targets₀ events₀ starts₀ counts₀ here₀ k₀ sources targets events starts counts here k =
+    (length sources ≡ length sources₀) × (length targets ≡ length targets₀) × (length events ≡ length events₀) × (length starts ≡ length starts₀) × (length counts ≡ length counts₀)
     × HeadsFilled locations timers n k (drop at s) (drop here s) sources₀ targets₀ events₀ starts₀ counts₀ sources targets events starts counts
 
 abbrev μ-loop : tie.MeasureT-loop
 μ-loop s at n locations timers sources₀ targets₀ events₀ starts₀ counts₀ here₀ k₀ sources targets events starts counts here k = n - k
 
 loop-holds : tie.Need-loop-holds Inv-loop μ-loop
-loop-holds c = let a = c .before .before .before .before .before .before .args in
+loop-holds c =
+    let a = c .before .before .before .before .before .before .args in
     (refl, refl, refl, refl, refl, heads-first (a .locations) (a .timers) (a .n) (drop (a .at) (now (a .s))) _ _ _ _ _)
 
 record-at-requires : tie.Need-record-at-requires Inv-loop μ-loop
@@ -77,7 +79,8 @@ loop-less : tie.Need-loop-less Inv-loop μ-loop
 loop-less c = search needs
 
 loop-again : tie.Need-loop-again Inv-loop μ-loop
-loop-again c = let l = c .before .before .before .before .before .loop .inv in
+loop-again c =
+    let l = c .before .before .before .before .before .loop .inv in
     let p = c .before .before .before .before .before .before .before .before .before .before .before .before .pre in (
       simp length-set (l .0),
       simp length-set (l .1),

@@ -10,14 +10,16 @@ use Rattle.reader.proofs.fill_record_tests.Statement.{statement}
 use Rattle.reader.proofs.fill_record_tests.Tie as tie
 
 abbrev Inv-loop : tie.InvT-loop
-Inv-loop s at g timers place base tested₀ codes₀ constants₀ here₀ k₀ tested codes constants here k = (length tested ≡ length tested₀) × (length codes ≡ length codes₀) × (length constants ≡ length constants₀)
+Inv-loop s at g timers place base tested₀ codes₀ constants₀ here₀ k₀ tested codes constants here k =
+    (length tested ≡ length tested₀) × (length codes ≡ length codes₀) × (length constants ≡ length constants₀)
     × TestsFilled timers place g base k (drop at s) (drop here s) tested₀ codes₀ constants₀ tested codes constants
 
 abbrev μ-loop : tie.MeasureT-loop
 μ-loop s at g timers place base tested₀ codes₀ constants₀ here₀ k₀ tested codes constants here k = g - k
 
 loop-holds : tie.Need-loop-holds Inv-loop μ-loop
-loop-holds c = let a = c .before .before .before .before .args in
+loop-holds c =
+    let a = c .before .before .before .before .args in
     let p = c .before .before .before .before .pre in
     (refl, refl, refl, tests-begin (a .timers) (a .place) (a .g) (a .base) (drop (a .at) (now (a .s))) _ _ _ (p .0) (p .1) (p .2))
 
@@ -73,7 +75,8 @@ loop-less : tie.Need-loop-less Inv-loop μ-loop
 loop-less c = search needs
 
 loop-again : tie.Need-loop-again Inv-loop μ-loop
-loop-again c = let a = c .before .before .before .before .before .before .before .before .before .before .before .args in
+loop-again c =
+    let a = c .before .before .before .before .before .before .before .before .before .before .before .args in
     let p = c .before .before .before .before .before .before .before .before .before .before .before .pre in
     let l = c .before .before .before .before .before .before .loop .inv in
     let h = told (meantTest (now (a .s))) (c .before .before .a .given .1) (c .before .before .before .before .test-at .ensures) in (
@@ -93,7 +96,8 @@ same-length-6 : tie.Need-same-length-6 Inv-loop μ-loop
 same-length-6 c = c .before .loop .inv .2
 
 returns-2 : tie.Need-returns-2 Inv-loop μ-loop
-returns-2 c = let a = c .before .before .before .before .before .before .args in
+returns-2 c =
+    let a = c .before .before .before .before .before .before .args in
     let p = c .before .before .before .before .before .before .pre in
     tests-done (a .timers) (a .place) (a .g) (a .base) (drop (a .at) (now (a .s))) _ _ _ (p .0) (p .1) (p .2) (c .before .loop .inv .3) (c .loop-test .left)
 

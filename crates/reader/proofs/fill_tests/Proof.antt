@@ -10,7 +10,8 @@ use Rattle.reader.proofs.fill_tests.Statement.{statement}
 use Rattle.reader.proofs.fill_tests.Tie as tie
 
 abbrev Inv-loop : tie.InvT-loop
-Inv-loop s at n locations timers tested₀ codes₀ constants₀ here₀ base₀ i₀ tested codes constants here base i = (length tested ≡ length tested₀) × (length codes ≡ length codes₀) × (length constants ≡ length constants₀)
+Inv-loop s at n locations timers tested₀ codes₀ constants₀ here₀ base₀ i₀ tested codes constants here base i =
+    (length tested ≡ length tested₀) × (length codes ≡ length codes₀) × (length constants ≡ length constants₀)
     × AllFilled locations timers n i base (drop at s) (drop here s) tested₀ codes₀ constants₀ tested codes constants
 
 abbrev μ-loop : tie.MeasureT-loop
@@ -21,7 +22,8 @@ fits-in : {k n a l : ℕ} → k ≤ n → n ≤ a → l ≡ a → k ≤ l
 fits-in h r e = omega arith
 
 loop-holds : tie.Need-loop-holds Inv-loop μ-loop
-loop-holds c = let a = c .before .before .before .before .args in
+loop-holds c =
+    let a = c .before .before .before .before .args in
     (refl, refl, refl, all-first (a .locations) (a .timers) (a .n) (drop (a .at) (now (a .s))) _ _ _)
 
 cast-record-at : tie.Need-cast-record-at Inv-loop μ-loop
@@ -52,20 +54,24 @@ cast-fill-record-tests : tie.Need-cast-fill-record-tests Inv-loop μ-loop
 cast-fill-record-tests c = search needs
 
 fill-record-tests-requires : tie.Need-fill-record-tests-requires Inv-loop μ-loop
-fill-record-tests-requires c κs = let x = subst (RecordAt _ _ _ _ _) (c .before .before .before .before .a .given .1) (c .before .before .before .before .before .before .record-at .ensures) in
-    let f = c .before .before .before .before .before .before .before .before .before .before .before .before .before .pre .1 in
-    let l = c .before .before .before .before .before .before .before .before .loop in
-    let r = room-next (l .inv .3) (c .before .before .before .before .before .before .before .loop-test .taken) x (f .is) in
+fill-record-tests-requires c κs =
+    let d = c .before .before .before in
+    let x = subst (RecordAt _ _ _ _ _) (d .before .a .given .1) (d .before .before .before .record-at .ensures) in
+    let f = d .before .before .before .before .before .before .before .before .before .before .pre .1 in
+    let l = d .before .before .before .before .before .loop in
+    let r = room-next (l .inv .3) (d .before .before .before .before .loop-test .taken) x (f .is) in
     (fits-in r (f .timers-fit) (l .inv .0), fits-in r (f .codes-fit) (l .inv .1), fits-in r (f .constants-fit) (l .inv .2))
 
 cast-base : tie.Need-cast-base Inv-loop μ-loop
 cast-base c = search needs
 
 add-base : tie.Need-add-base Inv-loop μ-loop
-add-base c = let x = subst (RecordAt _ _ _ _ _) (c .before .before .before .before .before .before .before .before .before .before .before .a .given .1) (c .before .before .before .before .before .before .before .before .before .before .before .before .before .record-at .ensures) in
-    let f = c .before .before .before .before .before .before .before .before .before .before .before .before .before .before .before .before .before .before .before .before .pre .1 in
-    let r = room-next (c .before .before .before .before .before .before .before .before .before .before .before .before .before .before .before .loop .inv .3) (c .before .before .before .before .before .before .before .before .before .before .before .before .before .before .loop-test .taken) x (f .is) in
-    omega (arith, f .timers-fit, c .before .before .before .before .before .before .before .before .before .before .before .before .before .before .before .before .before .before .before .before .good .1 .1 .1 .1 .1 .0 .0)
+add-base c =
+    let d = c .before .before .before .before .before .before .before .before .before .before in
+    let x = subst (RecordAt _ _ _ _ _) (d .before .a .given .1) (d .before .before .before .record-at .ensures) in
+    let f = d .before .before .before .before .before .before .before .before .before .before .pre .1 in
+    let r = room-next (d .before .before .before .before .before .loop .inv .3) (d .before .before .before .before .loop-test .taken) x (f .is) in
+    omega (arith, f .timers-fit, d .before .before .before .before .before .before .before .before .before .before .good .1 .1 .1 .1 .1 .0 .0)
 
 add-i : tie.Need-add-i Inv-loop μ-loop
 add-i c = search needs
@@ -74,12 +80,14 @@ loop-less : tie.Need-loop-less Inv-loop μ-loop
 loop-less c = search needs
 
 loop-again : tie.Need-loop-again Inv-loop μ-loop
-loop-again c = let x = subst (RecordAt _ _ _ _ _) (c .before .before .before .before .before .before .before .before .before .before .before .a .given .1) (c .before .before .before .before .before .before .before .before .before .before .before .before .before .record-at .ensures) in
-    let l = c .before .before .before .before .before .before .before .before .before .before .before .before .before .before .before .loop .inv in (
+loop-again c =
+    let d = c .before .before .before .before .before .before .before .before .before .before in
+    let x = subst (RecordAt _ _ _ _ _) (d .before .a .given .1) (d .before .before .before .record-at .ensures) in
+    let l = d .before .before .before .before .before .loop .inv in (
       omega (arith, l .0, c .before .before .before .before .before .tested .given),
       omega (arith, l .1, c .before .before .before .codes .given),
       omega (arith, l .2, c .before .constants .given),
-      all-again (l .3) (c .before .before .before .before .before .before .before .before .before .before .before .before .before .before .loop-test .taken) x (c .before .before .before .before .before .before .fill-record-tests .ensures),
+      all-again (l .3) (d .before .before .before .before .loop-test .taken) x (c .before .before .before .before .before .before .fill-record-tests .ensures),
     )
 
 same-length-4 : tie.Need-same-length-4 Inv-loop μ-loop

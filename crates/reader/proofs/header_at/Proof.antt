@@ -23,7 +23,8 @@ limits-refusal-requires : tie.Need-limits-refusal-requires
 limits-refusal-requires c κs = search needs
 
 returns : tie.Need-returns
-returns c = let s = now (c .before .before .before .before .before .args .s) in
+returns c =
+    let s = now (c .before .before .before .before .before .args .s) in
     rw (c .limits-refusal .ensures, c .before .enum-told .given .1) (header-limits _ (told (meantLimits s) (c .before .enum-told .given .1) (c .before .before .before .limits-at .ensures)))
 
 pass-accepting-requires : tie.Need-pass-accepting-requires
@@ -39,7 +40,8 @@ refusal-of-requires : tie.Need-refusal-of-requires
 refusal-of-requires c κs = search needs
 
 returns-2 : tie.Need-returns-2
-returns-2 c = let c₁ = c .before .before .before .before in
+returns-2 c =
+    let c₁ = c .before .before .before .before in
     let s = now (c₁ .before .before .before .before .before .args .s) in
     let e₁ = told (meantLimits s) (c₁ .before .a .given .1) (c₁ .before .before .before .limits-at .ensures) in
     header-accepting _ e₁ (turned s (c .before .enum-told2 .given .1) (c .refusal-of .ensures) (c .before .before .before .pass-accepting .ensures))
@@ -57,7 +59,8 @@ refusal-of-requires-2 : tie.Need-refusal-of-requires-2
 refusal-of-requires-2 c κs = search needs
 
 returns-3 : tie.Need-returns-3
-returns-3 c = let c₂ = c .before .before .before .before in
+returns-3 c =
+    let c₂ = c .before .before .before .before in
     let c₁ = c₂ .before .before .before .before in
     let s = now (c₁ .before .before .before .before .before .args .s) in
     let e₁ = told (meantLimits s) (c₁ .before .a .given .1) (c₁ .before .before .before .limits-at .ensures) in
@@ -68,7 +71,8 @@ cast-t18 : tie.Need-cast-t18
 cast-t18 c = omega (arith, below-limit _ _ _ _ _ (told (meant (now (c .before .before .before .before .before .before .before .before .before .before .before .before .before .args .s))) (c .before .d .given .1) (c .before .before .before .pair-below .ensures)))
 
 returns-4 : tie.Need-returns-4
-returns-4 c = let c₂ = c .before .before .before .before in
+returns-4 c =
+    let c₂ = c .before .before .before .before in
     let c₁ = c₂ .before .before .before .before in
     let s = now (c₁ .before .before .before .before .before .args .s) in
     let e₁ = told (meantLimits s) (c₁ .before .a .given .1) (c₁ .before .before .before .limits-at .ensures) in

@@ -23,7 +23,8 @@ refusal-of-requires : tie.Need-refusal-of-requires
 refusal-of-requires c κs = search needs
 
 returns : tie.Need-returns
-returns c = let s = now (c .before .before .before .before .before .args .s) in
+returns c =
+    let s = now (c .before .before .before .before .before .args .s) in
     rw (c .refusal-of .ensures, c .before .enum-told .given .1) (judge-frame s (sym (c .before .before .before .frame .ensures) ∙ ap (meantFrame s) (c .before .enum-told .given .1)))
 
 header-at-requires : tie.Need-header-at-requires
@@ -39,7 +40,8 @@ header-refusal-requires : tie.Need-header-refusal-requires
 header-refusal-requires c κs = search needs
 
 returns-2 : tie.Need-returns-2
-returns-2 c = let c₁ = c .before .before .before .before in
+returns-2 c =
+    let c₁ = c .before .before .before .before in
     let s = now (c₁ .before .before .before .before .before .args .s) in
     let e₁ = sym (c₁ .before .before .before .frame .ensures) ∙ ap (meantFrame s) (c₁ .before .a .given .1) in
     rw (c .header-refusal .ensures, c .before .enum-told2 .given .1) (judge-header s e₁ (subst (HeaderAt s _) (c .before .enum-told2 .given .1) (c .before .before .before .header-at .ensures)))
@@ -57,7 +59,8 @@ refusal-of-requires-2 : tie.Need-refusal-of-requires-2
 refusal-of-requires-2 c κs = search needs
 
 returns-3 : tie.Need-returns-3
-returns-3 c = let c₂ = c .before .before .before .before in
+returns-3 c =
+    let c₂ = c .before .before .before .before in
     let c₁ = c₂ .before .before .before .before in
     let s = now (c₁ .before .before .before .before .before .args .s) in
     let e₁ = sym (c₁ .before .before .before .frame .ensures) ∙ ap (meantFrame s) (c₁ .before .a .given .1) in
@@ -65,7 +68,8 @@ returns-3 c = let c₂ = c .before .before .before .before in
     judge-transitions s e₁ h (turned s (c .before .enum-told3 .given .1) (c .refusal-of2 .ensures) (c .before .before .before .judge-records .ensures))
 
 returns-4 : tie.Need-returns-4
-returns-4 c = let c₃ = c .before in
+returns-4 c =
+    let c₃ = c .before in
     let c₂ = c₃ .before .before .before .before in
     let c₁ = c₂ .before .before .before .before in
     let s = now (c₁ .before .before .before .before .before .args .s) in
@@ -74,7 +78,8 @@ returns-4 c = let c₃ = c .before in
     judge-left s e₁ h (told (meant s) (c₃ .before .d .given .1) (c₃ .before .before .before .judge-records .ensures)) (more-at s _ (c .if1 .taken))
 
 returns-5 : tie.Need-returns-5
-returns-5 c = let c₃ = c .before in
+returns-5 c =
+    let c₃ = c .before in
     let c₂ = c₃ .before .before .before .before in
     let c₁ = c₂ .before .before .before .before in
     let s = now (c₁ .before .before .before .before .before .args .s) in

@@ -33,13 +33,15 @@ enum-told : tie.Need-enum-told Inv-loop μ-loop
 enum-told c = search needs
 
 returns : tie.Need-returns Inv-loop μ-loop
-returns c = let a = c .before .before .before .before .before .before .args in
+returns c =
+    let a = c .before .before .before .before .before .before .args in
     let k = c .before .before .pass-record .ensures in
     let h = told (meant (now (a .s))) (c .enum-told .given .1) k in
     k ∙ h ∙ counted-refused (c .before .before .before .before .loop .inv) (c .before .before .before .loop-test .taken) h
 
 add-tests : tie.Need-add-tests Inv-loop μ-loop
-add-tests c = let a = c .before .before .before .before .before .before .before .args in
+add-tests c =
+    let a = c .before .before .before .before .before .before .before .args in
     let h = pass-at-most _ _ _ _ _ (told (meant (now (a .s))) (c .before .a .given .1) (c .before .before .before .pass-record .ensures)) in
     omega (arith, c .before .before .before .before .before .loop .inv .few)
 

@@ -25,11 +25,13 @@ refusal-of-requires : tie.Need-refusal-of-requires
 refusal-of-requires c κs = search needs
 
 returns : tie.Need-returns
-returns c = let s = now (c .before .before .before .before .before .args .s) in
+returns c =
+    let s = now (c .before .before .before .before .before .args .s) in
     limits-locations _ (turned s (c .before .enum-told .given .1) (c .refusal-of .ensures) (c .before .before .before .pair-below .ensures))
 
 returns-2 : tie.Need-returns-2
-returns-2 c = let c₁ = c .before in
+returns-2 c =
+    let c₁ = c .before in
     limits-none _ (told (meant (now (c₁ .before .before .before .before .before .args .s))) (c₁ .before .a .given .1) (c₁ .before .before .before .pair-below .ensures)) (c .if1 .taken)
 
 pair-below-requires-2 : tie.Need-pair-below-requires-2
@@ -45,7 +47,8 @@ refusal-of-requires-2 : tie.Need-refusal-of-requires-2
 refusal-of-requires-2 c κs = search needs
 
 returns-3 : tie.Need-returns-3
-returns-3 c = let c₁ = c .before .before .before .before .before in
+returns-3 c =
+    let c₁ = c .before .before .before .before .before in
     let s = now (c₁ .before .before .before .before .before .args .s) in
     let e₁ = told (meant s) (c₁ .before .a .given .1) (c₁ .before .before .before .pair-below .ensures) in
     limits-initial _ e₁ (c .before .before .before .before .if1 .left) (turned s (c .before .enum-told2 .given .1) (c .refusal-of2 .ensures) (c .before .before .before .pair-below2 .ensures))
@@ -63,7 +66,8 @@ refusal-of-requires-3 : tie.Need-refusal-of-requires-3
 refusal-of-requires-3 c κs = search needs
 
 returns-4 : tie.Need-returns-4
-returns-4 c = let c₂ = c .before .before .before .before in
+returns-4 c =
+    let c₂ = c .before .before .before .before in
     let c₁ = c₂ .before .before .before .before .before in
     let s = now (c₁ .before .before .before .before .before .args .s) in
     let e₁ = told (meant s) (c₁ .before .a .given .1) (c₁ .before .before .before .pair-below .ensures) in
@@ -83,7 +87,8 @@ refusal-of-requires-4 : tie.Need-refusal-of-requires-4
 refusal-of-requires-4 c κs = search needs
 
 returns-5 : tie.Need-returns-5
-returns-5 c = let c₃ = c .before .before .before .before in
+returns-5 c =
+    let c₃ = c .before .before .before .before in
     let c₂ = c₃ .before .before .before .before in
     let c₁ = c₂ .before .before .before .before .before in
     let s = now (c₁ .before .before .before .before .before .args .s) in
@@ -96,19 +101,22 @@ cast-t21 : tie.Need-cast-t21
 cast-t21 c = omega (arith, locations-few (c .before .before .before .before .before .before .before .before .before .before .before .before .before))
 
 cast-t22 : tie.Need-cast-t22
-cast-t22 c = let h = locations-few (c .before .before .before .before .before .before .before .before .before .before .before .before .before) in
+cast-t22 c =
+    let h = locations-few (c .before .before .before .before .before .before .before .before .before .before .before .before .before) in
     let c₂ = c .before .before .before .before .before .before .before .before in
     omega (arith, below-limit _ _ _ _ _ (told (meant (now (c .before .before .before .before .before .before .before .before .before .before .before .before .before .before .before .before .before .before .args .s))) (c₂ .before .b .given .1) (c₂ .before .before .before .pair-below2 .ensures)))
 
 cast-t23 : tie.Need-cast-t23
-cast-t23 c = let c₃ = c .before .before .before .before in
+cast-t23 c =
+    let c₃ = c .before .before .before .before in
     omega (arith, below-limit _ _ _ _ _ (told (meant (now (c .before .before .before .before .before .before .before .before .before .before .before .before .before .before .before .before .before .before .args .s))) (c₃ .before .d .given .1) (c₃ .before .before .before .byte-below .ensures)))
 
 cast-t24 : tie.Need-cast-t24
 cast-t24 c = omega (arith, c .before .before .before .pair-at .ensures .small _ _ (c .before .e .given .1))
 
 returns-6 : tie.Need-returns-6
-returns-6 c = let c₃ = c .before .before .before .before in
+returns-6 c =
+    let c₃ = c .before .before .before .before in
     let c₂ = c₃ .before .before .before .before in
     let c₁ = c₂ .before .before .before .before .before in
     let s = now (c₁ .before .before .before .before .before .args .s) in

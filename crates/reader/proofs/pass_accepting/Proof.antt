@@ -30,7 +30,8 @@ enum-told : tie.Need-enum-told Inv-loop μ-loop
 enum-told c = search needs
 
 returns : tie.Need-returns Inv-loop μ-loop
-returns c = let k = c .before .before .entry-at .ensures in
+returns c =
+    let k = c .before .before .entry-at .ensures in
     let h = told (meant (now (c .before .before .before .before .before .before .args .s))) (c .enum-told .given .1) k in
     k ∙ h ∙ accepting-refused (c .before .before .before .before .loop .inv) (c .before .before .before .loop-test .taken) h
 

@@ -21,7 +21,8 @@ head-refusal-requires : tie.Need-head-refusal-requires
 head-refusal-requires c κs = search needs
 
 returns : tie.Need-returns
-returns c = let a = c .before .before .before .before .before .args in
+returns c =
+    let a = c .before .before .before .before .before .args in
     rw (c .head-refusal .ensures, c .before .enum-told .given .1)
     (transition-head-refused 2 (a .locations) (a .timers) (a .place) _ (told (meantHead (now (a .s))) (c .before .enum-told .given .1) (c .before .before .before .head-at .ensures)))
 
@@ -38,13 +39,15 @@ refusal-of-requires : tie.Need-refusal-of-requires
 refusal-of-requires c κs = search needs
 
 returns-2 : tie.Need-returns-2
-returns-2 c = let c₁ = c .before .before .before .before in
+returns-2 c =
+    let c₁ = c .before .before .before .before in
     let a = c₁ .before .before .before .before .before .args in
     let e₁ = told (meantHead (now (a .s))) (c₁ .before .a .given .1) (c₁ .before .before .before .head-at .ensures) in
     record-tests (a .locations) (a .timers) (a .place) _ e₁ (turned (now (a .s)) (c .before .enum-told2 .given .1) (c .refusal-of .ensures) (c .before .before .before .pass-tests .ensures))
 
 returns-3 : tie.Need-returns-3
-returns-3 c = let c₁ = c .before .before .before .before in
+returns-3 c =
+    let c₁ = c .before .before .before .before in
     let a = c₁ .before .before .before .before .before .args in
     let s = now (a .s) in
     let e₁ = told (meantHead s) (c₁ .before .a .given .1) (c₁ .before .before .before .head-at .ensures) in

@@ -1,6 +1,6 @@
 use mathlib.Core.Path.{refl, sym, _∙_}
 use borrow.Author.Needs.{needs}
-use Rattle.writer.proofs.Answers.{found, turned}
+use Rattle.writer.proofs.Answers.{found, refused-by}
 use Rattle.writer.proofs.Limits.{limited-refused, limited-in, limited-over}
 use Rattle.writer.proofs.below.Statement.{statement}
 use Rattle.writer.proofs.below.Tie as tie
@@ -12,7 +12,7 @@ enum-told : tie.Need-enum-told
 enum-told c = search needs
 
 returns : tie.Need-returns
-returns c = let h = turned (c .enum-told .given .1) refl in h ∙ sym (limited-refused _ _ _ h)
+returns c = let h = refused-by (c .enum-told .given .1) refl in h ∙ sym (limited-refused _ _ _ h)
 
 returns-2 : tie.Need-returns-2
 returns-2 c = sym (limited-in _ _ _ (found (c .before .before .a .given .1) refl) (c .if1 .taken))

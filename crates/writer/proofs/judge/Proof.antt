@@ -3,7 +3,7 @@ use Prim.Native.Nat.{_≤_, _<_}
 use native.Mathlib.Omega.{arith}
 use borrow.Author.Needs.{needs}
 use Rattle.writer.proofs.Turns.{accepting-count, transitions-most}
-use Rattle.writer.proofs.Answers.{found, turned, refused-of}
+use Rattle.writer.proofs.Answers.{found, refused-by, refused-of}
 use Rattle.writer.proofs.Judging.{chart-numbers, chart-accepting, chart-many, chart-transitions, chart-in}
 use Rattle.writer.proofs.judge.Statement.{statement}
 use Rattle.writer.proofs.judge.Tie as tie
@@ -21,7 +21,7 @@ refusal-of-requires : tie.Need-refusal-of-requires
 refusal-of-requires c κs = search needs
 
 returns : tie.Need-returns
-returns c = refused-of (c .before .enum-told2 .given .1) (c .refusal-of .ensures) ∙ sym (chart-numbers _ _ (turned (c .before .enum-told2 .given .1) (c .before .before .before .judge-numbers .ensures)))
+returns c = refused-of (c .before .enum-told2 .given .1) (c .refusal-of .ensures) ∙ sym (chart-numbers _ _ (refused-by (c .before .enum-told2 .given .1) (c .before .before .before .judge-numbers .ensures)))
 
 judge-accepting-requires : tie.Need-judge-accepting-requires
 judge-accepting-requires c κs = search needs
@@ -36,7 +36,7 @@ refusal-of-requires-2 : tie.Need-refusal-of-requires-2
 refusal-of-requires-2 c κs = search needs
 
 returns-2 : tie.Need-returns-2
-returns-2 c = refused-of (c .before .enum-told3 .given .1) (c .refusal-of2 .ensures) ∙ sym (chart-accepting _ _ (found (c .before .before .before .before .enum-told .given .1) (c .before .before .before .before .before .before .judge-numbers .ensures)) (turned (c .before .enum-told3 .given .1) (c .before .before .before .judge-accepting .ensures)))
+returns-2 c = refused-of (c .before .enum-told3 .given .1) (c .refusal-of2 .ensures) ∙ sym (chart-accepting _ _ (found (c .before .before .before .before .enum-told .given .1) (c .before .before .before .before .before .before .judge-numbers .ensures)) (refused-by (c .before .enum-told3 .given .1) (c .before .before .before .judge-accepting .ensures)))
 
 returns-3 : tie.Need-returns-3
 returns-3 c = sym (chart-many _ _ (found (c .before .before .before .before .before .before .enum-told .given .1) (c .before .before .before .before .before .before .before .before .judge-numbers .ensures)) (found (c .before .before .before .b .given .1) (c .before .before .before .before .before .judge-accepting .ensures)) (search needs))
@@ -54,7 +54,7 @@ refusal-of-requires-3 : tie.Need-refusal-of-requires-3
 refusal-of-requires-3 c κs = search needs
 
 returns-4 : tie.Need-returns-4
-returns-4 c = refused-of (c .before .enum-told4 .given .1) (c .refusal-of3 .ensures) ∙ sym (chart-transitions _ _ (found (c .before .before .before .before .before .before .before .before .before .before .enum-told .given .1) (c .before .before .before .before .before .before .before .before .before .before .before .before .judge-numbers .ensures)) (found (c .before .before .before .before .before .before .before .b .given .1) (c .before .before .before .before .before .before .before .before .before .judge-accepting .ensures)) (search needs) (turned (c .before .enum-told4 .given .1) (c .before .before .before .judge-transitions .ensures)))
+returns-4 c = refused-of (c .before .enum-told4 .given .1) (c .refusal-of3 .ensures) ∙ sym (chart-transitions _ _ (found (c .before .before .before .before .before .before .before .before .before .before .enum-told .given .1) (c .before .before .before .before .before .before .before .before .before .before .before .before .judge-numbers .ensures)) (found (c .before .before .before .before .before .before .before .b .given .1) (c .before .before .before .before .before .before .before .before .before .judge-accepting .ensures)) (search needs) (refused-by (c .before .enum-told4 .given .1) (c .before .before .before .judge-transitions .ensures)))
 
 -- the length of the file is no large number
 few : (c : tie.After-known-told2) → (c .before .before .before .before .before .before .before .b .given .0 .0 < 65536) × (c .before .d .given .0 .0 ≤ 53760)

@@ -3,7 +3,7 @@ use Prim.Native.Nat.{_-_}
 use native.Mathlib.Omega.{arith}
 use borrow.Author.Needs.{needs}
 use Rattle.writer.proofs.Handed.{below-some}
-use Rattle.writer.proofs.Answers.{found, turned}
+use Rattle.writer.proofs.Answers.{found, refused-by}
 use Rattle.writer.proofs.Items.{turn-done, turn-refused, turn-again}
 use Rattle.writer.proofs.Turns.{AcceptingTurn, accepting-first}
 use Rattle.writer.proofs.Judging.{entry-limited, accepting-refused, accepting-low, accepting-in}
@@ -36,7 +36,7 @@ enum-told c = search needs
 
 returns : tie.Need-returns Inv-loop μ-loop
 returns c = let e = entry-limited _ _ _ _ _ (c .before .before .before .pair-at .ensures) (c .before .before .below .ensures) in
-    let h = turned (c .enum-told .given .1) e in
+    let h = refused-by (c .enum-told .given .1) e in
     e ∙ h ∙ sym (turn-refused (c .before .before .before .before .before .loop .inv) (c .before .before .before .before .loop-test .taken) (accepting-refused _ _ _ _ h))
 
 returns-2 : tie.Need-returns-2 Inv-loop μ-loop

@@ -1,6 +1,6 @@
 use mathlib.Core.Path.{sym, _∙_}
 use borrow.Author.Needs.{needs}
-use Rattle.writer.proofs.Answers.{found, turned}
+use Rattle.writer.proofs.Answers.{found, refused-by}
 use Rattle.writer.proofs.Judging.{count-cut, count-many, count-tests}
 use Rattle.writer.proofs.judge_count.Statement.{statement}
 use Rattle.writer.proofs.judge_count.Tie as tie
@@ -15,7 +15,7 @@ enum-told : tie.Need-enum-told
 enum-told c = search needs
 
 returns : tie.Need-returns
-returns c = let h = turned (c .enum-told .given .1) (c .before .before .byte-at .ensures) in c .before .before .byte-at .ensures ∙ h ∙ sym (count-cut _ _ _ _ _ h)
+returns c = let h = refused-by (c .enum-told .given .1) (c .before .before .byte-at .ensures) in c .before .before .byte-at .ensures ∙ h ∙ sym (count-cut _ _ _ _ _ h)
 
 returns-2 : tie.Need-returns-2
 returns-2 c = sym (count-many _ _ _ _ _ (found (c .before .before .a .given .1) (c .before .before .before .before .byte-at .ensures)) (c .if1 .taken))

@@ -1,6 +1,6 @@
 use mathlib.Core.Path.{sym, _∙_}
 use borrow.Author.Needs.{needs}
-use Rattle.writer.proofs.Answers.{found, turned}
+use Rattle.writer.proofs.Answers.{found, refused-by}
 use Rattle.writer.proofs.Judging.{entry-limited, ends-source, ends-target, ends-event}
 use Rattle.writer.proofs.judge_ends.Statement.{statement}
 use Rattle.writer.proofs.judge_ends.Tie as tie
@@ -19,7 +19,7 @@ enum-told-2 c = search needs
 
 returns : tie.Need-returns
 returns c = let e = entry-limited _ _ _ _ _ (c .before .before .before .pair-at .ensures) (c .before .before .below .ensures) in
-    let h = turned (c .enum-told2 .given .1) e in
+    let h = refused-by (c .enum-told2 .given .1) e in
     e ∙ h ∙ sym (ends-source _ _ _ _ _ h)
 
 pair-at-requires-2 : tie.Need-pair-at-requires-2
@@ -37,7 +37,7 @@ enum-told-4 c = search needs
 returns-2 : tie.Need-returns-2
 returns-2 c = let e = entry-limited _ _ _ _ _ (c .before .before .before .before .before .before .before .pair-at .ensures) (c .before .before .before .before .before .before .below .ensures) in
     let f = entry-limited _ _ _ _ _ (c .before .before .before .pair-at2 .ensures) (c .before .before .below2 .ensures) in
-    let h = turned (c .enum-told4 .given .1) f in
+    let h = refused-by (c .enum-told4 .given .1) f in
     f ∙ h ∙ sym (ends-target _ _ _ _ _ (found (c .before .before .before .before .enum-told .given .1) e) h)
 
 byte-at-requires : tie.Need-byte-at-requires

@@ -1,7 +1,7 @@
 use mathlib.Core.Path.{sym, ap, _∙_}
 use borrow.Author.Needs.{needs}
 use Rattle.model.specs.Answer.{result}
-use Rattle.writer.proofs.Answers.{found, turned}
+use Rattle.writer.proofs.Answers.{found, refused-by}
 use Rattle.writer.proofs.Judging.{starts-cut, starts-beyond, starts-in}
 use Rattle.writer.proofs.judge_starts.Statement.{statement}
 use Rattle.writer.proofs.judge_starts.Tie as tie
@@ -16,7 +16,7 @@ enum-told : tie.Need-enum-told
 enum-told c = search needs
 
 returns : tie.Need-returns
-returns c = let h = turned (c .enum-told .given .1) (c .before .before .word-at .ensures) in c .before .before .word-at .ensures ∙ h ∙ sym (starts-cut _ _ _ h)
+returns c = let h = refused-by (c .enum-told .given .1) (c .before .before .word-at .ensures) in c .before .before .word-at .ensures ∙ h ∙ sym (starts-cut _ _ _ h)
 
 all-below-requires : tie.Need-all-below-requires
 all-below-requires c κs = search needs

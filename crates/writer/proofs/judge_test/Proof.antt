@@ -1,6 +1,6 @@
 use mathlib.Core.Path.{sym, _∙_}
 use borrow.Author.Needs.{needs}
-use Rattle.writer.proofs.Answers.{found, turned}
+use Rattle.writer.proofs.Answers.{found, refused-by}
 use Rattle.writer.proofs.Judging.{entry-limited, test-timer, test-code, test-constant}
 use Rattle.writer.proofs.judge_test.Statement.{statement}
 use Rattle.writer.proofs.judge_test.Tie as tie
@@ -19,7 +19,7 @@ enum-told-2 c = search needs
 
 returns : tie.Need-returns
 returns c = let e = entry-limited _ _ _ _ _ (c .before .before .before .byte-at .ensures) (c .before .before .below .ensures) in
-    let h = turned (c .enum-told2 .given .1) e in
+    let h = refused-by (c .enum-told2 .given .1) e in
     e ∙ h ∙ sym (test-timer _ _ _ _ h)
 
 judge-code-requires : tie.Need-judge-code-requires
@@ -33,7 +33,7 @@ enum-told-4 c = search needs
 
 returns-2 : tie.Need-returns-2
 returns-2 c = let e = entry-limited _ _ _ _ _ (c .before .before .before .before .before .before .byte-at .ensures) (c .before .before .before .before .before .below .ensures) in
-    let h = turned (c .enum-told4 .given .1) (c .before .before .judge-code .ensures) in
+    let h = refused-by (c .enum-told4 .given .1) (c .before .before .judge-code .ensures) in
     c .before .before .judge-code .ensures ∙ h ∙ sym (test-code _ _ _ _ (found (c .before .before .before .enum-told .given .1) e) h)
 
 pair-at-requires : tie.Need-pair-at-requires

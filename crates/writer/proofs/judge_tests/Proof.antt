@@ -3,9 +3,9 @@ use Prim.Native.Nat.{_-_, _+_}
 use native.Mathlib.Omega.{arith}
 use borrow.Author.Needs.{needs}
 use Rattle.writer.specs.Parts.{testLists}
-use Rattle.writer.proofs.Answers.{found, turned}
+use Rattle.writer.proofs.Answers.{found, refused-by}
 use Rattle.writer.proofs.Items.{turn-done, turn-refused, turn-again}
-use Rattle.writer.proofs.Turns.{TestsTurn, tests-first, test-turned, test-found}
+use Rattle.writer.proofs.Turns.{TestsTurn, tests-first, test-refused, test-found}
 use Rattle.writer.proofs.judge_tests.Statement.{statement}
 use Rattle.writer.proofs.judge_tests.Tie as tie
 
@@ -28,8 +28,8 @@ enum-told-2 : tie.Need-enum-told-2 Inv-loop μ-loop
 enum-told-2 c = search needs
 
 returns : tie.Need-returns Inv-loop μ-loop
-returns c = let h = turned (c .enum-told2 .given .1) (c .before .before .judge-test .ensures) in
-    c .before .before .judge-test .ensures ∙ h ∙ sym (turn-refused (c .before .before .before .before .loop .inv .1) (c .before .before .before .loop-test .taken) (test-turned _ _ _ _ h))
+returns c = let h = refused-by (c .enum-told2 .given .1) (c .before .before .judge-test .ensures) in
+    c .before .before .judge-test .ensures ∙ h ∙ sym (turn-refused (c .before .before .before .before .loop .inv .1) (c .before .before .before .loop-test .taken) (test-refused _ _ _ _ h))
 
 add-at : tie.Need-add-at Inv-loop μ-loop
 add-at c = search needs

@@ -4,9 +4,9 @@ use Prim.Native.Nat.{_-_, _*_, _≤_}
 use native.Mathlib.Omega.{arith}
 use borrow.Author.Needs.{needs}
 use Rattle.chart_lists.specs.Lists.{lists}
-use Rattle.writer.proofs.Answers.{found-record, turned-record, refused-record}
+use Rattle.writer.proofs.Answers.{found-record, refused-record-by, refused-record}
 use Rattle.writer.proofs.Items.{turn-done, turn-refused, turn-again}
-use Rattle.writer.proofs.Turns.{TransitionsTurn, transitions-first, transition-turned, transition-found, handed-few, length-sizes, length-record}
+use Rattle.writer.proofs.Turns.{TransitionsTurn, transitions-first, transition-refused, transition-found, handed-few, length-sizes, length-record}
 use Rattle.writer.proofs.judge_transitions.Statement.{statement}
 use Rattle.writer.proofs.judge_transitions.Tie as tie
 
@@ -35,7 +35,7 @@ record-refusal-requires : tie.Need-record-refusal-requires Inv-loop μ-loop
 record-refusal-requires c κs = search needs
 
 returns : tie.Need-returns Inv-loop μ-loop
-returns c = refused-record (c .before .enum-told .given .1) (c .record-refusal .ensures) ∙ sym (turn-refused (c .before .before .before .before .before .loop .inv .0) (c .before .before .before .before .loop-test .taken) (transition-turned _ _ _ _ _ (turned-record (c .before .enum-told .given .1) (c .before .before .before .judge-transition .ensures))))
+returns c = refused-record (c .before .enum-told .given .1) (c .record-refusal .ensures) ∙ sym (turn-refused (c .before .before .before .before .before .loop .inv .0) (c .before .before .before .before .loop-test .taken) (transition-refused _ _ _ _ _ (refused-record-by (c .before .enum-told .given .1) (c .before .before .before .judge-transition .ensures))))
 
 -- how many timers the transition starts, and how many tests it has
 few : (c : tie.After-known-told Inv-loop μ-loop) → (c .before .a .given .0 .0 ≤ 64) × (c .before .a .given .0 .1 .0 ≤ 8)

@@ -2,7 +2,7 @@ use mathlib.Core.Path.{sym, _∙_}
 use denote.Ref.{now}
 use lib.ListN.{length}
 use borrow.Author.Needs.{needs}
-use Rattle.writer.proofs.Answers.{found-written, turned-written}
+use Rattle.writer.proofs.Answers.{found-written, refused-written-by}
 use Rattle.writer.proofs.Writing.{write-refused, write-short, write-judged, write-done}
 use Rattle.writer.proofs.write.Statement.{statement}
 use Rattle.writer.proofs.write.Tie as tie
@@ -18,7 +18,7 @@ enum-told c = search needs
 
 returns : tie.Need-returns
 returns c = let a = c .before .before .before .before .before .before .before .before .before .before .before .before .before .args in
-    let t = turned-written (c .enum-told .given .1) (c .before .before .judge .ensures) in
+    let t = refused-written-by (c .enum-told .given .1) (c .before .before .judge .ensures) in
     let w = write-refused (length (now (a .out))) _ _ (now (a .out)) t in
     (c .before .before .judge .ensures ∙ t ∙ sym (w .0), sym (w .1))
 

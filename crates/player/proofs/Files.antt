@@ -1,0 +1,148 @@
+-- What the judgement of a file leaves is what the steps are taken by, and a refusal of it is the player's. Assumes nothing.
+use mathlib.Core.Path.{_≡_, refl, sym, ap, ap₂, _∙_}
+use mathlib.Core.List.{List, map}
+use Prim.Native.Nat.{ℕ, _≤_}
+use native.Mathlib.Omega.{arith}
+use lib.ListN.{length, take, replicate, length-map}
+use Rattle.lists.proofs.Gather.{rising-length}
+use Rattle.model.specs.Answer.{Answer, result, refused, then}
+use Rattle.model.specs.Chart.{Test, Transition, Chart}
+use Rattle.model.specs.Judge.{judged}
+use Rattle.model.specs.Valid.{Valid}
+use Rattle.model.specs.Player.{Arrival}
+use Rattle.model.proofs.Answers.{not-result, result-same, refused-same}
+use Rattle.model.proofs.PlayerNumbers.{playedOn, judged-is, played-judged, played-refused}
+use Rattle.file_format.specs.File.{chartIn}
+use Rattle.file_format.proofs.RoundTrip.{Bytes}
+use Rattle.file_format.proofs.File.{reads-valid}
+use Rattle.file_format.proofs.Answers.{result-refused}
+use Rattle.chart_lists.specs.Lists.{Lists, lists, listsOf, laid, allTests, put}
+use Rattle.chart_lists.specs.declared.Numbers.{Numbers}
+use Rattle.chart_lists.specs.declared.Refusal.{Refusal}
+use Rattle.chart_lists.specs.Numbers.{numbersOf, refusedAs}
+use Rattle.reader.specs.declared.Read.{Read}
+use Rattle.reader.specs.declared.Read.the-variants as read
+use Rattle.reader.specs.Reading.{listsAfter, meantRead}
+use Rattle.judgement.specs.Judging.{judgedIn, judgedNumbers, largest}
+use Rattle.judgement.proofs.Largest.{all-tests}
+use Rattle.judgement.proofs.Fronts.{front, front-length}
+use Rattle.player.specs.Playing.{playAnswer, readRefusal}
+use Rattle.player.specs.Lent.{Lent}
+
+-- the file's chart, judged, with its numbers
+pub record Accepted (bs : List ℕ) (m : Numbers) : Type 0 where
+  pub chart : Chart
+  pub reads : chartIn bs ≡ result chart
+  pub passes : judged chart ≡ result chart
+  pub numbers-are : m ≡ numbersOf chart
+
+pub accepted : (bs : List ℕ) (m : Numbers) → result m ≡ judgedNumbers bs → Accepted bs m
+unfolding judgedNumbers judgedIn
+accepted bs m e = go (chartIn bs) refl
+  where
+    of : (c : Chart) → chartIn bs ≡ result c → (y : Answer Chart) → judged c ≡ y → result m ≡ then y (λ d. result (numbersOf d)) → Accepted bs m
+    of c p (result d) q f =
+        let r = judged-is c q in
+        let same : d ≡ c = result-same (sym q ∙ r) in
+        record { chart = c; reads = p; passes = r; numbers-are = result-same f ∙ ap numbersOf same }
+    of c p (refused n i) q f = absurd (result-refused refl f)
+
+    go : (x : Answer Chart) → chartIn bs ≡ x → Accepted bs m
+    go (result c) p = of c p (judged c) refl (rw p at e)
+    go (refused n i) p = let z : result m ≡ refused n i = rw p at e in absurd (result-refused refl z)
+
+-- ---- an answer of the judgement
+
+module _ (bs : List ℕ) (r : Read) (e : meantRead r ≡ judgedNumbers bs) where
+  pub read-accepted : (m : Numbers) → r ≡ read.Chart m → Accepted bs m
+  read-accepted m f = accepted bs m (ap meantRead (sym f) ∙ e)
+
+  pub read-refused : (g f : Refusal) → r ≡ read.Refused g → f ≡ readRefusal r → refused (f .number) (f .place) ≡ judgedNumbers bs
+  read-refused g f h k = ap refusedAs (k ∙ ap readRefusal h) ∙ ap meantRead (sym h) ∙ e
+
+-- ---- the lists
+
+module _ (bs : List ℕ) (bytes : Bytes bs) {m : Numbers} (h : Accepted bs m) {a s t e w g j x k : List ℕ}
+    (left : lists a s t e w g j x k ≡ listsAfter (chartIn bs) largest) where
+  abbrev ts : List Transition
+  ts = h .chart .transitions
+
+  laid-out : lists a s t e w g j x k ≡ laid (listsOf (h .chart)) largest
+  laid-out = rw (h .reads) at left
+
+  valid : Valid 2 (h .chart)
+  valid = reads-valid bs (h .chart) bytes (h .reads)
+
+  number : length ts ≡ m .transitions
+  unfolding numbersOf
+  number = sym (ap (λ (y : Numbers). y .transitions) (h .numbers-are))
+
+  few : m .transitions ≤ 512
+  few = omega (arith, number, valid .few-transitions)
+
+  -- a list with an entry for each transition, and one with an entry for each test
+  module _ (f : Transition → ℕ) {l : List ℕ} (p : l ≡ put (map f ts) (replicate 512 0)) where
+    each : take (m .transitions) l ≡ map f ts
+    each = front (map f ts) 512 (length-map ts f ∙ number) few p
+
+    each-size : 512 ≡ length l
+    each-size = sym (front-length (map f ts) 512 (length-map ts f ∙ number) few p)
+
+  module _ (f : Test → ℕ) {l : List ℕ} (p : l ≡ put (map f (allTests ts)) (replicate 4096 0)) where
+    test : take (length (allTests ts)) l ≡ map f (allTests ts)
+    test = front (map f (allTests ts)) 4096 (length-map (allTests ts) f) (all-tests valid) p
+
+    test-size : 4096 ≡ length l
+    test-size = sym (front-length (map f (allTests ts)) 4096 (length-map (allTests ts) f) (all-tests valid) p)
+
+  few-accepting : length (h .chart .accepting) ≤ 256
+  few-accepting = omega (arith, rising-length (h .chart .locations) 0 (h .chart .accepting) (valid .accepting) (omega arith), valid .few-locations)
+
+  pub lent : Lent (h .chart) m a s t w g j x k
+  unfolding laid listsOf largest
+  lent = record {
+    numbers-are = h .numbers-are;
+    accepting-are = front (h .chart .accepting) 256 refl few-accepting (ap (λ (y : Lists). y .accepting) laid-out);
+    fronts = record {
+      W = 2;
+      valid = valid;
+      transitions-are = number;
+      sources-are = each _ (ap (λ (y : Lists). y .sources) laid-out);
+      targets-are = each _ (ap (λ (y : Lists). y .targets) laid-out);
+      starts-are = each _ (ap (λ (y : Lists). y .starts) laid-out);
+      tests-are = each _ (ap (λ (y : Lists). y .counts) laid-out);
+      timers-are = test _ (ap (λ (y : Lists). y .timers) laid-out);
+      codes-are = test _ (ap (λ (y : Lists). y .codes) laid-out);
+      constants-are = test _ (ap (λ (y : Lists). y .constants) laid-out);
+    };
+  }
+
+  -- the sizes of the arrays
+  pub sizes : (512 ≡ length w) × (512 ≡ length g) × (4096 ≡ length j) × (4096 ≡ length x) × (4096 ≡ length k)
+  unfolding laid listsOf largest
+  sizes = (
+    each-size _ (ap (λ (y : Lists). y .starts) laid-out),
+    each-size _ (ap (λ (y : Lists). y .counts) laid-out),
+    test-size _ (ap (λ (y : Lists). y .timers) laid-out),
+    test-size _ (ap (λ (y : Lists). y .codes) laid-out),
+    test-size _ (ap (λ (y : Lists). y .constants) laid-out),
+  )
+
+-- ---- the answer
+
+module _ (bs counts is ts : List ℕ) where
+  pub accepted-answer : {m : Numbers} (h : Accepted bs m) {y : Answer Arrival} → y ≡ playedOn counts is ts (h .chart) → y ≡ playAnswer bs counts is ts
+  unfolding playAnswer
+  accepted-answer h f = f ∙ sym (rw (h .reads) (played-judged (h .chart) counts is ts (h .passes)))
+
+  pub refused-answer : {n p : ℕ} → refused n p ≡ judgedNumbers bs → refused n p ≡ playAnswer bs counts is ts
+  unfolding playAnswer judgedNumbers judgedIn
+  refused-answer {n} {p} e = go (chartIn bs) refl
+    where
+      of : (c : Chart) (x : Answer Chart) → judged c ≡ x → refused n p ≡ then x (λ d. result (numbersOf d)) → judged c ≡ refused n p
+      of c (result d) q z = absurd (not-result z)
+      of c (refused k i) q z = let y = refused-same z in q ∙ sym (ap₂ refused (y .0) (y .1))
+
+      go : (x : Answer Chart) → chartIn bs ≡ x → refused n p ≡ playAnswer bs counts is ts
+      go (result c) q = let z : refused n p ≡ then (judged c) (λ d. result (numbersOf d)) = rw q at e in sym (rw q (played-refused c counts is ts (of c (judged c) refl z)))
+      go (refused k i) q = let z : _≡_ {A = Answer Numbers} (refused n p) (refused k i) = rw q at e in let y = refused-same z in rw q (ap₂ refused (y .0) (y .1))

@@ -1,0 +1,5 @@
+pub mod Lent
+pub mod Inputs
+pub mod Files
+pub mod StepPlaces
+pub mod Refusals

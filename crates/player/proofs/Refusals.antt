@@ -1,0 +1,132 @@
+-- Which refusals the player gives on a file, 1 to 10 exactly as the judgement of the file, and what 9 and 10 say of its chart. Assumes nothing.
+use mathlib.Core.Path.{_≡_, refl, sym, ap₂, subst, _∙_}
+use mathlib.Core.Logic.{_⊎_, inl, inr, _↔_}
+use mathlib.Core.Bool.{Bool, true, false}
+use mathlib.Core.List.{List, [], _∷_}
+use Prim.Native.Nat.{ℕ, _≤_, _<_}
+use native.Mathlib.Omega.{arith}
+use lib.Dec.{leb, eqb}
+use lib.ListN.{length, getD}
+use borrow.Author.Tests.{leb-false}
+use Rattle.lists.specs.Lists.{memb, lowest}
+use Rattle.lists.specs.Rising.{All}
+use Rattle.lists.proofs.Membership.{memb-nil, memb-cases, memb-tail}
+use Rattle.model.specs.Answer.{Answer, result, refused, then, unless, nowhere}
+use Rattle.model.specs.Chart.{Chart}
+use Rattle.model.specs.Run.{playerTime}
+use Rattle.model.specs.Judge.{judged}
+use Rattle.model.specs.Player.{Arrival, answerOf, tooLarge, countsJudged, stepsOf, played}
+use Rattle.model.proofs.Answers.{refused-same, number-is}
+use Rattle.model.proofs.PlayerNumbers.{playedOn, after-numbers}
+use Rattle.model.proofs.Judgement.{LowestUnreached, LowestUnstarted}
+use Rattle.file_format.specs.File.{chartIn}
+use Rattle.file_format.proofs.RoundTrip.{Bytes}
+use Rattle.judgement.specs.Judging.{judgedIn}
+use Rattle.judgement.specs.Refusals.{RefusalOfJudgement}
+use Rattle.judgement.specs.Refusals.RefusalOfJudgement.{of-file, of-unreached, of-unstarted}
+use Rattle.judgement.proofs.Corollaries.{HoldsChart, judged-9, judged-10, judged-result, refusals-of-judgedIn}
+use Rattle.file_format.proofs.File.{reads-valid}
+use Rattle.player.specs.Playing.{playAnswer}
+use Rattle.player.specs.Refusals.{RefusalOfPlay}
+use Rattle.player.specs.Refusals.RefusalOfPlay.{of-judgement, of-counts, of-lengths, of-step}
+use Rattle.player.proofs.StepPlaces.{StepRefusal, answer-place, length-stepsOf}
+
+-- what is in a list is at least what all of it is
+least : (b n : ℕ) (l : List ℕ) → All (λ x. b ≤ x) l → memb n l ≡ true → b ≤ n
+least b n [] h m = absurd (memb-nil n m)
+least b n (x ∷ l) h m = go (memb-cases n x l m) (least b n l (h .1))
+  where
+    go : (n ≡ x) ⊎ (memb n l ≡ true) → (memb n l ≡ true → b ≤ n) → b ≤ n
+    go (inl e) f = omega (arith, h .0)
+    go (inr q) f = f q
+
+module _ (bs counts is ts : List ℕ) where
+  -- the judgement of the file, then 12, 13 and the steps
+  pub play-is : playAnswer bs counts is ts ≡ then (judgedIn bs) (playedOn counts is ts)
+  unfolding playAnswer judgedIn played
+  play-is = go (chartIn bs)
+    where
+      go : (x : Answer Chart) → then x (λ c. played c counts is ts) ≡ then (then x judged) (playedOn counts is ts)
+      go (result c) = refl
+      go (refused n p) = refl
+
+  after-judgement : (c : Chart) (n p : ℕ) → playedOn counts is ts c ≡ refused n p → 12 ≤ n
+  after-judgement c n p e =
+      least 12 n _ (omega arith, (omega arith, (omega arith, (omega arith, (omega arith, (omega arith, (omega arith, tt)))))))
+      (number-is _ _ (after-numbers counts is ts c) e)
+
+  -- 1 to 10 come exactly where the judgement of the file gives them
+  pub play-judged : (n p : ℕ) → n ≤ 10 → (playAnswer bs counts is ts ≡ refused n p) ↔ (judgedIn bs ≡ refused n p)
+  play-judged n p h = ((λ e. out (judgedIn bs) refl (sym play-is ∙ e)), (λ e. play-is ∙ rw e refl))
+    where
+      out : (x : Answer Chart) → judgedIn bs ≡ x → then (judgedIn bs) (playedOn counts is ts) ≡ refused n p → judgedIn bs ≡ refused n p
+      out (result c) q e = absurd (omega (arith, after-judgement c n p (rw q at e)))
+      out (refused m i) q e =
+          let z : _≡_ {A = Answer Arrival} (refused m i) (refused n p) = rw q at e in
+          let y = refused-same z in
+          q ∙ ap₂ refused (y .0) (y .1)
+
+  module _ (bytes : Bytes bs) where
+    -- 9 at the lowest location that no path reaches, 10 at the lowest transition with an unstarted test
+    pub play-9 : (q : ℕ) → (playAnswer bs counts is ts ≡ refused 9 q) ↔ HoldsChart bs (λ c. LowestUnreached c q)
+    play-9 q = let a = play-judged 9 q (omega arith) in let b = judged-9 bs bytes q in ((λ e. b .0 (a .0 e)), (λ h. a .1 (b .1 h)))
+
+    pub play-10 : (i : ℕ) → (playAnswer bs counts is ts ≡ refused 10 i) ↔ HoldsChart bs (λ c. LowestUnstarted c i)
+    play-10 i = let a = play-judged 10 i (omega arith) in let b = judged-10 bs bytes i in ((λ e. b .0 (a .0 e)), (λ h. a .1 (b .1 h)))
+
+  -- ---- every refusal, with its place
+
+  module _ (c : Chart) (few : c .timers ≤ 64) (n p : ℕ) where
+    abbrev answer : Answer Arrival
+    answer = answerOf playerTime c (λ j. getD counts j 0) (stepsOf is ts)
+
+    of-answer : answer ≡ refused n p → RefusalOfPlay (length is) n p
+    of-answer e =
+        let h : (memb n (14 ∷ 15 ∷ 22 ∷ 23 ∷ 24 ∷ []) ≡ true) × ((0 ≤ p) × (p < length (stepsOf is ts))) =
+        subst (StepRefusal 0 (length (stepsOf is ts))) e (answer-place c (λ j. getD counts j 0) (stepsOf is ts)) in
+        of-step (h .0) (omega (arith, h .1 .1, length-stepsOf is ts))
+
+    of-call : (same : Bool) → unless same 13 nowhere answer ≡ refused n p → RefusalOfPlay (length is) n p
+    of-call true e = of-answer e
+    of-call false e = of-lengths (sym (refused-same e .0)) (sym (refused-same e .1))
+
+    of-inputs : playedOn counts is ts c ≡ refused n p → RefusalOfPlay (length is) n p
+    unfolding countsJudged
+    of-inputs e = go (eqb (length counts) (c .timers)) (leb (c .timers) first) refl e
+      where
+        first : ℕ
+        first = lowest (tooLarge counts) (c .timers)
+
+        go : (one-each small : Bool) → leb (c .timers) first ≡ small
+            → unless one-each 12 nowhere (unless small 12 first (unless (eqb (length is) (length ts)) 13 nowhere answer)) ≡ refused n p → RefusalOfPlay (length is) n p
+        go false small q e = of-counts (sym (refused-same e .0)) (inl (sym (refused-same e .1)))
+        go true false q e = of-counts (sym (refused-same e .0)) (inr (omega (arith, refused-same e .1, leb-false (c .timers) first q)))
+        go true true q e = of-call (eqb (length is) (length ts)) e
+
+  pub refusals-of-play : Bytes bs → (n p : ℕ) → playAnswer bs counts is ts ≡ refused n p → RefusalOfPlay (length is) n p
+  refusals-of-play bytes n p e = go (judgedIn bs) refl (sym play-is ∙ e)
+    where
+      go : (x : Answer Chart) → judgedIn bs ≡ x → then (judgedIn bs) (playedOn counts is ts) ≡ refused n p → RefusalOfPlay (length is) n p
+      go (result c) q f = of-inputs c (reads-valid bs c bytes (judged-result bs bytes c .0 q .reads) .few-timers) n p (rw q at f)
+      go (refused m i) q f =
+          let z : _≡_ {A = Answer Arrival} (refused m i) (refused n p) = rw q at f in
+          let y = refused-same z in
+          of-judgement (refusals-of-judgedIn bs bytes n p (q ∙ ap₂ refused (y .0) (y .1)))
+
+-- ---- the numbers alone
+
+pub play-numbers : (bs counts is ts : List ℕ) → Bytes bs → (n p : ℕ) → playAnswer bs counts is ts ≡ refused n p
+    → ((1 ≤ n) × (n ≤ 10)) ⊎ (memb n (12 ∷ 13 ∷ 14 ∷ 15 ∷ 22 ∷ 23 ∷ 24 ∷ []) ≡ true)
+unfolding memb
+play-numbers bs counts is ts bytes n p e = go (refusals-of-play bs counts is ts bytes n p e)
+  where
+    judged-number : RefusalOfJudgement n p → (1 ≤ n) × (n ≤ 10)
+    judged-number (of-file f) = (omega (arith, f .first-number), omega (arith, f .last-number))
+    judged-number (of-unreached h l) = (omega arith, omega arith)
+    judged-number (of-unstarted h l) = (omega arith, omega arith)
+
+    go : RefusalOfPlay (length is) n p → ((1 ≤ n) × (n ≤ 10)) ⊎ (memb n (12 ∷ 13 ∷ 14 ∷ 15 ∷ 22 ∷ 23 ∷ 24 ∷ []) ≡ true)
+    go (of-judgement r) = inl (judged-number r)
+    go (of-counts h q) = inr (rw h refl)
+    go (of-lengths h q) = inr (rw h refl)
+    go (of-step m l) = inr (memb-tail n 12 (13 ∷ 14 ∷ 15 ∷ 22 ∷ 23 ∷ 24 ∷ []) (memb-tail n 13 (14 ∷ 15 ∷ 22 ∷ 23 ∷ 24 ∷ []) m))

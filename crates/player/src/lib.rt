@@ -1,0 +1,147 @@
+// The player: what a list of steps comes to on a chart file, from given starting counts.
+ghost use mathlib.Core.Path.{_≡_};
+ghost use mathlib.Core.List.{List};
+ghost use Rattle.model.specs.Chart.{Chart};
+ghost use Rattle.model.specs.Run.{Counts, Step, outcome, playerTime};
+ghost use Rattle.model.specs.Player.{answerOf};
+ghost use Rattle.steps.specs.Stepping.{Answered};
+ghost use Rattle.model.proofs.PlayerNumbers.{playedOn};
+ghost use Rattle.player.specs.Playing.{playAnswer, meantPlayed, readRefusal};
+ghost use Rattle.player.specs.Lent.{Lent, SomeLent};
+use chart_lists::Numbers;
+use chart_lists::Refusal;
+use reader::Read;
+use steps::Stepped;
+use steps::Verdict;
+
+// Where the steps end, or a refusal.
+pub enum Played {
+    Arrived {
+        location: u16,
+        time: u64,
+        accepting: bool,
+    },
+    Refused(Refusal),
+}
+
+// The refusal of an answer that is one.
+fn read_refusal(a: Read) -> Refusal
+    ensures { λ r. ⌜ r ≡ readRefusal a ⌝ }
+{
+    match a {
+        Read::Refused(f) => f,
+        Read::Chart(_) => Refusal {
+            number: 0,
+            place: 0,
+        },
+    }
+}
+
+// Where the steps ended, with whether that location accepts.
+fn arrived(accepting: &[u16], out: Stepped) -> Played
+    ensures { λ r. ⌜ ((c : Chart) (v : Counts) (es : List Step) → now (accepting .entry) ≡ c .accepting → Answered out (outcome playerTime c v es)
+        → meantPlayed r ≡ answerOf playerTime c v es) ⌝ }
+{
+    let verdict = out.verdict;
+    match verdict {
+        Verdict::Refused(f) => Played::Refused(f),
+        Verdict::Taken => {
+            let location = out.state.location;
+            Played::Arrived {
+                location,
+                time: out.state.time,
+                accepting: steps::accepts(accepting, location),
+            }
+        }
+    }
+}
+
+// On a chart that is judged: 12, 13, then the steps.
+fn play_chart<'a>(
+    accepting: &'a [u16],
+    sources: &'a [u16],
+    targets: &'a [u16],
+    starts: &'a [u64],
+    tests: &'a [u8],
+    timers: &'a [u8],
+    codes: &'a [u8],
+    constants: &'a [u16],
+    numbers: Numbers,
+    counts: &[u32],
+    transitions: &[u32],
+    times: &[u64],
+) -> Played
+    requires { ⌜ SomeLent numbers (now accepting) (now sources) (now targets) (now starts) (now tests) (now timers) (now codes) (now constants) ⌝ }
+    ensures { λ r. ⌜ ((c : Chart) → Lent c numbers (now (accepting .entry)) (now (sources .entry)) (now (targets .entry)) (now (starts .entry)) (now (tests .entry)) (now (timers .entry)) (now (codes .entry)) (now (constants .entry))
+        → meantPlayed r ≡ playedOn (now (counts .entry)) (now (transitions .entry)) (now (times .entry)) c) ⌝ }
+{
+    if counts.len() != numbers.timers as usize {
+        return Played::Refused(Refusal {
+            number: 12,
+            place: 65535,
+        });
+    }
+    let first = steps::first_too_large(counts);
+    if first < counts.len() {
+        return Played::Refused(Refusal {
+            number: 12,
+            place: first as u64,
+        });
+    }
+    if transitions.len() != times.len() {
+        return Played::Refused(Refusal {
+            number: 13,
+            place: 65535,
+        });
+    }
+    let n = numbers.transitions as usize;
+    let out = steps::play_steps(
+        sources,
+        targets,
+        starts,
+        tests,
+        timers,
+        codes,
+        constants,
+        n,
+        numbers.initial,
+        counts,
+        transitions,
+        times,
+    );
+    let a = numbers.accepting as usize;
+    arrived(&accepting[..a], out)
+}
+
+// The player, called on a chart file.
+pub fn play(file: &[u8], counts: &[u32], transitions: &[u32], times: &[u64]) -> Played
+    ensures { λ r. ⌜ meantPlayed r ≡ playAnswer (now (file .entry)) (now (counts .entry)) (now (transitions .entry)) (now (times .entry)) ⌝ }
+{
+    let h = judgement::judge(file);
+    let answer = h.answer;
+    let Read::Chart(numbers) = answer else {
+        return Played::Refused(read_refusal(answer));
+    };
+    let accepting = h.accepting;
+    let sources = h.sources;
+    let targets = h.targets;
+    let starts = h.starts;
+    let tests = h.counts;
+    let timers = h.timers;
+    let codes = h.codes;
+    let constants = h.constants;
+    play_chart(
+        &accepting,
+        &sources,
+        &targets,
+        &starts,
+        &tests,
+        &timers,
+        &codes,
+        &constants,
+        numbers,
+        counts,
+        transitions,
+        times,
+    )
+}

@@ -1,0 +1,10 @@
+pub mod Sums
+pub mod TestTurns
+pub mod Counts
+pub mod Charts
+pub mod Attempts
+pub mod StepLists
+pub mod Accepting
+pub mod Starting
+pub mod ChartFronts
+pub mod Arrivals

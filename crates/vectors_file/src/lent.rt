@@ -1,0 +1,97 @@
+// What has become of lent memory that was filled with bytes 170.
+use crate::input::plus;
+
+fn wide8(x: u8) -> u64 {
+    x as u64
+}
+
+fn wide16(x: u16) -> u64 {
+    x as u64
+}
+
+// An entry of a list as a wide number, 0 past its end.
+pub fn entry8(list: &[u8], i: usize) -> u64 {
+    if i < list.len() { wide8(list[i]) } else { 0 }
+}
+
+pub fn entry16(list: &[u16], i: usize) -> u64 {
+    if i < list.len() { wide16(list[i]) } else { 0 }
+}
+
+pub fn entry64(list: &[u64], i: usize) -> u64 {
+    if i < list.len() { list[i] } else { 0 }
+}
+
+// The sum of the first n entries.
+pub fn total(counts: &[u8], n: usize) -> usize {
+    let mut sum = 0;
+    let mut i = 0;
+    while i < n {
+        sum = plus(sum, entry8(counts, i) as usize);
+        i += 1;
+    }
+    sum
+}
+
+// How many entries are not as they were: from the a-th on in the list of accepting locations, from the n-th on in those of the transitions, and from
+// the g-th on in those of the tests.
+pub fn changed(
+    a: usize,
+    n: usize,
+    g: usize,
+    accepting: &[u16],
+    sources: &[u16],
+    targets: &[u16],
+    events: &[u8],
+    starts: &[u64],
+    counts: &[u8],
+    timers: &[u8],
+    codes: &[u8],
+    constants: &[u16],
+) -> usize {
+    let ends = plus(changed16(sources, n), changed16(targets, n));
+    let heads = plus(
+        plus(changed8(events, n), changed64(starts, n)),
+        changed8(counts, n),
+    );
+    let tests = plus(
+        plus(changed8(timers, g), changed8(codes, g)),
+        changed16(constants, g),
+    );
+    plus(changed16(accepting, a), plus(ends, plus(heads, tests)))
+}
+
+fn unlike(x: u64, was: u64) -> usize {
+    if x == was { 0 } else { 1 }
+}
+
+// How many entries from a position on are not as they were.
+pub fn changed8(list: &[u8], from: usize) -> usize {
+    let mut sum = 0;
+    let mut i = from;
+    while i < list.len() {
+        sum = plus(sum, unlike(entry8(list, i), 170));
+        i += 1;
+    }
+    sum
+}
+
+fn changed16(list: &[u16], from: usize) -> usize {
+    let mut sum = 0;
+    let mut i = from;
+    while i < list.len() {
+        sum = plus(sum, unlike(entry16(list, i), 43690));
+        i += 1;
+    }
+    sum
+}
+
+fn changed64(list: &[u64], from: usize) -> usize {
+    let mut sum = 0;
+    let mut i = from;
+    while i < list.len() {
+        sum = plus(sum, unlike(entry64(list, i), 12297829382473034410));
+        i += 1;
+    }
+    sum
+}
