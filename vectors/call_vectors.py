@@ -1,0 +1,147 @@
+"""Vectors for the analysis, the rewriting and the player. The expected lines are written from document 01 and paper 003, not taken from a run.
+
+`vectors/make` turns them into the input and the expected output of crates/vectors_calls. What the program prints:
+  analysis    used U floor F beyond C, then: live W W ..    (words of locations 0 to 7 and of the last one)
+  rewriting   used U length N HEX next HH                    (the bytes of the new file, the last 8 if over 64, and the byte after them)
+  player      location L time T accepting B                  (B is 1 or 0)
+  a refusal   refused N P changed C                          (C: lent entries or bytes that are not as they were; 0 where nothing is lent)
+Lent memory is filled with bytes 170 (hex aa) before each call.
+"""
+
+AT_MOST, BELOW, AT_LEAST, ABOVE, EQUAL = range(5)
+ANALYSE, REWRITE, PLAY = [], [], []
+
+
+def chart(locations, timers, arrows, initial=0, accepting=None):
+    """A version 1 file. An arrow: source, target, started timers, tests (timer, code, constant). The last location accepts unless said."""
+    accepting = [locations - 1] if accepting is None else accepting
+    n = lambda v, w: v.to_bytes(w, 'big')
+    body = n(locations, 2) + n(initial, 2) + n(timers, 1) + n(len(accepting), 2) + b''.join(n(q, 2) for q in accepting) + n(len(arrows), 2)
+    for source, target, starts, tests in arrows:
+        record = n(source, 2) + n(target, 2) + n(0, 1) + n(len(starts), 1) + bytes(starts) + n(len(tests), 1)
+        record += b''.join(n(j, 1) + n(code, 1) + n(k, 2) for j, code, k in tests)
+        body += n(len(record), 2) + record
+    return n(1, 1) + n(len(body), 4) + body
+
+
+# ---- the charts of document 01
+A = chart(7, 3, [(0, 1, [0], []), (1, 2, [1], []), (2, 3, [2], [(0, AT_LEAST, 3)]), (2, 4, [2], [(1, AT_MOST, 7)]),
+                 (3, 5, [], [(1, BELOW, 9)]), (4, 5, [], [(0, EQUAL, 4)]), (5, 6, [], [(2, ABOVE, 2)])])
+B = chart(4, 2, [(0, 1, [0], []), (1, 2, [1], [(0, AT_MOST, 2)]), (2, 3, [], [(1, AT_LEAST, 1)])])
+B_BOARD = chart(4, 1, [(0, 1, [0], []), (1, 2, [0], [(0, AT_MOST, 2)]), (2, 3, [], [(0, AT_LEAST, 1)])])
+C = chart(6, 2, [(0, 1, [1], []), (1, 2, [0], []), (2, 3, [], [(0, AT_LEAST, 1)]), (3, 4, [0], [(1, AT_MOST, 9)]), (4, 5, [], [(0, AT_LEAST, 2)])])
+C_BOARD = chart(6, 2, [(0, 1, [0], []), (1, 2, [1], []), (2, 3, [], [(1, AT_LEAST, 1)]), (3, 4, [0], [(0, AT_MOST, 9)]), (4, 5, [], [(0, AT_LEAST, 2)])])
+SELF_LOOP = chart(1, 1, [(0, 0, [0], [])])
+SELF_LOOP_BOARD = chart(1, 0, [(0, 0, [], [])])
+NEVER_STARTED = chart(2, 1, [(0, 0, [0], []), (0, 1, [], [(0, AT_LEAST, 0)])])
+SMALL = bytes.fromhex('0100000009000100000000000000')
+# Fig. 1 of paper 003 as its text determines it: r1 to r7 are transitions 0 to 6, l0 to l6 locations 0 to 6
+FIG_1 = chart(7, 3, [(0, 1, [0], []), (1, 2, [1], [(0, AT_LEAST, 1)]), (2, 3, [2], []), (2, 4, [2], []),
+                     (3, 5, [], [(1, AT_MOST, 9)]), (4, 5, [], [(0, AT_MOST, 9)]), (5, 6, [], [(2, AT_MOST, 9)])])
+RESTART = chart(4, 1, [(0, 1, [0], []), (1, 2, [0], [(0, AT_MOST, 1)]), (2, 3, [], [(0, AT_MOST, 1)])])
+PARALLEL = chart(4, 1, [(0, 1, [0], []), (1, 2, [0], []), (1, 2, [], []), (2, 3, [], [(0, AT_MOST, 1)])])
+CHAIN = chart(256, 1, [(0, 1, [0], [])] + [(q, q + 1, [], []) for q in range(1, 254)] + [(254, 255, [], [(0, EQUAL, 5)])])
+# Families of timers 0 to 63 hold 0 to 63 at location 1; timer 1, started anew, holds 0 at 2 and 4; timer 0, started anew, lives at 3 beside 1 to
+# 63 and at 4 beside that 0: it gets 64
+EVERY = list(range(64))
+OVER_64 = chart(6, 64, [(0, 1, EVERY, []), (1, 2, [1], []), (1, 3, [0], [(0, AT_MOST, 1)]), (2, 4, [0], []), (3, 4, [1], [])]
+                + [(3, 5, [], [(j, AT_MOST, 1) for j in range(k, min(k + 8, 64))]) for k in range(1, 64, 8)]
+                + [(4, 5, [], [(0, AT_MOST, 1), (1, AT_MOST, 1)])])
+ALL = 2 ** 64 - 1
+
+
+def analyse(comment, file, room, lines):
+    ANALYSE.append((comment, file, room, lines if isinstance(lines, list) else [lines]))
+
+
+analyse('A', A, 7, ['used 3 floor 2 beyond 0', 'live 0 1 3 6 5 4 0'])
+analyse('A, a longer list', A, 256, ['used 3 floor 2 beyond 0', 'live 0 1 3 6 5 4 0'])
+analyse('A, a list one word too short', A, 6, 'refused 21 65535 changed 0')
+analyse('B', B, 4, ['used 1 floor 1 beyond 0', 'live 0 1 2 0'])
+analyse('C', C, 6, ['used 2 floor 2 beyond 0', 'live 0 2 3 2 1 0'])
+analyse('one location, 0→0 starting timer 0', SELF_LOOP, 1, ['used 0 floor 0 beyond 0', 'live 0'])
+analyse('a test that no path starts', NEVER_STARTED, 2, 'refused 10 1 changed 0')
+analyse('10 comes before 21', NEVER_STARTED, 0, 'refused 10 1 changed 0')
+analyse('the chart of one location', SMALL, 1, ['used 0 floor 0 beyond 0', 'live 0'])
+analyse('one byte fewer', SMALL[:-1], 1, 'refused 1 65535 changed 0')
+analyse('Fig. 1 of paper 003: active(r2) = {0,1}, active(r3) = {1,2}, active(r4) = {0,2}, active(r5) = active(r6) = {2}', FIG_1, 7,
+        ['used 3 floor 2 beyond 0', 'live 0 1 3 6 5 4 0'])
+analyse('a restart keeps two families apart', RESTART, 4, ['used 1 floor 1 beyond 0', 'live 0 1 1 0'])
+analyse('two parallel transitions, one of which starts the timer', PARALLEL, 4, ['used 1 floor 1 beyond 0', 'live 0 1 1 0'])
+analyse('a chain of 256 locations', CHAIN, 256, ['used 1 floor 1 beyond 0', 'live 0 1 1 1 1 1 1 1 0'])
+analyse('used over 64', OVER_64, 6, ['used 65 floor 64 beyond 0', 'live 0 %d 2 %d 3 0' % (ALL, ALL)])
+analyse('location 2 is not reached', chart(4, 0, [(0, 1, [], []), (1, 3, [], []), (2, 3, [], [])]), 4, 'refused 9 2 changed 0')
+analyse('location 0 is not reached from 2', chart(3, 0, [(2, 1, [], []), (0, 1, [], [])], initial=2), 3, 'refused 9 0 changed 0')
+analyse('9 comes before 10', chart(3, 1, [(0, 1, [], [(0, AT_MOST, 1)])]), 3, 'refused 9 2 changed 0')
+analyse('10 at transition 2', chart(3, 2, [(0, 1, [0], []), (1, 2, [], [(0, AT_MOST, 1)]), (1, 2, [], [(1, AT_MOST, 1)])]), 3, 'refused 10 2 changed 0')
+analyse('one of two paths starts the timer', chart(3, 1, [(0, 1, [0], []), (0, 1, [], []), (1, 2, [], [(0, AT_MOST, 1)])]), 3, 'refused 10 2 changed 0')
+analyse('a start on the same transition does not help', chart(2, 1, [(0, 1, [0], [(0, AT_MOST, 1)])]), 2, 'refused 10 0 changed 0')
+analyse('a loop that starts the timer need not be taken', chart(3, 1, [(0, 1, [], []), (1, 1, [0], []), (1, 2, [], [(0, AT_MOST, 1)])]), 3,
+        'refused 10 2 changed 0')
+
+
+def rewrite(comment, file, k, room, lines):
+    REWRITE.append((comment, file, k, room, lines if isinstance(lines, list) else [lines]))
+
+
+def rewritten(used, file, room):
+    tail = file.hex() if len(file) <= 64 else file[-8:].hex()
+    return 'used %d length %d %s next %s' % (used, len(file), tail, 'aa' if len(file) < room else '--')
+
+
+rewrite('A with K = 3', A, 3, 65536, rewritten(3, A, 65536))
+rewrite('A with K = 2', A, 2, 65536, 'refused 20 65535 changed 0')
+rewrite('20 comes before 21', A, 2, 0, 'refused 20 65535 changed 0')
+rewrite('B with K = 16', B, 16, 65536, rewritten(1, B_BOARD, 65536))
+rewrite('B with K = 1, room for exactly the file', B, 1, len(B_BOARD), rewritten(1, B_BOARD, len(B_BOARD)))
+rewrite('B, one byte too short', B, 1, len(B_BOARD) - 1, 'refused 21 65535 changed 0')
+rewrite('B with K = 0', B, 0, 65536, 'refused 20 65535 changed 0')
+rewrite('C with K = 2', C, 2, 65536, rewritten(2, C_BOARD, 65536))
+rewrite('C with K = 1', C, 1, 65536, 'refused 20 65535 changed 0')
+rewrite('the start is gone, K = 0 suffices', SELF_LOOP, 0, 65536, rewritten(0, SELF_LOOP_BOARD, 65536))
+rewrite('K = 64 is judged', A, 64, 65536, rewritten(3, A, 65536))
+rewrite('K = 65', A, 65, 65536, 'refused 11 65535 changed 0')
+rewrite('the largest K', A, 4294967295, 65536, 'refused 11 65535 changed 0')
+rewrite('10 comes before 11', NEVER_STARTED, 65, 65536, 'refused 10 1 changed 0')
+rewrite('11 comes before 21', A, 65, 0, 'refused 11 65535 changed 0')
+rewrite('used 65 does not fit 64', OVER_64, 64, 65536, 'refused 20 65535 changed 0')
+rewrite('the chart of one location', SMALL, 0, 14, rewritten(0, SMALL, 14))
+rewrite('a file cut', B[:-1], 16, 65536, 'refused 1 65535 changed 0')
+
+
+# counts, then steps (transition, time); the transitions and times of `extra` are appended to one list only
+def play(comment, file, counts, steps, line, transitions=None, times=None, repeat=0):
+    PLAY.append((comment, file, counts, [s[0] for s in steps] if transitions is None else transitions,
+                 [s[1] for s in steps] if times is None else times, repeat, [line]))
+
+
+MOST = 16777215
+for name, file, zero, full in [('drawn', B, [0, 0], [MOST, MOST]), ('rewritten', B_BOARD, [0], [MOST])]:
+    for counts in (zero, full):
+        play('B %s: 0, 1, 2 at 5, 7, 8' % name, file, counts, [(0, 5), (1, 7), (2, 8)], 'location 3 time 8 accepting 1')
+        play('B %s: 0, 1 at 5, 8' % name, file, counts, [(0, 5), (1, 8)], 'refused 24 1 changed 0')
+        play('B %s: 0, 1 at 5, 4' % name, file, counts, [(0, 5), (1, 4)], 'refused 23 1 changed 0')
+        play('B %s: 0, 1, 2 at 5, 7, 7' % name, file, counts, [(0, 5), (1, 7), (2, 7)], 'refused 24 2 changed 0')
+play('no steps', B, [0, 0], [], 'location 0 time 0 accepting 0')
+play('no steps, the initial location accepts', SELF_LOOP, [0], [], 'location 0 time 0 accepting 1')
+play('timer 0 too large', B, [MOST + 1, 0], [], 'refused 12 0 changed 0')
+play('timer 1 too large', B, [0, MOST + 1], [], 'refused 12 1 changed 0')
+play('a count too few', B, [0], [], 'refused 12 65535 changed 0')
+play('a count too many, and one too large', B, [MOST + 1, 0, 0], [], 'refused 12 65535 changed 0')
+play('lists of unequal length', B, [0, 0], [], 'refused 13 65535 changed 0', transitions=[0, 1], times=[5])
+play('12 comes before 13', B, [0], [], 'refused 12 65535 changed 0', transitions=[0], times=[])
+play('10 comes before 12', NEVER_STARTED, [], [], 'refused 10 1 changed 0')
+play('no such transition', B, [0, 0], [(3, 5)], 'refused 14 0 changed 0')
+play('no such transition, however large, and a late time', B, [0, 0], [(4294967295, MOST + 1)], 'refused 14 0 changed 0')
+play('too late', B, [0, 0], [(0, MOST + 1)], 'refused 15 0 changed 0')
+play('too late comes before a wrong location', B, [0, 0], [(1, MOST + 1)], 'refused 15 0 changed 0')
+play('as late as may be', B, [0, 0], [(0, MOST)], 'location 1 time 16777215 accepting 0')
+play('a wrong location', B, [0, 0], [(1, 5)], 'refused 22 0 changed 0')
+play('a wrong location comes before an early time', B, [0, 0], [(0, 5), (0, 4)], 'refused 22 1 changed 0')
+play('an early time comes before a test', B, [0, 0], [(0, 5), (1, 7), (2, 6)], 'refused 23 2 changed 0')
+play('later steps are not looked at', B, [0, 0], [(1, 5), (9, 0), (0, MOST + 1)], 'refused 22 0 changed 0')
+play('the same time twice', A, [0, 0, 0], [(0, 0), (1, 0)], 'location 2 time 0 accepting 0')
+play('A by 2→3: 0 at least 3, 1 below 9, 2 above 2', A, [9, 9, 9], [(0, 1), (1, 2), (2, 4), (4, 5), (6, 7)], 'location 6 time 7 accepting 1')
+play('A by 2→4: 1 at most 7, 0 equal 4, 2 above 2', A, [0, 0, 0], [(0, 1), (1, 2), (3, 3), (5, 5), (6, 6)], 'location 6 time 6 accepting 1')
+play('A: 0 equal 4 is not met at 5', A, [0, 0, 0], [(0, 1), (1, 2), (3, 3), (5, 6)], 'refused 24 3 changed 0')
+play('70,000 steps, then one that names no transition', SELF_LOOP, [0], [(0, 0), (1, 0)], 'refused 14 70000 changed 0', repeat=70000)
