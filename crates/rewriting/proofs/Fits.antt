@@ -15,12 +15,15 @@ use Rattle.model.specs.Valid.{Valid}
 use Rattle.model.specs.Path.{Born}
 use Rattle.model.specs.FirstFit.{numberAt, board, used}
 use Rattle.model.specs.Rewrite.{numbering, newTransition}
-use Rattle.model.specs.Judge.{Rewriting, rewriting}
+use Rattle.model.specs.Judge.{Rewriting, judged, rewriting}
+use Rattle.model.specs.Player.{played}
+use Rattle.model.specs.Equivalence.{Alike}
 use Rattle.model.proofs.BoardPlan.{born-starts}
 use Rattle.model.proofs.Rewritten.{new-nth}
 use Rattle.model.proofs.RewrittenValid.{NamesBelow, names-below}
 use Rattle.model.proofs.RewritingAlike.{rewriting-is}
-use Rattle.model.proofs.EqualAnswers.{equal-behaviour}
+use Rattle.model.proofs.PlayerLaws.{CountsAllowed}
+use Rattle.model.proofs.EqualAnswers.{equal-behaviour, rewriting-judged, equal-answers}
 use Rattle.file_format.specs.File.{chartIn, fileOf}
 use Rattle.file_format.proofs.Answers.{then-result, unless-result}
 use Rattle.file_format.proofs.File.{reads-valid, chart-survives}
@@ -81,6 +84,17 @@ module _ {K : ℕ} {bs : List ℕ} (bytes : Bytes bs) {x : Rewriting} (o : Rewri
     rw (rewriting-is K c x (o .made) .chart) (new-nth (numbering (board c)) c i n),
     born-starts valid-chart r,
   )
+
+  -- both charts behave alike, the new one is judged as the drawn one, and from counts that 12 allows for each the player answers alike
+  pub rewriting-alike : Alike (o .chart) (x .chart)
+  rewriting-alike = equal-behaviour 2 K (o .chart) valid-chart x (o .made) .alike
+
+  pub rewriting-accepted : judged (x .chart) ≡ result (x .chart)
+  rewriting-accepted = rewriting-judged 2 K (o .chart) valid-chart x (o .made)
+
+  pub answers-alike : (v w : List ℕ) → CountsAllowed (o .chart) v → CountsAllowed (x .chart) w → (is ts : List ℕ)
+      → played (o .chart) v is ts ≡ played (x .chart) w is ts
+  answers-alike = equal-answers 2 K (o .chart) valid-chart x (o .made)
 
 pub answer-fits : (K room : ℕ) (bs : List ℕ) → Bytes bs → (x : Rewriting) → rewriteInto K room bs ≡ result x → FitsBoard K x
 answer-fits K room bs bytes x e = rewriting-fits bytes (rewriting-of K room bs x e)
