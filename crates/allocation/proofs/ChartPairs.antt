@@ -39,7 +39,7 @@ module _ {A : Type 0} where
   getD-map f l i e = getD-nth (map f l) i 0 (nth-map f l i e)
 
   -- a list by numbers is a mapped list, if each element is what its place gives
-  upTo-map : {B : Type 0} (d : B) (f : ℕ → B) (g : A → B) (l : List A) (n : ℕ) → n ≡ length l → ((i : ℕ) (a : A) → getElem? l i ≡ some a → f i ≡ g a)
+  pub upTo-map : {B : Type 0} (d : B) (f : ℕ → B) (g : A → B) (l : List A) (n : ℕ) → n ≡ length l → ((i : ℕ) (a : A) → getElem? l i ≡ some a → f i ≡ g a)
       → upTo f n ≡ map g l
   upTo-map d f g l n e each = ext-getD d (upTo f n) (map g l) (length-upTo f n ∙ e ∙ sym (length-map l g)) (λ i h.
       let b : i < n = omega (arith, length-upTo f n) in

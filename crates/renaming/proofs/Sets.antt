@@ -11,11 +11,10 @@ use native.Mathlib.Omega.{arith}
 use lib.Dec.{ltb, eqb}
 use lib.ListN.{length, getD, getElem?, set, length-map}
 use lib.Pow.{pow-pos}
-use lib.Seq.{ext-getD}
 use borrow.Author.Tests.{ltb-true, lt-ltb, le-ltb}
 use Rattle.lists.specs.Lists.{memb, gather, upTo}
 use Rattle.lists.proofs.Bools.{or-cases, or-left, or-right, same-bool, same-number, eqb-self, not-both}
-use Rattle.lists.proofs.Gather.{length-upTo, getD-upTo, rising-below}
+use Rattle.lists.proofs.Gather.{length-upTo, rising-below}
 use Rattle.lists.proofs.Membership.{nth-map}
 use Rattle.timer_set.specs.Members.{member, added}
 use Rattle.timer_set.proofs.Members.{member-added, member-empty, added-lt, setOf-lt, member-ext}
@@ -26,12 +25,13 @@ use Rattle.model.specs.FirstFit.{Placed, numberAt}
 use Rattle.model.specs.Rewrite.{numbering, newStarts, newTransition}
 use Rattle.model.proofs.NumberAt.{number-below}
 use Rattle.model.proofs.Rewritten.{starts-in, starts-out, starts-below}
-use Rattle.model.proofs.Transitions.{nth-below, nth-valid}
+use Rattle.model.proofs.Transitions.{nth-valid}
 use Rattle.model.proofs.TransitionSets.{member-starts}
 use Rattle.chart_lists.specs.Lists.{put}
 use Rattle.chart_lists.proofs.Put.{put-last}
 use Rattle.flow.proofs.EdgeLists.{getD-nth}
 use Rattle.allocation.specs.Cells.{cell}
+use Rattle.allocation.proofs.ChartPairs.{upTo-map}
 use Rattle.allocation.proofs.CellList.{cells-at, cell-some}
 use Rattle.renaming.specs.Renaming.{cellAt, withNumber, renamedSet, renamedSets, CellsOf}
 
@@ -153,14 +153,6 @@ sets-more numbers targets starts i l {out} {v} h o e =
 
 -- ---- of a chart's transitions
 
--- what the elements of a list give, by their places
-upTo-map : {A : Type 0} (l : List A) (f : ℕ → ℕ) (g : A → ℕ) → ((i : ℕ) (a : A) → getElem? l i ≡ some a → f i ≡ g a) → upTo f (length l) ≡ map g l
-upTo-map l f g h = ext-getD 0 (upTo f (length l)) (map g l) (length-upTo f (length l) ∙ sym (length-map l g))
-    (λ i b.
-    let b′ : i < length l = omega (arith, length-upTo f (length l)) in
-    let x = nth-below l i b′ in
-    getD-upTo f (length l) i 0 b′ ∙ h i (x .0) (x .1) ∙ sym (getD-nth (map g l) i 0 (nth-map g l i (x .1))))
-
 module _ {c : Chart} {ps : List Placed} {numbers : List ℕ} (cs : CellsOf c ps numbers) where
   -- a cell of the board is the number of its pair
   pub cell-number : (q j : ℕ) → q < c .locations → j < 64 → cellAt numbers q j ≡ cell (numberAt ps q j)
@@ -201,7 +193,7 @@ module _ {c : Chart} {ps : List Placed} {numbers : List ℕ} (cs : CellsOf c ps 
   pub renamed-sets : (targets starts : List ℕ) → targets ≡ map (λ (r : Transition). r .target) (c .transitions) → starts ≡ map startsSet (c .transitions)
       → renamedSets numbers targets starts (length targets) ≡ map startsSet (map (newTransition (numbering ps)) (c .transitions))
   unfolding renamedSets
-  renamed-sets targets starts e f = rw (e, f, length-map, map-map) (upTo-map (c .transitions) _ _ at)
+  renamed-sets targets starts e f = rw (e, f, length-map, map-map) (upTo-map 0 _ _ (c .transitions) (length (c .transitions)) refl at)
     where
       at : (i : ℕ) (r : Transition) → getElem? (c .transitions) i ≡ some r
           → renamedSet numbers (getD (map (λ (r : Transition). r .target) (c .transitions)) i 0) (getD (map startsSet (c .transitions)) i 0) 64

@@ -1,7 +1,7 @@
 -- What the judgement of the file leaves is what the rewriting asks for, and its refusals are the rewriting's. Assumes nothing.
 use mathlib.Core.Path.{_≡_, refl, sym, ap, _∙_}
 use mathlib.Core.List.{List, map}
-use Prim.Native.Nat.{ℕ, _≤_}
+use Prim.Native.Nat.{ℕ}
 use native.Mathlib.Omega.{arith}
 use lib.ListN.{length, take, replicate, length-map}
 use lib.Seq.{take-length}
@@ -19,6 +19,7 @@ use Rattle.chart_lists.specs.declared.Numbers.{Numbers}
 use Rattle.chart_lists.specs.Numbers.{numbersOf}
 use Rattle.chart_lists.proofs.Put.{take-put}
 use Rattle.reader.specs.Reading.{listsAfter}
+use Rattle.judgement.specs.declared.Judged.{Judged}
 use Rattle.judgement.specs.Judging.{judgedIn, judgedNumbers, numbersRead, largest, testedAfter}
 use Rattle.judgement.proofs.Fronts.{Holds, holds, of-all, front-length, tests-of, timers-for}
 use Rattle.judgement.proofs.Largest.{all-tests}
@@ -84,38 +85,51 @@ module _ (K room : ℕ) (bs : List ℕ) {m : Numbers} (x : JudgedChart bs m) whe
 
 -- ---- the arrays that the judgement leaves
 
-module _ (bs : List ℕ) (bytes : Bytes bs) {m : Numbers} (a s t e w g j x k tested : List ℕ) (answer : result m ≡ judgedNumbers bs)
-    (laid-are : lists a s t e w g j x k ≡ listsAfter (chartIn bs) largest) (tested-are : tested ≡ testedAfter (chartIn bs)) where
+-- the nine lists as one record
+abbrev pub arrays : Judged → Lists
+arrays h = lists (h .accepting) (h .sources) (h .targets) (h .events) (h .starts) (h .counts) (h .timers) (h .codes) (h .constants)
+
+-- what the judgement says of a file that it accepts, with these numbers
+pub record AcceptedFile (bs : List ℕ) (m : Numbers) (h : Judged) : Type 0 where
+  pub bytes : Bytes bs
+  pub answer : result m ≡ judgedNumbers bs
+  pub lists-are : arrays h ≡ listsAfter (chartIn bs) largest
+  pub tested-are : h .tested ≡ testedAfter (chartIn bs)
+
+module _ {bs : List ℕ} {m : Numbers} {h : Judged} (x : AcceptedFile bs m h) where
   file-read : result m ≡ numbersRead bs
   unfolding numbersRead
-  file-read = let y = judged-chart bs answer in rw (y .reads) (ap result (y .numbers-are))
+  file-read = let y = judged-chart bs (x .answer) in rw (y .reads) (ap result (y .numbers-are))
 
-  pub held : Holds bs m s t w g j
-  held = holds bs bytes a s t e w g j x k file-read laid-are
+  pub held : Holds bs m (h .sources) (h .targets) (h .starts) (h .counts) (h .timers)
+  held =
+      holds bs (x .bytes) (h .accepting) (h .sources) (h .targets) (h .events) (h .starts) (h .counts) (h .timers) (h .codes) (h .constants) file-read (x .lists-are)
 
   -- it is the chart that is judged
   pub judged-held : JudgedChart bs m
   judged-held =
-      let y = judged-chart bs answer in
+      let y = judged-chart bs (x .answer) in
       let same : y .chart ≡ held .chart = result-same (sym (y .reads) ∙ held .reads) in
       record { chart = held .chart; reads = held .reads; accepted = rw same at (y .accepted); numbers-are = held .numbers-are }
 
-  all-laid : lists a s t e w g j x k ≡ laid (listsOf (held .chart)) largest
-  all-laid = rw (held .reads) at laid-are
+  all-laid : arrays h ≡ laid (listsOf (held .chart)) largest
+  all-laid = rw (held .reads) at (x .lists-are)
 
-  pub tested-held : tested ≡ put (map testsSet (held .chart .transitions)) (replicate 512 0)
-  tested-held = rw (held .reads) at tested-are
+  pub tested-held : h .tested ≡ put (map testsSet (held .chart .transitions)) (replicate 512 0)
+  tested-held = rw (held .reads) at (x .tested-are)
 
   -- a list of which only so many entries are lent
   cut-begins : (f : Transition → ℕ) {l : List ℕ} → l ≡ put (map f (held .chart .transitions)) (replicate 512 0)
       → Begins (map f (held .chart .transitions)) (take (m .transitions) l)
-  cut-begins f h = record { is = rw (of-all held f h) (take-length _) }
+  cut-begins f p = record { is = rw (of-all held f p) (take-length _) }
 
   whole-begins : (xs l : List ℕ) {y : List ℕ} → y ≡ put xs l → Begins xs y
-  whole-begins xs l h = record { is = rw h (take-put xs l (length xs) refl) }
+  whole-begins xs l p = record { is = rw p (take-put xs l (length xs) refl) }
 
   abbrev lent : Lists
-  lent = lists a (take (m .transitions) s) (take (m .transitions) t) e (take (m .transitions) w) (take (m .transitions) g) j x k
+  lent =
+      lists (h .accepting) (take (m .transitions) (h .sources)) (take (m .transitions) (h .targets)) (h .events) (take (m .transitions) (h .starts))
+      (take (m .transitions) (h .counts)) (h .timers) (h .codes) (h .constants)
 
   lists-begin : ListsBegin (listsOf (held .chart)) lent
   unfolding listsOf laid largest
@@ -133,26 +147,26 @@ module _ (bs : List ℕ) (bytes : Bytes bs) {m : Numbers} (a s t e w g j x k tes
 
   -- the lengths of the whole arrays
   tests-length : (f : Test → ℕ) {l : List ℕ} → l ≡ put (map f (allTests (held .chart .transitions))) (replicate 4096 0) → length l ≡ 4096
-  tests-length f h = front-length (map f (allTests (held .chart .transitions))) 4096 (length-map (allTests (held .chart .transitions)) f) (all-tests (held .valid)) h
+  tests-length f p = front-length (map f (allTests (held .chart .transitions))) 4096 (length-map (allTests (held .chart .transitions)) f) (all-tests (held .valid)) p
 
-  pub events-length : length e ≡ 512
+  pub events-length : length (h .events) ≡ 512
   unfolding laid listsOf largest
   events-length =
       front-length (map (λ (r : Transition). r .event) (held .chart .transitions)) 512 (length-map (held .chart .transitions) _) (held .valid .few-transitions)
       (ap (λ (y : Lists). y .events) all-laid)
 
-  pub timers-length : length j ≡ 4096
+  pub timers-length : length (h .timers) ≡ 4096
   timers-length = tests-length _ (held .timers-are)
 
-  pub codes-length : length x ≡ 4096
+  pub codes-length : length (h .codes) ≡ 4096
   unfolding laid listsOf largest
   codes-length = tests-length _ (ap (λ (y : Lists). y .codes) all-laid)
 
-  pub constants-length : length k ≡ 4096
+  pub constants-length : length (h .constants) ≡ 4096
   unfolding laid listsOf largest
   constants-length = tests-length _ (ap (λ (y : Lists). y .constants) all-laid)
 
-  pub lists-held : ListsOfChart (judged-held .chart) m lent (take (m .transitions) tested)
+  pub lists-held : ListsOfChart (judged-held .chart) m lent (take (m .transitions) (h .tested))
   unfolding judged-held
   lists-held = record {
     valid = held .valid;

@@ -1,39 +1,34 @@
 -- The board that is asked for: what the rewriting returns names timers below used alone, used is at most K and K at most 64, its file is read as
 -- the rewritten chart, and each of its transitions starts the numbers of the timers born on the drawn one. Assumes nothing.
-use mathlib.Core.Path.{_≡_, refl, sym, ap, _∙_, subst}
-use mathlib.Core.Logic.{_⊎_, inl, inr, _↔_}
-use mathlib.Core.Bool.{Bool, true, false}
+use mathlib.Core.Path.{_≡_, ap, _∙_}
+use mathlib.Core.Logic.{_↔_}
+use mathlib.Core.Bool.{true}
 use mathlib.Core.Option.{some}
 use mathlib.Core.List.{List}
-use Prim.Native.Nat.{ℕ, _≤_, _<_}
-use native.Mathlib.Omega.{arith}
+use Prim.Native.Nat.{ℕ, _≤_}
 use lib.Dec.{leb}
 use lib.ListN.{length}
 use Rattle.lists.specs.Lists.{memb}
-use Rattle.lists.proofs.Bools.{lt-or-le}
-use Rattle.model.specs.Answer.{Answer, result, refused, then, unless, nowhere}
+use Rattle.model.specs.Answer.{result, nowhere}
 use Rattle.model.specs.Chart.{Transition, Chart, Nth}
 use Rattle.model.specs.Valid.{Valid}
 use Rattle.model.specs.Path.{Born}
 use Rattle.model.specs.FirstFit.{numberAt, board, used}
 use Rattle.model.specs.Rewrite.{numbering, newTransition}
-use Rattle.model.specs.Judge.{Rewriting, rewriting, judged}
-use Rattle.model.proofs.Answers.{refused-same}
+use Rattle.model.specs.Judge.{Rewriting, judged, rewriting}
+use Rattle.model.specs.Player.{played}
+use Rattle.model.specs.Equivalence.{Alike}
 use Rattle.model.proofs.BoardPlan.{born-starts}
-use Rattle.model.proofs.Judgement.{Accepted}
 use Rattle.model.proofs.Rewritten.{new-nth}
 use Rattle.model.proofs.RewrittenValid.{NamesBelow, names-below}
 use Rattle.model.proofs.RewritingAlike.{rewriting-is}
-use Rattle.model.proofs.EqualAnswers.{equal-behaviour}
+use Rattle.model.proofs.PlayerLaws.{CountsAllowed}
+use Rattle.model.proofs.EqualAnswers.{equal-behaviour, rewriting-judged, equal-answers}
 use Rattle.file_format.specs.File.{chartIn, fileOf}
-use Rattle.file_format.proofs.Answers.{result-refused, then-result, unless-result}
+use Rattle.file_format.proofs.Answers.{then-result, unless-result}
 use Rattle.file_format.proofs.File.{reads-valid, chart-survives}
 use Rattle.file_format.proofs.RoundTrip.{Bytes}
-use Rattle.judgement.specs.Judging.{judgedIn}
-use Rattle.judgement.proofs.Corollaries.{Accepts, judged-result, refusals-of-judgedIn}
 use Rattle.rewriting.specs.Rewriting.{rewriteInto}
-use Rattle.rewriting.specs.Parts.{fittedInto, intoRoom}
-use Rattle.rewriting.proofs.Order.{into-judged, into-refused, into-accepted, fitted-11, fitted-20, fitted-21}
 use Rattle.rewriting.proofs.Board.{judged-plan}
 
 -- the file's chart, of which x is the rewriting
@@ -89,6 +84,17 @@ module _ {K : ℕ} {bs : List ℕ} (bytes : Bytes bs) {x : Rewriting} (o : Rewri
     rw (rewriting-is K c x (o .made) .chart) (new-nth (numbering (board c)) c i n),
     born-starts valid-chart r,
   )
+
+  -- both charts behave alike, the new one is judged as the drawn one, and from counts that 12 allows for each the player answers alike
+  pub rewriting-alike : Alike (o .chart) (x .chart)
+  rewriting-alike = equal-behaviour 2 K (o .chart) valid-chart x (o .made) .alike
+
+  pub rewriting-accepted : judged (x .chart) ≡ result (x .chart)
+  rewriting-accepted = rewriting-judged 2 K (o .chart) valid-chart x (o .made)
+
+  pub answers-alike : (v w : List ℕ) → CountsAllowed (o .chart) v → CountsAllowed (x .chart) w → (is ts : List ℕ)
+      → played (o .chart) v is ts ≡ played (x .chart) w is ts
+  answers-alike = equal-answers 2 K (o .chart) valid-chart x (o .made)
 
 pub answer-fits : (K room : ℕ) (bs : List ℕ) → Bytes bs → (x : Rewriting) → rewriteInto K room bs ≡ result x → FitsBoard K x
 answer-fits K room bs bytes x e = rewriting-fits bytes (rewriting-of K room bs x e)

@@ -11,7 +11,7 @@ use Rattle.chart_lists.specs.Lists.{Lists}
 use Rattle.chart_lists.specs.declared.Numbers.{Numbers}
 use Rattle.judgement.proofs.OwnSets.{length-empty}
 use Rattle.allocation.proofs.CellList.{cells-length}
-use Rattle.numbering.specs.Numbered.{ListsFor, OfChart, NumberedChart}
+use Rattle.numbering.specs.Numbered.{ListsFor, NumberedChart}
 use Rattle.rewriting.specs.Parts.{ListsOfChart, FittingNumbers}
 use Rattle.rewriting.proofs.Board.{locations-are, numberable}
 

@@ -1,22 +1,19 @@
 -- The five outcomes of the rewriting, with what each says: a refusal of the judgement, 11, 20, 21, or the rewritten chart. Assumes nothing.
-use mathlib.Core.Path.{_≡_, refl, sym, ap, _∙_}
+use mathlib.Core.Path.{_≡_, refl, _∙_}
 use mathlib.Core.Logic.{_⊎_, inl, inr}
-use mathlib.Core.Bool.{Bool, true, false}
 use mathlib.Core.List.{List}
 use Prim.Native.Nat.{ℕ, _≤_, _<_}
-use lib.Dec.{leb}
 use lib.ListN.{length}
 use borrow.Author.Tests.{le-leb, lt-leb}
 use Rattle.lists.proofs.Bools.{lt-or-le}
-use Rattle.model.specs.Answer.{Answer, result, refused, then, unless, nowhere}
+use Rattle.model.specs.Answer.{Answer, result, refused, nowhere}
 use Rattle.model.specs.Chart.{Chart}
 use Rattle.model.specs.FirstFit.{used}
 use Rattle.model.specs.Rewrite.{rewritten}
-use Rattle.model.specs.Judge.{Rewriting}
 use Rattle.file_format.specs.File.{fileOf}
 use Rattle.judgement.specs.Judging.{judgedIn}
 use Rattle.rewriting.specs.Rewriting.{rewriteInto}
-use Rattle.rewriting.specs.Parts.{intoRoom, fittedInto}
+use Rattle.rewriting.specs.Parts.{intoRoom}
 use Rattle.rewriting.proofs.Order.{into-refused, into-accepted, fitted-11, fitted-20, fitted-21}
 
 -- the file's chart c is judged, and fits the board

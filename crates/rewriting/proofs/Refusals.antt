@@ -1,6 +1,6 @@
 -- Which refusals the rewriting answers, and exactly where: 1 to 8 of the file; 9 at the lowest location that no path reaches; 10 at the lowest
 -- transition with an unstarted test; 11 for K over 64; 20 where more than K timers are used; 21 where the buffer is too short. Assumes nothing.
-use mathlib.Core.Path.{_≡_, refl, sym, ap, _∙_}
+use mathlib.Core.Path.{_≡_, ap}
 use mathlib.Core.Logic.{_↔_}
 use mathlib.Core.List.{List}
 use Prim.Native.Nat.{ℕ, _≤_, _<_}
@@ -23,12 +23,12 @@ use Rattle.writer.proofs.Answers.{kept-refused}
 use Rattle.rewriting.specs.Rewriting.{figuresOf, rewriteInto, rewriteAnswer}
 use Rattle.rewriting.specs.Refusals.{RefusalOfRewriting}
 use Rattle.rewriting.specs.Refusals.RefusalOfRewriting.{of-judgement, of-limit, of-used, of-room}
-use Rattle.rewriting.proofs.Outcomes.{Fitting, Outcome, over-limit, over-used, too-short, outcome}
+use Rattle.rewriting.proofs.Outcomes.{Outcome, over-limit, over-used, too-short, outcome}
 use Rattle.rewriting.proofs.Outcomes.Outcome.{is-refused, is-over-limit, is-over-used, is-short, is-rewritten}
 use Rattle.rewriting.proofs.Order.{into-refused}
 
--- the file holds a chart in which every location is reached and no test is unstarted, and K is at most 64; P is what the refusal says of the chart
-pub record Judged (bs : List ℕ) (P : Chart → Type 0) : Type 0 where
+-- the file holds a chart with a property, in which every location is reached and no test is unstarted
+pub record HoldsAccepted (bs : List ℕ) (P : Chart → Type 0) : Type 0 where
   pub chart : Chart
   pub accepts : Accepts bs chart
   pub has : P chart
@@ -82,13 +82,13 @@ module _ (K room : ℕ) (bs : List ℕ) where
     accepts : {c : Chart} → judgedIn bs ≡ result c → Accepts bs c
     accepts {c} e = judged-result bs bytes c .0 e
 
-    pub refused-11 : (rewriteAnswer K room bs ≡ refused 11 nowhere) ↔ Judged bs (λ c. 64 < K)
+    pub refused-11 : (rewriteAnswer K room bs ≡ refused 11 nowhere) ↔ HoldsAccepted bs (λ c. 64 < K)
     refused-11 = (
       λ e. out (answer-refused .0 e) (outcome K room bs),
       λ j. answer-refused .1 (over-limit K room bs (j .chart) (judged-result bs bytes (j .chart) .1 (j .accepts)) (j .has)),
     )
       where
-        out : rewriteInto K room bs ≡ refused 11 nowhere → Outcome K room bs → Judged bs (λ c. 64 < K)
+        out : rewriteInto K room bs ≡ refused 11 nowhere → Outcome K room bs → HoldsAccepted bs (λ c. 64 < K)
         out e (is-refused m q f g) = absurd (omega (arith, judged-low f g e))
         out e (is-over-limit c f h g) = record { chart = c; accepts = accepts f; has = h }
         out e (is-over-used c f h l g) = let k : _≡_ {A = ℕ} 11 20 = cc in absurd (omega arith)
@@ -96,13 +96,13 @@ module _ (K room : ℕ) (bs : List ℕ) where
         out e (is-rewritten c f h g) = absurd (result-refused g e)
 
     -- 20 exactly where 1 to 11 do not apply and more than K timers are used
-    pub refused-20 : (rewriteAnswer K room bs ≡ refused 20 nowhere) ↔ Judged bs (λ c. (K ≤ 64) × (K < used c))
+    pub refused-20 : (rewriteAnswer K room bs ≡ refused 20 nowhere) ↔ HoldsAccepted bs (λ c. (K ≤ 64) × (K < used c))
     refused-20 = (
       λ e. out (answer-refused .0 e) (outcome K room bs),
       λ j. answer-refused .1 (over-used K room bs (j .chart) (judged-result bs bytes (j .chart) .1 (j .accepts)) (j .has .0) (j .has .1)),
     )
       where
-        out : rewriteInto K room bs ≡ refused 20 nowhere → Outcome K room bs → Judged bs (λ c. (K ≤ 64) × (K < used c))
+        out : rewriteInto K room bs ≡ refused 20 nowhere → Outcome K room bs → HoldsAccepted bs (λ c. (K ≤ 64) × (K < used c))
         out e (is-refused m q f g) = absurd (omega (arith, judged-low f g e))
         out e (is-over-limit c f h g) = let k : _≡_ {A = ℕ} 20 11 = cc in absurd (omega arith)
         out e (is-over-used c f h l g) = record { chart = c; accepts = accepts f; has = (h, l) }
@@ -110,13 +110,13 @@ module _ (K room : ℕ) (bs : List ℕ) where
         out e (is-rewritten c f h g) = absurd (result-refused g e)
 
     -- 21 exactly where 1 to 20 do not apply and the rewritten file is longer than the buffer
-    pub refused-21 : (rewriteAnswer K room bs ≡ refused 21 nowhere) ↔ Judged bs (λ c. (K ≤ 64) × (used c ≤ K) × (room < length (fileOf (rewritten c))))
+    pub refused-21 : (rewriteAnswer K room bs ≡ refused 21 nowhere) ↔ HoldsAccepted bs (λ c. (K ≤ 64) × (used c ≤ K) × (room < length (fileOf (rewritten c))))
     refused-21 = (
       λ e. out (answer-refused .0 e) (outcome K room bs),
       λ j. answer-refused .1 (too-short K room bs (j .chart) (record { judged = judged-result bs bytes (j .chart) .1 (j .accepts); limit = j .has .0; fits = j .has .1 }) (j .has .2)),
     )
       where
-        out : rewriteInto K room bs ≡ refused 21 nowhere → Outcome K room bs → Judged bs (λ c. (K ≤ 64) × (used c ≤ K) × (room < length (fileOf (rewritten c))))
+        out : rewriteInto K room bs ≡ refused 21 nowhere → Outcome K room bs → HoldsAccepted bs (λ c. (K ≤ 64) × (used c ≤ K) × (room < length (fileOf (rewritten c))))
         out e (is-refused m q f g) = absurd (omega (arith, judged-low f g e))
         out e (is-over-limit c f h g) = let k : _≡_ {A = ℕ} 21 11 = cc in absurd (omega arith)
         out e (is-over-used c f h l g) = let k : _≡_ {A = ℕ} 21 20 = cc in absurd (omega arith)

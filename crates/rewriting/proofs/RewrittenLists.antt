@@ -9,7 +9,7 @@ use Rattle.model.specs.Chart.{Test, Transition, Chart, Nth}
 use Rattle.model.specs.Live.{startsSet}
 use Rattle.model.specs.Rewrite.{Numbering, newTests, newTransition, rewrittenBy}
 use Rattle.model.proofs.Rewritten.{Numbered, onTimer, tested-head, tested-tail, tests-some}
-use Rattle.chart_lists.specs.Lists.{Lists, lists, allTests, listsOf}
+use Rattle.chart_lists.specs.Lists.{lists, allTests, listsOf}
 use Rattle.chart_lists.specs.declared.Numbers.{Numbers}
 use Rattle.chart_lists.specs.Numbers.{numbersOf}
 

@@ -1,17 +1,15 @@
 -- The renamed lists, handed to the writer, are those of the rewritten chart. Assumes nothing.
 use mathlib.Core.Path.{_≡_, refl, sym, ap, _∙_}
-use mathlib.Core.Bool.{Bool, true, false}
 use mathlib.Core.List.{List, map}
 use Prim.Native.Nat.{ℕ, _≤_}
 use native.Mathlib.Omega.{arith}
-use lib.Dec.{leb}
 use lib.ListN.{length, replicate}
-use Rattle.model.specs.Answer.{Answer, result, refused, then, unless, nowhere}
-use Rattle.model.specs.Chart.{Test, Transition, Chart}
+use Rattle.model.specs.Answer.{Answer, result, refused, then}
+use Rattle.model.specs.Chart.{Test, Chart}
 use Rattle.model.specs.Valid.{Valid}
 use Rattle.model.specs.Live.{startsSet}
 use Rattle.model.specs.FirstFit.{board, used}
-use Rattle.model.specs.Rewrite.{numbering, newTransition, rewrittenBy, rewritten}
+use Rattle.model.specs.Rewrite.{numbering, newTransition, rewritten}
 use Rattle.model.specs.Judge.{Rewriting}
 use Rattle.model.proofs.RewrittenValid.{rewritten-valid}
 use Rattle.file_format.specs.File.{fileOf}
@@ -23,7 +21,7 @@ use Rattle.writer.specs.Begins.{Begins, ListsBegin}
 use Rattle.writer.specs.Handing.{handed, writeInto, writeAnswer}
 use Rattle.writer.specs.Handing.{bufferAfter as writtenAfter}
 use Rattle.writer.proofs.ValidHanded.{valid-handed}
-use Rattle.rewriting.specs.Rewriting.{Figures, figuresOf, bufferAfter}
+use Rattle.rewriting.specs.Rewriting.{figuresOf, bufferAfter}
 use Rattle.rewriting.specs.Parts.{intoRoom, fittedInto, ListsOfChart, FittingNumbers}
 use Rattle.rewriting.proofs.RewrittenLists.{rewritten-lists, rewritten-numbers}
 use Rattle.rewriting.proofs.Order.{fitted-21}

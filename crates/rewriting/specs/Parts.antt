@@ -41,7 +41,7 @@ pub record ListsOfChart (c : Chart) (m : Numbers) (l : Lists) (tested : List ℕ
   pub tested-are : tested ≡ map testsSet (c .transitions)
 
 -- the lists are those of some chart
-pub record OfChart (m : Numbers) (l : Lists) (tested : List ℕ) : Type 0 where
+pub record OfJudgedChart (m : Numbers) (l : Lists) (tested : List ℕ) : Type 0 where
   pub chart : Chart
   pub lists-are : ListsOfChart chart m l tested
 

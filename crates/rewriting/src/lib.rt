@@ -10,7 +10,7 @@ ghost use Rattle.file_format.specs.File.{fileOf};
 ghost use Rattle.chart_lists.specs.Lists.{lists};
 ghost use Rattle.writer.specs.Handing.{bufferAfter as writtenAfter, meantWritten};
 ghost use Rattle.rewriting.specs.Rewriting.{figuresOf, rewriteInto, rewriteAnswer, bufferAfter, meantRewritten};
-ghost use Rattle.rewriting.specs.Parts.{intoRoom, fittedInto, ListsOfChart, OfChart, FittingNumbers, Renamable};
+ghost use Rattle.rewriting.specs.Parts.{intoRoom, fittedInto, ListsOfChart, OfJudgedChart, FittingNumbers, Renamable};
 use chart_lists::Numbers;
 use chart_lists::Refusal;
 use reader::Read;
@@ -86,7 +86,7 @@ fn fit<'a>(
     k: u32,
     out: &mut [u8],
 ) -> Rewritten
-    requires { ⌜ OfChart m (lists (now accepting) (now sources) (now targets) (now events) (now starts) (now counts) (now timers) (now codes) (now constants)) (now tested) ⌝ }
+    requires { ⌜ OfJudgedChart m (lists (now accepting) (now sources) (now targets) (now events) (now starts) (now counts) (now timers) (now codes) (now constants)) (now tested) ⌝ }
     ensures answer { λ r. ⌜ ((c : Chart) → ListsOfChart c m (lists (now (accepting .entry)) (now (sources .entry)) (now (targets .entry)) (now (events .entry)) (now (starts .entry)) (now (counts .entry)) (now (timers .entry)) (now (codes .entry)) (now (constants .entry))) (now (tested .entry))
         → meantRewritten r ≡ then (fittedInto k (length (now (out .entry))) c) (λ x. result (figuresOf x))) ⌝ }
     ensures lent { λ _. ⌜ ((c : Chart) → ListsOfChart c m (lists (now (accepting .entry)) (now (sources .entry)) (now (targets .entry)) (now (events .entry)) (now (starts .entry)) (now (counts .entry)) (now (timers .entry)) (now (codes .entry)) (now (constants .entry))) (now (tested .entry))
