@@ -1,0 +1,9 @@
+pub mod RewrittenLists
+pub mod Order
+pub mod Board
+pub mod Lent
+pub mod Written
+pub mod Entry
+pub mod Fits
+pub mod Outcomes
+pub mod Refusals
