@@ -5,14 +5,18 @@ use Prim.Native.Nat.{ℕ, _≤_}
 use native.Mathlib.Omega.{arith}
 use lib.Dec.{leb}
 use lib.ListN.{length, take, replicate}
-use borrow.Author.Tests.{leb-true}
-use Rattle.model.specs.Answer.{Answer, result, refused, then, nowhere}
+use borrow.Author.Tests.{leb-true, le-leb}
+use Rattle.model.specs.Answer.{Answer, result, refused, then, unless, nowhere}
 use Rattle.model.specs.Chart.{Chart}
+use Rattle.model.specs.Valid.{Valid}
 use Rattle.model.specs.Judge.{Rewriting, rewriting}
 use Rattle.model.specs.Player.{Arrival}
 use Rattle.model.proofs.Answers.{not-result, result-same, refused-same}
+use Rattle.model.proofs.EqualAnswers.{equal-behaviour}
 use Rattle.file_format.specs.File.{chartIn, fileOf}
 use Rattle.file_format.proofs.Answers.{then-result, unless-result}
+use Rattle.file_format.proofs.File.{reads-valid}
+use Rattle.file_format.proofs.Lengths.{largest-file}
 use Rattle.file_format.proofs.RoundTrip.{Bytes}
 use Rattle.judgement.proofs.Fronts.{front, front-length}
 use Rattle.rewriting.specs.Rewriting.{Figures, figuresOf, rewriteInto, rewriteAnswer, bufferAfter}
@@ -40,6 +44,22 @@ fits-room K room bs x e =
     let d = unless-result (leb (length (fileOf (b .0 .chart))) room) 21 nowhere (result (b .0)) (b .2) in
     let q : b .0 ≡ x = cc in
     leb-true (length (fileOf (x .chart))) room (ap (λ (y : Rewriting). leb (length (fileOf (y .chart))) room) (sym q) ∙ d .0)
+
+-- and there is always room: the second answer is never 21
+pub room-enough : (K : ℕ) (bs : List ℕ) → Bytes bs → rewriteInto K largestFile bs ≡ then (chartIn bs) (rewriting K)
+unfolding rewriteInto
+room-enough K bs bytes = go (chartIn bs) refl
+  where
+    inner : (c : Chart) → Valid 2 c → (y : Answer Rewriting) → rewriting K c ≡ y
+        → then y (λ (x : Rewriting). unless (leb (length (fileOf (x .chart))) largestFile) 21 nowhere (result x)) ≡ y
+    inner c valid (result x) e = rw (le-leb (length (fileOf (x .chart))) largestFile (largest-file (x .chart) (equal-behaviour 2 K c valid x e .valid 2 valid))) refl
+    inner c valid (refused n p) e = refl
+
+    go : (z : Answer Chart) → chartIn bs ≡ z
+        → then z (λ (c : Chart). then (rewriting K c) (λ (x : Rewriting). unless (leb (length (fileOf (x .chart))) largestFile) 21 nowhere (result x)))
+        ≡ then z (rewriting K)
+    go (result c) e = inner c (reads-valid bs c bytes e) (rewriting K c) refl
+    go (refused n p) e = refl
 
 module _ (K : ℕ) (bs : List ℕ) where
   -- what the rewriting returned, at the front of the buffer

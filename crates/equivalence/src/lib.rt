@@ -37,12 +37,7 @@ pub fn rewrite_and_play(
         },
         Rewritten::File { used: _, length } => Both {
             drawn,
-            board: Board::Played(player::play(
-                &out[..length],
-                board_counts,
-                transitions,
-                times,
-            )),
+            board: Board::Played(player::play(&out[..length], board_counts, transitions, times)),
         },
     }
 }
