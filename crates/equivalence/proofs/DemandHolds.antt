@@ -1,0 +1,58 @@
+-- Demand 3 holds of a chart and its rewriting by any plan of at most 64 numbers, and of a file and what the rewriting returns for it. Assumes nothing.
+use mathlib.Core.Path.{_≡_, sym, ap, _∙_, subst}
+use mathlib.Core.List.{List}
+use Prim.Native.Nat.{ℕ, _≤_}
+use Rattle.model.specs.Answer.{result}
+use Rattle.model.specs.Chart.{Chart}
+use Rattle.model.specs.Valid.{Valid}
+use Rattle.model.specs.Rewrite.{Numbering, rewrittenBy}
+use Rattle.model.specs.Plan.{Plan}
+use Rattle.model.specs.Judge.{Rewriting, judged, rewriting}
+use Rattle.model.specs.Equivalence.{Alike}
+use Rattle.model.proofs.Answers.{result-same}
+use Rattle.model.proofs.EqualRuns.{plan-alike}
+use Rattle.model.proofs.RewrittenValid.{rewritten-valid}
+use Rattle.model.proofs.RewritingAlike.{rewriting-is}
+use Rattle.model.proofs.EqualAnswers.{rewritten-judged, equal-behaviour, rewriting-judged}
+use Rattle.model.proofs.PlayerLaws.{CountsAllowed, alike-played}
+use Rattle.model.proofs.PlayerAnswer.{player-answer}
+use Rattle.file_format.specs.File.{chartIn, fileOf}
+use Rattle.file_format.proofs.RoundTrip.{Bytes}
+use Rattle.file_format.proofs.File.{chart-survives, file-survives, reads-valid}
+use Rattle.rewriting.specs.Rewriting.{rewriteInto}
+use Rattle.rewriting.proofs.Fits.{rewriting-of}
+use Rattle.player.specs.Playing.{playAnswer}
+use Rattle.equivalence.specs.Demand.{Demand}
+
+-- two charts that behave alike and that the player takes
+demand-of : (c c′ : Chart) → Valid 2 c → judged c ≡ result c → Alike c c′ → Valid 2 c′ → judged c′ ≡ result c′ → Demand c c′
+unfolding playAnswer
+demand-of c c′ valid j alike valid′ j′ = record {
+  alike = alike;
+  valid = valid′;
+  judged-so = j′;
+  plays = λ v w is ts a b. rw (chart-survives c valid, chart-survives c′ valid′) (alike-played c c′ alike j j′ v w a b is ts);
+  answers = player-answer c;
+}
+
+-- every numbering that is a plan of the chart
+pub plan-demand : (c : Chart) (N : Numbering) → Valid 2 c → judged c ≡ result c → Plan c N → N .used ≤ 64 → Demand c (rewrittenBy N c)
+plan-demand c N valid j P few =
+    demand-of c (rewrittenBy N c) valid j (plan-alike c N P) (rewritten-valid c N P 2 valid few) (rewritten-judged 2 c N P valid few j)
+
+-- a file, the chart that it holds, and what the rewriting returns for it
+module _ (K room : ℕ) (bs : List ℕ) (bytes : Bytes bs) (c : Chart) (reads : chartIn bs ≡ result c) (x : Rewriting) (e : rewriteInto K room bs ≡ result x) where
+  made : rewriting K c ≡ result x
+  made = let o = rewriting-of K room bs x e in
+      subst (λ (d : Chart). rewriting K d ≡ result x) (result-same (sym (o .reads) ∙ reads)) (o .made)
+
+  pub first-fit-demand : Demand c (x .chart)
+  first-fit-demand =
+      let valid = reads-valid bs c bytes reads in
+      let b = equal-behaviour 2 K c valid x made in
+      demand-of c (x .chart) valid (rewriting-is K c x made .accepted) (b .alike) (b .valid 2 valid) (rewriting-judged 2 K c valid x made)
+
+  -- the player gives one answer on the bytes that were handed in and on those that came back
+  pub first-fit-plays : (v w is ts : List ℕ) → CountsAllowed c v → CountsAllowed (x .chart) w → playAnswer bs v is ts ≡ playAnswer (fileOf (x .chart)) w is ts
+  first-fit-plays v w is ts a b =
+      ap (λ (y : List ℕ). playAnswer y v is ts) (sym (file-survives bs c bytes reads)) ∙ first-fit-demand .plays v w is ts a b

@@ -1,0 +1,2 @@
+pub mod DemandHolds
+pub mod RewrittenFile

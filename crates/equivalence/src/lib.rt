@@ -1,0 +1,43 @@
+// Rewrites a chart file for a board and plays a step list on both files: demand 3 on files.
+ghost use Rattle.equivalence.specs.Both.{Claim};
+use chart_lists::Refusal;
+use player::Played;
+use rewriting::Rewritten;
+
+// What the player answers on the rewritten file, or why there is none.
+pub enum Board {
+    Played(Played),
+    NotRewritten(Refusal),
+}
+
+// Both answers.
+pub struct Both {
+    pub drawn: Played,
+    pub board: Board,
+}
+
+// Plays the steps on the file, rewrites it for a board of k timers, and plays them on the rewritten file.
+pub fn rewrite_and_play(
+    file: &[u8],
+    k: u32,
+    counts: &[u32],
+    board_counts: &[u32],
+    transitions: &[u32],
+    times: &[u64],
+) -> Both
+    ensures { λ r. ⌜ Claim k (now (file .entry)) (now (counts .entry)) (now («board_counts» .entry)) (now (transitions .entry)) (now (times .entry)) r ⌝ }
+{
+    let drawn = player::play(file, counts, transitions, times);
+    let mut out = [0u8; 54286];
+    let a = rewriting::rewrite(file, k, &mut out);
+    match a {
+        Rewritten::Refused(f) => Both {
+            drawn,
+            board: Board::NotRewritten(f),
+        },
+        Rewritten::File { used: _, length } => Both {
+            drawn,
+            board: Board::Played(player::play(&out[..length], board_counts, transitions, times)),
+        },
+    }
+}
