@@ -216,7 +216,8 @@ impl<'a> Output<'a> {
 
     #[inline]
     pub(crate) fn put<const N: usize>(&mut self, bytes: [u8; N]) {
-        let (place, rest) = std::mem::take(&mut self.rest).split_first_chunk_mut::<N>().expect("the length was counted");
+        let (place, rest) =
+            std::mem::take(&mut self.rest).split_first_chunk_mut::<N>().expect("the length was counted");
         *place = bytes;
         self.rest = rest;
     }

@@ -1,6 +1,6 @@
 //! Random charts, damaged files and step lists from a seed. For tests and measurements.
 
-use crate::drawing::{Arrow, Drawing};
+use crate::drawing::{Arrow, Drawing, AT_LEAST, AT_MOST, BELOW};
 use crate::player::LATEST;
 
 /// A small generator of random numbers (SplitMix64).
@@ -59,14 +59,18 @@ pub struct Shape {
     pub transitions: u16,
     /// Of 100 transitions, how many start timers at all.
     pub starting: u64,
-    /// The most timers that such a transition starts.
-    pub starts: u8,
+    /// The fewest and the most timers that such a transition starts, where there are as many.
+    pub starts: (u8, u8),
     /// The fewest and the most tests of a transition, where enough timers are surely started.
     pub tests: (u8, u8),
     /// Whether the transitions that leave the initial location start all timers.
     pub start_all: bool,
     /// The most that a constant is, but for a few.
     pub constant: u16,
+    /// Whether a cycle leads through all locations, so that no run comes to an end; takes one transition more.
+    pub cycle: bool,
+    /// Whether all tests are met for some 65,000 ticks.
+    pub lenient: bool,
 }
 
 impl Shape {
@@ -80,16 +84,17 @@ impl Shape {
             3 => random.between(1, 64),
             _ => random.between(1, 8),
         } as u8;
-        let fewest = random.below(4) as u8;
         Shape {
             locations,
             timers,
             transitions: (u64::from(locations) - 1 + spare).min(512) as u16,
             starting: random.pick(&[10, 30, 60, 90]),
-            starts: random.pick(&[1, 1, 2, 3, 8, 64]),
-            tests: (fewest, random.between(u64::from(fewest), 8) as u8),
+            starts: random.pick(&[(1, 1), (1, 2), (1, 3), (1, 8), (1, 64), (50, 64)]),
+            tests: random.pick(&[(0, 1), (0, 1), (0, 2), (1, 3), (0, 8), (8, 8)]),
             start_all: random.chance(1, 2),
             constant: random.pick(&[0, 3, 10, 10, 1_000, 65_535]),
+            cycle: random.chance(1, 3),
+            lenient: random.chance(1, 4),
         }
     }
 
@@ -99,11 +104,18 @@ impl Shape {
         timers: 64,
         transitions: 512,
         starting: 40,
-        starts: 3,
+        starts: (1, 3),
         tests: (8, 8),
         start_all: true,
         constant: 20,
+        cycle: false,
+        lenient: false,
     };
+
+    /// Many timers live everywhere and most of them started anew everywhere: many small families, whose numbers often
+    /// exceed 64.
+    pub const SMALL_FAMILIES: Shape =
+        Shape { locations: 24, transitions: 300, starting: 100, starts: (54, 64), ..Shape::LARGEST };
 }
 
 /// A chart that passes 1 to 10: each location is reached, and each test reads a timer started on every path to it.
@@ -116,9 +128,12 @@ pub fn accepted(random: &mut Random, shape: &Shape) -> Drawing {
     }
     let mut transitions = Vec::new();
     for index in 1..order.len() {
-        let near = random.chance(1, 2);
+        let near = shape.cycle || random.chance(1, 2);
         let parent = if near { index - 1 } else { random.below(index as u64) as usize };
         transitions.push(Arrow::new(order[parent], order[index]));
+    }
+    if shape.cycle && transitions.len() < usize::from(shape.transitions) {
+        transitions.push(Arrow::new(order[order.len() - 1], order[0]));
     }
     while transitions.len() < usize::from(shape.transitions) {
         transitions.push(Arrow::new(random.pick(&order), random.pick(&order)));
@@ -136,10 +151,12 @@ pub fn accepted(random: &mut Random, shape: &Shape) -> Drawing {
         if shape.start_all && transition.source == order[0] {
             transition.starts = (0..shape.timers).collect();
         } else if shape.timers > 0 && random.below(100) < shape.starting {
-            let count = random.between(1, u64::from(shape.starts.min(shape.timers)));
-            transition.starts = (0..count).map(|_| random.below(u64::from(shape.timers)) as u8).collect();
-            transition.starts.sort_unstable();
-            transition.starts.dedup();
+            let (fewest, most) = (shape.starts.0.min(shape.timers), shape.starts.1.min(shape.timers));
+            let mut timers: Vec<u8> = (0..shape.timers).collect();
+            random.shuffle(&mut timers);
+            timers.truncate(random.between(u64::from(fewest), u64::from(most)) as usize);
+            timers.sort_unstable();
+            transition.starts = timers;
         }
     }
     let started = surely_started(&drawing);
@@ -152,7 +169,12 @@ pub fn accepted(random: &mut Random, shape: &Shape) -> Drawing {
         for _ in 0..random.between(u64::from(shape.tests.0), u64::from(shape.tests.1)) {
             let most = if random.chance(1, 50) { 65_535 } else { u64::from(shape.constant) };
             let constant = random.between(0, most) as u16;
-            transition.tests.push((random.pick(&usable), random.below(5) as u8, constant));
+            let (code, constant) = if shape.lenient {
+                random.pick(&[(AT_LEAST, 0), (AT_MOST, 65_535), (BELOW, 65_535)])
+            } else {
+                (random.below(5) as u8, constant)
+            };
+            transition.tests.push((random.pick(&usable), code, constant));
         }
     }
     drawing
@@ -193,7 +215,8 @@ pub fn many_numbers(levels: u16, half: u8) -> Drawing {
     let place = |index: usize| index as u16 + 2;
     let all: Vec<u8> = (0..2 * half).collect();
     let mut transitions = vec![Arrow::new(0, 1).starts(&all)];
-    transitions.extend(pairs.iter().position(|&pair| pair == (0, 1)).map(|index| Arrow::new(0, place(index)).starts(&all)));
+    transitions
+        .extend(pairs.iter().position(|&pair| pair == (0, 1)).map(|index| Arrow::new(0, place(index)).starts(&all)));
     for level in 0..levels {
         for is_a in [true, false] {
             let group = |pair: &(u16, u16)| if is_a { pair.0 == level } else { pair.1 == level };
@@ -239,6 +262,23 @@ pub fn sixty_five_numbers(other: u8) -> Drawing {
     Drawing::new(5, 64, transitions)
 }
 
+/// The longest file that passes 1 to 10, 54,254 bytes: all limits are reached, but the one transition that leaves the
+/// initial location has no tests.
+pub fn longest(random: &mut Random) -> Drawing {
+    let all: Vec<u8> = (0..64).collect();
+    let mut transitions: Vec<Arrow> = (0..255).map(|location| Arrow::new(location, location + 1)).collect();
+    while transitions.len() < 512 {
+        transitions.push(Arrow::new(random.between(1, 255) as u16, random.below(256) as u16));
+    }
+    for transition in &mut transitions {
+        transition.starts = all.clone();
+        if transition.source != 0 {
+            transition.tests = (0..8).map(|_| (random.below(64) as u8, AT_MOST, 65_535)).collect();
+        }
+    }
+    Drawing { locations: 256, initial: 0, timers: 64, accepting: (0..256).collect(), transitions }
+}
+
 /// A number of the chart spoilt, so that its file is refused by 4 to 10 or by 3, and perhaps by none; as a file.
 pub fn spoilt(random: &mut Random, drawing: &Drawing) -> Vec<u8> {
     let mut drawing = drawing.clone();
@@ -281,13 +321,15 @@ pub fn spoilt(random: &mut Random, drawing: &Drawing) -> Vec<u8> {
             drawing.transitions[second].target = drawing.locations;
         }
     }
-    drawing.file_with(|record, true_length| {
-        if record + 1 == length.0 {
-            true_length.wrapping_add(length.1)
-        } else {
-            true_length
-        }
-    })
+    drawing.file_with(
+        |record, true_length| {
+            if record + 1 == length.0 {
+                true_length.wrapping_add(length.1)
+            } else {
+                true_length
+            }
+        },
+    )
 }
 
 /// A file with bytes changed, cut off, put in or taken out; its length field is set right or left as it was.
@@ -338,8 +380,8 @@ impl Steps {
 }
 
 /// Steps that a chart takes from the initial location, as far as they are found: at most `most`, with waits of at most
-/// `wait` ticks or up to a constant of the tests.
-pub fn run(random: &mut Random, drawing: &Drawing, most: usize, wait: u64) -> Steps {
+/// `wait` ticks and, if `due`, often up to a constant of the tests.
+pub fn run(random: &mut Random, drawing: &Drawing, most: usize, wait: u64, due: bool) -> Steps {
     let mut leaving = vec![Vec::new(); usize::from(drawing.locations)];
     for (index, transition) in drawing.transitions.iter().enumerate() {
         leaving[usize::from(transition.source)].push(index);
@@ -358,7 +400,7 @@ pub fn run(random: &mut Random, drawing: &Drawing, most: usize, wait: u64) -> St
             let index = random.pick(choices);
             let transition = &drawing.transitions[index];
             let mut time = now + random.below(wait + 1);
-            if !transition.tests.is_empty() && random.chance(2, 3) {
+            if due && !transition.tests.is_empty() && random.chance(2, 3) {
                 let (timer, _, constant) = random.pick(&transition.tests);
                 let due = started[usize::from(timer)] + u64::from(constant) + random.below(2);
                 time = due.max(now);
@@ -387,6 +429,17 @@ pub fn run(random: &mut Random, drawing: &Drawing, most: usize, wait: u64) -> St
         break;
     }
     steps
+}
+
+/// Lengthens the steps that a chart takes by one that leaves the last location, whether its tests are met or not.
+pub fn lengthen(random: &mut Random, drawing: &Drawing, steps: &mut Steps) {
+    let location = steps.transitions.last().map_or(drawing.initial, |&last| drawing.transitions[last as usize].target);
+    let leaving = |&index: &u32| drawing.transitions[index as usize].source == location;
+    let choices: Vec<u32> = (0..drawing.transitions.len() as u32).filter(leaving).collect();
+    if !choices.is_empty() {
+        let last = steps.times.last().copied().unwrap_or(0);
+        steps.push(random.pick(&choices), last + random.pick(&[0, 0, 1, 2, 5, 100]));
+    }
 }
 
 /// Spoils a step list, or lengthens it by a step that is likely to be refused.

@@ -67,7 +67,8 @@ impl Plan {
         let Some(file) = out.get_mut(..length) else {
             return Err(Refusal::nowhere(21));
         };
-        let starts = |target, starts| born(target, starts).into_iter().map(|timer| self.number(target, timer)).collect();
+        let starts =
+            |target, starts| born(target, starts).into_iter().map(|timer| self.number(target, timer)).collect();
         self.chart.write_with(
             file,
             self.used(),

@@ -246,7 +246,7 @@ fn the_player_follows_the_definitions_and_boards_play_alike() {
     for drawing in &drawings {
         let planned = Planned::of(drawing);
         for _ in 0..4 {
-            let mut steps = run(&mut random, drawing, 30, 5);
+            let mut steps = run(&mut random, drawing, 30, 5, true);
             if random.chance(2, 3) {
                 spoil_steps(&mut random, &mut steps, drawing.transitions.len() as u32);
             }

@@ -3,7 +3,7 @@
 use timing_chart::analysis::{self, analyse, Analysis};
 use timing_chart::chart::{Chart, Comparison};
 use timing_chart::drawing::*;
-use timing_chart::generator::{many_numbers, sixty_five_numbers};
+use timing_chart::generator::{longest, many_numbers, sixty_five_numbers, Random};
 use timing_chart::listing::listing;
 use timing_chart::player::{play, Playing};
 use timing_chart::rewriting::{rewrite, Rewriting};
@@ -391,6 +391,25 @@ fn the_largest_file_has_54_286_bytes() {
     assert_eq!(chart.write(&mut out), Ok(54_286));
     assert_eq!(out, file);
     assert_eq!(analyse(&file, &mut [0; 256]), refused(9, 1));
+    // The longest one that is judged to the end is shorter: the initial location's transition cannot have tests.
+    let longest = longest(&mut Random::new(1));
+    assert_eq!(longest.file().len(), 54_254);
+    assert!(rewritten(&longest, 64).is_ok());
+}
+
+#[test]
+fn the_chart_files_of_the_repository() {
+    for (name, drawing) in [
+        ("a", chart_a()),
+        ("b", chart_b()),
+        ("c", chart_c()),
+        ("one_location", one_location()),
+        ("self_loop", self_loop()),
+        ("never_started", never_started()),
+    ] {
+        let path = format!("{}/../charts/{name}.chart", env!("CARGO_MANIFEST_DIR"));
+        assert_eq!(std::fs::read(&path).unwrap(), drawing.file(), "{path}");
+    }
 }
 
 #[test]
