@@ -438,7 +438,9 @@ pub fn lengthen(random: &mut Random, drawing: &Drawing, steps: &mut Steps) {
     let choices: Vec<u32> = (0..drawing.transitions.len() as u32).filter(leaving).collect();
     if !choices.is_empty() {
         let last = steps.times.last().copied().unwrap_or(0);
-        steps.push(random.pick(&choices), last + random.pick(&[0, 0, 1, 2, 5, 100]));
+        let late = u64::from(LATEST) + 1;
+        let time = random.pick(&[last, last, last + 1, last + 2, last + 5, last + 100, last.saturating_sub(1), late]);
+        steps.push(random.pick(&choices), time);
     }
 }
 
@@ -448,7 +450,12 @@ pub fn spoil_steps(random: &mut Random, steps: &mut Steps, transitions: u32) {
     let count = steps.times.len() as u64;
     let at = random.below(count + 1) as usize;
     let last = steps.times.last().copied().unwrap_or(0);
-    match random.below(10) {
+    match random.below(12) {
+        10 | 11 => {
+            // Often two failures at once.
+            let transition = random.pick(&[any, any, any, transitions]);
+            steps.push(transition, random.pick(&[0, last.saturating_sub(1), last, u64::from(LATEST) + 1]));
+        }
         0 => steps.push(any, last + random.below(5)),
         1 => steps.push(random.pick(&[transitions, transitions + 1, 65_536 + any, u32::MAX]), last),
         2 => steps.push(any, random.pick(&[16_777_215, 16_777_216, 1 << 24 | last, 1 << 32 | last, u64::MAX])),
