@@ -20,17 +20,16 @@ pub struct Analysis {
 pub fn analyse(file: &[u8], live: &mut [u64]) -> Answer<Analysis> {
     let chart = Chart::read(file)?;
     let graph = judge(&chart)?;
-    let locations = usize::from(chart.locations());
-    let Some(entries) = live.get_mut(..locations) else {
+    let Some(entries) = live.get_mut(..usize::from(chart.locations())) else {
         return Err(Refusal::nowhere(21));
     };
-    let live = live_sets(&chart, &graph);
-    let families = Families::of(&chart, &live);
-    let numbers = families.first_fit(usize::MAX).expect("without a limit every family gets a number");
-    for (entry, set) in entries.iter_mut().zip(&live) {
+    let liveness = Liveness::of(&chart, graph);
+    let numbers = Families::of(&chart, &liveness).first_fit(usize::MAX);
+    let numbers = numbers.expect("without a limit every family gets a number");
+    for (entry, set) in entries.iter_mut().zip(liveness.sets()) {
         *entry = set.word();
     }
-    Ok(Analysis { used: u64::from(used(&numbers)), floor: u64::from(floor(&live)) })
+    Ok(Analysis { used: u64::from(used(&numbers)), floor: u64::from(liveness.floor()) })
 }
 
 /// Judges 9 and 10 and returns the order of the locations, which the live sets are made by.
@@ -165,36 +164,51 @@ fn unstarted_sets(chart: &Chart, graph: &Graph) -> ByLocation<TimerSet> {
     sets
 }
 
-/// The live set of each location, of a chart whose locations are all reached.
-pub fn live_sets(chart: &Chart, graph: &Graph) -> ByLocation<TimerSet> {
-    let mut sets = [TimerSet::EMPTY; 256];
-    let mut pending = LocationSet::EMPTY;
-    for transition in chart.transitions() {
-        let source = &mut sets[usize::from(transition.source)];
-        *source = source.joined(transition.tested);
-        if !source.is_empty() {
-            pending.add(255 - graph.position[usize::from(transition.source)]);
-        }
-    }
-    let entering = Grouped::by(chart, |transition| transition.target);
-    while let Some(position) = pending.take_lowest() {
-        let location = graph.order[usize::from(255 - position)];
-        let here = sets[usize::from(location)];
-        for transition in entering.group(chart, location) {
+/// The live sets of a chart whose locations are all reached.
+pub struct Liveness {
+    locations: usize,
+    sets: ByLocation<TimerSet>,
+    leaving: Grouped,
+    entering: Grouped,
+}
+
+impl Liveness {
+    /// A timer is live where a test of it leaves, and backwards along transitions that do not start it.
+    pub fn of(chart: &Chart, graph: Graph) -> Self {
+        let mut sets = [TimerSet::EMPTY; 256];
+        let mut pending = LocationSet::EMPTY;
+        for transition in chart.transitions() {
             let source = &mut sets[usize::from(transition.source)];
-            let joined = source.joined(here.minus(transition.starts));
-            if joined != *source {
-                *source = joined;
+            *source = source.joined(transition.tested);
+            if !source.is_empty() {
                 pending.add(255 - graph.position[usize::from(transition.source)]);
             }
         }
+        let entering = Grouped::by(chart, |transition| transition.target);
+        while let Some(position) = pending.take_lowest() {
+            let location = graph.order[usize::from(255 - position)];
+            let here = sets[usize::from(location)];
+            for transition in entering.group(chart, location) {
+                let source = &mut sets[usize::from(transition.source)];
+                let joined = source.joined(here.minus(transition.starts));
+                if joined != *source {
+                    *source = joined;
+                    pending.add(255 - graph.position[usize::from(transition.source)]);
+                }
+            }
+        }
+        Liveness { locations: usize::from(chart.locations()), sets, leaving: graph.leaving, entering }
     }
-    sets
-}
 
-/// The size of the fullest live set.
-pub fn floor(live: &ByLocation<TimerSet>) -> u32 {
-    live.iter().map(|set| set.len()).max().unwrap_or(0)
+    /// The live set of each location of the chart.
+    pub fn sets(&self) -> &[TimerSet] {
+        &self.sets[..self.locations]
+    }
+
+    /// The size of the fullest live set.
+    pub fn floor(&self) -> u32 {
+        self.sets().iter().map(|set| set.len()).max().unwrap_or(0)
+    }
 }
 
 /// One more than the largest number given.
@@ -202,58 +216,45 @@ pub fn used(numbers: &[u16]) -> u16 {
     numbers.iter().max().map_or(0, |largest| largest + 1)
 }
 
-/// The families of a chart, by rising number.
-pub struct Families {
-    /// The family of each pair, at 64 times the location plus the timer; entries that are no pair mean nothing.
-    of_pair: Vec<u16>,
-    /// The locations of each family.
-    locations: Vec<LocationSet>,
+/// A family: its timer and its locations.
+#[derive(Clone, Copy, Debug, PartialEq, Eq)]
+pub struct Family {
+    pub timer: u8,
+    pub locations: LocationSet,
 }
 
+/// The families of a chart, by rising number.
+pub struct Families(Vec<Family>);
+
 impl Families {
-    /// Joins linked pairs; `live` is the chart's.
-    pub fn of(chart: &Chart, live: &ByLocation<TimerSet>) -> Self {
-        let locations = usize::from(chart.locations());
-        // Each pair points to a lower pair of its family, the lowest one to itself.
-        let mut lower: Vec<u16> = (0..=u16::MAX).take(64 * locations).collect();
-        for transition in chart.transitions() {
-            let (source, target) = (usize::from(transition.source), usize::from(transition.target));
-            if source == target {
+    /// Goes through the locations, rising. The live timers of a location that are in no family yet begin one family
+    /// each, and these spread over their links all at once, as one word at each location.
+    pub fn of(chart: &Chart, liveness: &Liveness) -> Self {
+        let mut families = Vec::new();
+        let mut spreading = Spreading::default();
+        let mut place = [0; 64];
+        for (first, &live) in liveness.sets().iter().enumerate() {
+            let begun = live.minus(spreading.placed[first]);
+            if begun.is_empty() {
                 continue;
             }
-            for timer in live[source].common(live[target]).minus(transition.starts) {
-                join(&mut lower, 64 * source + usize::from(timer), 64 * target + usize::from(timer));
+            for timer in begun {
+                place[usize::from(timer)] = families.len();
+                families.push(Family { timer, locations: LocationSet::EMPTY });
             }
+            spreading.from(chart, liveness, first as u8, begun);
+            std::mem::take(&mut spreading.touched).iter().for_each(|location| {
+                for timer in std::mem::take(&mut spreading.members[usize::from(location)]) {
+                    families[place[usize::from(timer)]].locations.add(location);
+                }
+            });
         }
-        // By rising pairs, a lower pair has its family's place in the list already.
-        let mut of_pair = lower;
-        let mut families: Vec<LocationSet> = Vec::new();
-        for (location, set) in live[..locations].iter().enumerate() {
-            for timer in *set {
-                let pair = 64 * location + usize::from(timer);
-                let lower = usize::from(of_pair[pair]);
-                let family = if lower == pair {
-                    families.push(LocationSet::EMPTY);
-                    families.len() - 1
-                } else {
-                    usize::from(of_pair[lower])
-                };
-                of_pair[pair] = family as u16;
-                families[family].add(location as u8);
-            }
-        }
-        Families { of_pair, locations: families }
+        Families(families)
     }
 
-    /// The place of a pair's family in the list of families by rising number.
-    #[inline]
-    pub fn family(&self, location: u8, timer: u8) -> usize {
-        usize::from(self.of_pair[64 * usize::from(location) + usize::from(timer)])
-    }
-
-    /// The locations of each family.
-    pub fn locations(&self) -> &[LocationSet] {
-        &self.locations
+    /// The families, by rising number.
+    pub fn list(&self) -> &[Family] {
+        &self.0
     }
 
     /// Gives each family the smallest number below `limit` that no earlier family which it meets holds; none if all
@@ -261,8 +262,8 @@ impl Families {
     pub fn first_fit(&self, limit: usize) -> Option<Vec<u16>> {
         // Of each location the numbers held there, 64 to a row of words.
         let mut held: Vec<ByLocation<u64>> = Vec::new();
-        let mut numbers = Vec::with_capacity(self.locations.len());
-        for locations in &self.locations {
+        let mut numbers = Vec::with_capacity(self.0.len());
+        for Family { locations, .. } in &self.0 {
             let mut row = 0;
             let free = loop {
                 let Some(words) = held.get(row) else {
@@ -280,34 +281,63 @@ impl Families {
                 return None;
             }
             let words = &mut held[row];
-            for location in locations.iter() {
-                words[usize::from(location)] |= 1 << free;
-            }
+            locations.iter().for_each(|location| words[usize::from(location)] |= 1 << free);
             numbers.push(number as u16);
         }
         Some(numbers)
     }
 }
 
-/// The lowest pair that the chain from `pair` leads to; the chain is halved on the way.
-#[inline]
-fn lowest(lower: &mut [u16], mut pair: usize) -> usize {
-    loop {
-        let next = usize::from(lower[pair]);
-        if next == pair {
-            return pair;
+/// Families of different timers that are being found, all from one first location.
+struct Spreading {
+    /// At each location the timers that are in a family by now.
+    placed: ByLocation<TimerSet>,
+    /// At each location the timers that are in one of the families at hand.
+    members: ByLocation<TimerSet>,
+    /// The locations where there are members.
+    touched: LocationSet,
+    /// The locations whose links are still to be followed.
+    pending: LocationSet,
+}
+
+impl Default for Spreading {
+    fn default() -> Self {
+        Spreading {
+            placed: [TimerSet::EMPTY; 256],
+            members: [TimerSet::EMPTY; 256],
+            touched: LocationSet::EMPTY,
+            pending: LocationSet::EMPTY,
         }
-        lower[pair] = lower[next];
-        pair = next;
     }
 }
 
-/// Joins the families of two pairs.
-#[inline]
-fn join(lower: &mut [u16], a: usize, b: usize) {
-    if lower[a] == lower[b] {
-        return;
+impl Spreading {
+    /// Follows the links of `begun` from their first location.
+    fn from(&mut self, chart: &Chart, liveness: &Liveness, first: u8, begun: TimerSet) {
+        self.add(first, begun);
+        while let Some(location) = self.pending.take_lowest() {
+            let members = self.members[usize::from(location)];
+            for transition in liveness.leaving.group(chart, location) {
+                let live = liveness.sets[usize::from(transition.target)];
+                self.add(transition.target, members.minus(transition.starts).common(live));
+            }
+            // What is live at the target and not started is live at the source.
+            for transition in liveness.entering.group(chart, location) {
+                self.add(transition.source, members.minus(transition.starts));
+            }
+        }
     }
-    let (a, b) = (lowest(lower, a), lowest(lower, b));
-    lower[a.max(b)] = a.min(b) as u16;
+
+    /// Adds timers, live at the location, to their families.
+    #[inline]
+    fn add(&mut self, location: u8, timers: TimerSet) {
+        let index = usize::from(location);
+        let added = timers.minus(self.placed[index]);
+        if !added.is_empty() {
+            self.placed[index] = self.placed[index].joined(added);
+            self.members[index] = self.members[index].joined(added);
+            self.touched.add(location);
+            self.pending.add(location);
+        }
+    }
 }

@@ -1,7 +1,7 @@
 //! The rewriting of a chart for a board of K timers.
 
-use crate::analysis::{floor, judge, live_sets, used, Families};
-use crate::chart::{Chart, MOST_TIMERS};
+use crate::analysis::{judge, used, Families, Liveness};
+use crate::chart::{Chart, Transition, MOST_TIMERS};
 use crate::refusal::{Answer, Refusal};
 use crate::sets::TimerSet;
 
@@ -14,12 +14,13 @@ pub struct Rewriting {
     pub length: u64,
 }
 
-/// A chart with its live sets and the board number of each family.
+/// A chart with its live sets and the board number of each pair of a location and a live timer.
 pub struct Plan {
     chart: Chart,
-    live: [TimerSet; 256],
-    families: Families,
-    numbers: Vec<u16>,
+    liveness: Liveness,
+    used: u8,
+    /// At 64 times the location plus the timer; 0 where the timer is not live.
+    numbers: Vec<u8>,
 }
 
 impl Plan {
@@ -30,31 +31,37 @@ impl Plan {
         if k > u32::from(MOST_TIMERS) {
             return Err(Refusal::nowhere(11));
         }
-        let live = live_sets(&chart, &graph);
-        let families = Families::of(&chart, &live);
-        let numbers = families.first_fit(k as usize).ok_or(Refusal::nowhere(20))?;
-        Ok(Plan { chart, live, families, numbers })
+        let liveness = Liveness::of(&chart, graph);
+        let families = Families::of(&chart, &liveness);
+        let given = families.first_fit(k as usize).ok_or(Refusal::nowhere(20))?;
+        let mut numbers = vec![0; 64 * usize::from(chart.locations())];
+        for (family, &number) in families.list().iter().zip(&given) {
+            family.locations.iter().for_each(|location| {
+                numbers[64 * usize::from(location) + usize::from(family.timer)] = number as u8;
+            });
+        }
+        Ok(Plan { chart, liveness, used: used(&given) as u8, numbers })
     }
 
     /// One more than the largest number given: at most 64.
     pub fn used(&self) -> u8 {
-        used(&self.numbers) as u8
+        self.used
     }
 
     /// The size of the fullest live set.
     pub fn floor(&self) -> u32 {
-        floor(&self.live)
+        self.liveness.floor()
     }
 
     /// The live set of each location of the chart.
     pub fn live(&self) -> &[TimerSet] {
-        &self.live[..usize::from(self.chart.locations())]
+        self.liveness.sets()
     }
 
     /// The board number of the family of a timer that is live at the location.
     #[inline]
     pub fn number(&self, location: u8, timer: u8) -> u8 {
-        self.numbers[self.families.family(location, timer)] as u8
+        self.numbers[64 * usize::from(location) + usize::from(timer)]
     }
 
     /// Writes the rewritten chart's file to the front of `out` and returns its length. Judges 21.
@@ -62,17 +69,15 @@ impl Plan {
     /// A test reads the number at the transition's source. Of the starts only those live at the target remain, under
     /// their number there; they form a set, so they stand rising and each once.
     fn write(&self, out: &mut [u8]) -> Answer<usize> {
-        let born = |target: u8, starts: TimerSet| starts.common(self.live[usize::from(target)]);
-        let length = self.chart.file_length_with(|transition| born(transition.target, transition.starts).len());
+        let born = |transition: &Transition| transition.starts.common(self.live()[usize::from(transition.target)]);
+        let length = self.chart.file_length_with(|transition| born(transition).len());
         let Some(file) = out.get_mut(..length) else {
             return Err(Refusal::nowhere(21));
         };
-        let starts =
-            |target, starts| born(target, starts).into_iter().map(|timer| self.number(target, timer)).collect();
         self.chart.write_with(
             file,
-            self.used(),
-            |transition| starts(transition.target, transition.starts),
+            self.used,
+            |transition| born(transition).into_iter().map(|timer| self.number(transition.target, timer)).collect(),
             |transition, timer| self.number(transition.source, timer),
         );
         Ok(length)

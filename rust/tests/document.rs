@@ -26,20 +26,13 @@ fn live_of(file: &[u8]) -> (Vec<Vec<u8>>, Analysis) {
 fn families(drawing: &Drawing) -> Vec<(usize, u16)> {
     let chart = Chart::read(&drawing.file()).unwrap();
     let graph = analysis::judge(&chart).unwrap();
-    let live = analysis::live_sets(&chart, &graph);
-    let families = analysis::Families::of(&chart, &live);
+    let families = analysis::Families::of(&chart, &analysis::Liveness::of(&chart, graph));
     let numbers = families.first_fit(usize::MAX).unwrap();
-    let mut seen = vec![false; numbers.len()];
-    let mut list = Vec::new();
-    for (location, set) in live[..usize::from(chart.locations())].iter().enumerate() {
-        for timer in *set {
-            let family = families.family(location as u8, timer);
-            if !std::mem::replace(&mut seen[family], true) {
-                list.push((64 * location + usize::from(timer), numbers[family]));
-            }
-        }
-    }
-    list
+    let number = |family: &analysis::Family| {
+        let lowest = family.locations.iter().next().unwrap();
+        64 * usize::from(lowest) + usize::from(family.timer)
+    };
+    families.list().iter().map(number).zip(numbers).collect()
 }
 
 fn rewritten(drawing: &Drawing, k: u32) -> Answer<Vec<u8>> {

@@ -198,7 +198,7 @@ impl Trial {
     fn round(&mut self, round: u64) {
         let random = &mut self.random;
         let kind = random.below(100);
-        let most_steps = if kind % 10 == 0 { 2_000 } else { 25 };
+        let most_steps = if kind.is_multiple_of(10) { 2_000 } else { 25 };
         let mut drawing = match kind {
             0..=69 => {
                 let most = random.pick(&[4, 8, 8, 16, 40]);
@@ -264,7 +264,7 @@ impl Trial {
                 self.all_calls(&file, None, 0);
             }
         }
-        if round % 20 == 0 {
+        if round.is_multiple_of(20) {
             let random = &mut self.random;
             let k = random.pick(&[0, 1, 2, 3, 8, 16, 63, 64, 64, 65, 255]);
             let mut file = if random.chance(2, 3) { good } else { damaged(random, &good) };
@@ -349,7 +349,7 @@ fn main() {
     trial.input_lengths();
     for round in 0..rounds {
         trial.round(round);
-        if round % 2_000 == 0 {
+        if round.is_multiple_of(2_000) {
             trial.long_lists();
         }
     }
