@@ -93,7 +93,10 @@ fn run_play(file: &[u8], input: &[u8], at: usize) -> usize {
     let middle = input::plus(input::plus(at, 2), input::times4(c));
     let more = input::copies(input::quad(input, middle));
     let first = input::plus(middle, 4);
-    let second = input::plus(input::plus(first, 4), input::times4(input::count(input, first)));
+    let second = input::plus(
+        input::plus(first, 4),
+        input::times4(input::count(input, first)),
+    );
     let counts = input::counts(input, input::plus(at, 2), c);
     let transitions = input::transitions(input, first, more);
     let times = input::times(input, second, more);
@@ -101,12 +104,19 @@ fn run_play(file: &[u8], input: &[u8], at: usize) -> usize {
     let t = input::repeated(input, first, more);
     let u = input::repeated(input, second, more);
     show_played(player::play(file, &counts[0..n], &transitions[0..t], &times[0..u]));
-    input::plus(input::plus(second, 4), input::times8(input::count(input, second)))
+    input::plus(
+        input::plus(second, 4),
+        input::times8(input::count(input, second)),
+    )
 }
 
 fn show_played(answer: player::Played) {
     match answer {
         player::Played::Refused(r) => show::refusal(r, 0),
-        player::Played::Arrived { location, time, accepting } => show::arrived(location, time, accepting),
+        player::Played::Arrived {
+            location,
+            time,
+            accepting,
+        } => show::arrived(location, time, accepting),
     }
 }

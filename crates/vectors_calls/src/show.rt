@@ -85,5 +85,9 @@ pub fn arrived(location: u16, time: u64, accepting: bool) {
     item(b"location ", location as u64);
     item(b" time ", time);
     text(b" accepting ");
-    if accepting { text(b"1\n") } else { text(b"0\n") }
+    if accepting {
+        text(b"1\n")
+    } else {
+        text(b"0\n")
+    }
 }
