@@ -1,0 +1,343 @@
+//! The analysis: reached, unstarted and live; families, their board numbers by first fit, used and floor.
+
+use crate::chart::{Chart, Transition};
+use crate::refusal::{Answer, Refusal};
+use crate::sets::{LocationSet, TimerSet};
+
+/// One entry for each location that a chart can have; a location's byte is always inside.
+type ByLocation<T> = [T; 256];
+
+/// What the analysis returns beside the live sets.
+#[derive(Clone, Copy, Debug, PartialEq, Eq)]
+pub struct Analysis {
+    /// One more than the largest board number given, 0 if there is no family. It may exceed 64.
+    pub used: u64,
+    /// The size of the fullest live set of any location.
+    pub floor: u64,
+}
+
+/// Analyses a chart file and writes the live set of each location to the front of `live`. Judges 1 to 10 and 21.
+pub fn analyse(file: &[u8], live: &mut [u64]) -> Answer<Analysis> {
+    let chart = Chart::read(file)?;
+    let graph = judge(&chart)?;
+    let Some(entries) = live.get_mut(..usize::from(chart.locations())) else {
+        return Err(Refusal::nowhere(21));
+    };
+    let liveness = Liveness::of(&chart, graph);
+    let numbers = Families::of(&chart, &liveness).first_fit(usize::MAX);
+    let numbers = numbers.expect("without a limit every family gets a number");
+    for (entry, set) in entries.iter_mut().zip(liveness.sets()) {
+        *entry = set.word();
+    }
+    Ok(Analysis { used: u64::from(used(&numbers)), floor: u64::from(liveness.floor()) })
+}
+
+/// Judges 9 and 10 and returns the order of the locations, which the live sets are made by.
+pub fn judge(chart: &Chart) -> Answer<Graph> {
+    let graph = Graph::of(chart);
+    if let Some(location) = LocationSet::below(chart.locations()).lowest_beyond(&graph.reached) {
+        return Err(Refusal::at(9, u64::from(location)));
+    }
+    if !chart.has_no_tests() {
+        let unstarted = unstarted_sets(chart, &graph);
+        let is_unstarted =
+            |transition: &Transition| !transition.tested.common(unstarted[usize::from(transition.source)]).is_empty();
+        if let Some(place) = chart.transitions().iter().position(is_unstarted) {
+            return Err(Refusal::at(10, place as u64));
+        }
+    }
+    Ok(graph)
+}
+
+/// Transitions grouped by one of their ends.
+struct Grouped {
+    /// Where each location's group ends in `transitions`; it begins where the one before ends.
+    ends: ByLocation<u16>,
+    transitions: [u16; 512],
+}
+
+impl Grouped {
+    fn by(chart: &Chart, end: impl Fn(&Transition) -> u8) -> Self {
+        let mut ends = [0; 256];
+        for transition in chart.transitions() {
+            ends[usize::from(end(transition))] += 1;
+        }
+        let mut sum = 0;
+        for entry in &mut ends[..usize::from(chart.locations())] {
+            sum += *entry;
+            *entry = sum - *entry;
+        }
+        // Each entry is its group's first place now, and moves to its end as the group is filled.
+        let mut transitions = [0; 512];
+        for (index, transition) in chart.transitions().iter().enumerate() {
+            let place = &mut ends[usize::from(end(transition))];
+            transitions[usize::from(*place)] = index as u16;
+            *place += 1;
+        }
+        Grouped { ends, transitions }
+    }
+
+    fn first(&self, location: u8) -> u16 {
+        match location {
+            0 => 0,
+            _ => self.ends[usize::from(location - 1)],
+        }
+    }
+
+    /// The transitions of a location's group.
+    #[inline]
+    fn group<'a>(&'a self, chart: &'a Chart, location: u8) -> impl Iterator<Item = &'a Transition> {
+        let range = usize::from(self.first(location))..usize::from(self.ends[usize::from(location)]);
+        self.transitions[range].iter().map(|&index| &chart.transitions()[usize::from(index)])
+    }
+}
+
+/// The reached locations, in an order in which sets settle fast along transitions.
+pub struct Graph {
+    leaving: Grouped,
+    reached: LocationSet,
+    /// The reached locations by rising position: each before those that it leads to, but along loops.
+    order: ByLocation<u8>,
+    position: ByLocation<u8>,
+}
+
+impl Graph {
+    /// Searches the chart in depth from the initial location; the order is that in which locations are left, reversed.
+    fn of(chart: &Chart) -> Self {
+        let leaving = Grouped::by(chart, |transition| transition.source);
+        let mut reached = LocationSet::EMPTY;
+        let mut order = [0; 256];
+        let mut position = [0; 256];
+        let mut path = [0; 256];
+        let mut depth = 0;
+        let mut next = [0; 256];
+        let mut free = 256;
+        let mut location = chart.initial();
+        reached.add(location);
+        next[usize::from(location)] = leaving.first(location);
+        loop {
+            let here = usize::from(location);
+            if next[here] < leaving.ends[here] {
+                let transition = leaving.transitions[usize::from(next[here])];
+                next[here] += 1;
+                let target = chart.transitions()[usize::from(transition)].target;
+                if !reached.has(target) {
+                    reached.add(target);
+                    next[usize::from(target)] = leaving.first(target);
+                    path[depth] = location;
+                    depth += 1;
+                    location = target;
+                }
+            } else {
+                free -= 1;
+                order[free] = location;
+                position[here] = free as u8;
+                if depth == 0 {
+                    break;
+                }
+                depth -= 1;
+                location = path[depth];
+            }
+        }
+        Graph { leaving, reached, order, position }
+    }
+}
+
+/// Of each location the timers that some path to it from the initial location starts nowhere.
+fn unstarted_sets(chart: &Chart, graph: &Graph) -> ByLocation<TimerSet> {
+    let mut sets = [TimerSet::EMPTY; 256];
+    sets[usize::from(chart.initial())] = TimerSet::below(chart.timers());
+    let mut pending = LocationSet::EMPTY;
+    pending.add(graph.position[usize::from(chart.initial())]);
+    while let Some(position) = pending.take_lowest() {
+        let location = graph.order[usize::from(position)];
+        let here = sets[usize::from(location)];
+        for transition in graph.leaving.group(chart, location) {
+            let target = &mut sets[usize::from(transition.target)];
+            let joined = target.joined(here.minus(transition.starts));
+            if joined != *target {
+                *target = joined;
+                pending.add(graph.position[usize::from(transition.target)]);
+            }
+        }
+    }
+    sets
+}
+
+/// The live sets of a chart whose locations are all reached.
+pub struct Liveness {
+    locations: usize,
+    sets: ByLocation<TimerSet>,
+    leaving: Grouped,
+    entering: Grouped,
+}
+
+impl Liveness {
+    /// A timer is live where a test of it leaves, and backwards along transitions that do not start it.
+    pub fn of(chart: &Chart, graph: Graph) -> Self {
+        let mut sets = [TimerSet::EMPTY; 256];
+        let mut pending = LocationSet::EMPTY;
+        for transition in chart.transitions() {
+            let source = &mut sets[usize::from(transition.source)];
+            *source = source.joined(transition.tested);
+            if !source.is_empty() {
+                pending.add(255 - graph.position[usize::from(transition.source)]);
+            }
+        }
+        let entering = Grouped::by(chart, |transition| transition.target);
+        while let Some(position) = pending.take_lowest() {
+            let location = graph.order[usize::from(255 - position)];
+            let here = sets[usize::from(location)];
+            for transition in entering.group(chart, location) {
+                let source = &mut sets[usize::from(transition.source)];
+                let joined = source.joined(here.minus(transition.starts));
+                if joined != *source {
+                    *source = joined;
+                    pending.add(255 - graph.position[usize::from(transition.source)]);
+                }
+            }
+        }
+        Liveness { locations: usize::from(chart.locations()), sets, leaving: graph.leaving, entering }
+    }
+
+    /// The live set of each location of the chart.
+    pub fn sets(&self) -> &[TimerSet] {
+        &self.sets[..self.locations]
+    }
+
+    /// The size of the fullest live set.
+    pub fn floor(&self) -> u32 {
+        self.sets().iter().map(|set| set.len()).max().unwrap_or(0)
+    }
+}
+
+/// One more than the largest number given.
+pub fn used(numbers: &[u16]) -> u16 {
+    numbers.iter().max().map_or(0, |largest| largest + 1)
+}
+
+/// A family: its timer and its locations.
+#[derive(Clone, Copy, Debug, PartialEq, Eq)]
+pub struct Family {
+    pub timer: u8,
+    pub locations: LocationSet,
+}
+
+/// The families of a chart, by rising number.
+pub struct Families(Vec<Family>);
+
+impl Families {
+    /// Goes through the locations, rising. The live timers of a location that are in no family yet begin one family
+    /// each, and these spread over their links all at once, as one word at each location.
+    pub fn of(chart: &Chart, liveness: &Liveness) -> Self {
+        let mut families = Vec::new();
+        let mut spreading = Spreading::default();
+        let mut place = [0; 64];
+        for (first, &live) in liveness.sets().iter().enumerate() {
+            let begun = live.minus(spreading.placed[first]);
+            if begun.is_empty() {
+                continue;
+            }
+            for timer in begun {
+                place[usize::from(timer)] = families.len();
+                families.push(Family { timer, locations: LocationSet::EMPTY });
+            }
+            spreading.from(chart, liveness, first as u8, begun);
+            std::mem::take(&mut spreading.touched).iter().for_each(|location| {
+                for timer in std::mem::take(&mut spreading.members[usize::from(location)]) {
+                    families[place[usize::from(timer)]].locations.add(location);
+                }
+            });
+        }
+        Families(families)
+    }
+
+    /// The families, by rising number.
+    pub fn list(&self) -> &[Family] {
+        &self.0
+    }
+
+    /// Gives each family the smallest number below `limit` that no earlier family which it meets holds; none if all
+    /// are held for some family.
+    pub fn first_fit(&self, limit: usize) -> Option<Vec<u16>> {
+        // Of each location the numbers held there, 64 to a row of words.
+        let mut held: Vec<ByLocation<u64>> = Vec::new();
+        let mut numbers = Vec::with_capacity(self.0.len());
+        for Family { locations, .. } in &self.0 {
+            let mut row = 0;
+            let free = loop {
+                let Some(words) = held.get(row) else {
+                    held.push([0; 256]);
+                    break 0;
+                };
+                let taken = locations.iter().fold(0, |taken, location| taken | words[usize::from(location)]);
+                if taken != u64::MAX {
+                    break taken.trailing_ones() as usize;
+                }
+                row += 1;
+            };
+            let number = 64 * row + free;
+            if number >= limit {
+                return None;
+            }
+            let words = &mut held[row];
+            locations.iter().for_each(|location| words[usize::from(location)] |= 1 << free);
+            numbers.push(number as u16);
+        }
+        Some(numbers)
+    }
+}
+
+/// Families of different timers that are being found, all from one first location.
+struct Spreading {
+    /// At each location the timers that are in a family by now.
+    placed: ByLocation<TimerSet>,
+    /// At each location the timers that are in one of the families at hand.
+    members: ByLocation<TimerSet>,
+    /// The locations where there are members.
+    touched: LocationSet,
+    /// The locations whose links are still to be followed.
+    pending: LocationSet,
+}
+
+impl Default for Spreading {
+    fn default() -> Self {
+        Spreading {
+            placed: [TimerSet::EMPTY; 256],
+            members: [TimerSet::EMPTY; 256],
+            touched: LocationSet::EMPTY,
+            pending: LocationSet::EMPTY,
+        }
+    }
+}
+
+impl Spreading {
+    /// Follows the links of `begun` from their first location.
+    fn from(&mut self, chart: &Chart, liveness: &Liveness, first: u8, begun: TimerSet) {
+        self.add(first, begun);
+        while let Some(location) = self.pending.take_lowest() {
+            let members = self.members[usize::from(location)];
+            for transition in liveness.leaving.group(chart, location) {
+                let live = liveness.sets[usize::from(transition.target)];
+                self.add(transition.target, members.minus(transition.starts).common(live));
+            }
+            // What is live at the target and not started is live at the source.
+            for transition in liveness.entering.group(chart, location) {
+                self.add(transition.source, members.minus(transition.starts));
+            }
+        }
+    }
+
+    /// Adds timers, live at the location, to their families.
+    #[inline]
+    fn add(&mut self, location: u8, timers: TimerSet) {
+        let index = usize::from(location);
+        let added = timers.minus(self.placed[index]);
+        if !added.is_empty() {
+            self.placed[index] = self.placed[index].joined(added);
+            self.members[index] = self.members[index].joined(added);
+            self.touched.add(location);
+            self.pending.add(location);
+        }
+    }
+}

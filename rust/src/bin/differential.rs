@@ -1,0 +1,377 @@
+//! Holds the proved library and the program `allocate` to this crate, on random files, limits, lent memory and step
+//! lists from a seed.
+//!
+//! usage: differential [ROUNDS] [SEED] [--without-program]
+//!
+//! Exit status 0 if all agree and every refusal number came; 1 at the first difference, with its input in hex; 2 if a
+//! number that should come never did, or the program is missing. A thousand rounds bring all numbers.
+
+use std::fmt::Debug;
+use std::io::{ErrorKind, Write};
+use std::path::{Path, PathBuf};
+use std::process::{exit, Command, Stdio};
+
+use timing_chart::analysis::{self, Analysis};
+use timing_chart::chart::Chart;
+use timing_chart::drawing::*;
+use timing_chart::generator::*;
+use timing_chart::listing::listing;
+use timing_chart::player::{self, LATEST};
+use timing_chart::rewriting::{self, Rewriting};
+use timing_chart::{library, Answer, Refusal};
+
+/// The numbers that calls of the library bring; the program brings 16 besides.
+const EXPECTED: [u64; 20] = [1, 2, 3, 4, 5, 6, 7, 8, 9, 10, 11, 12, 13, 14, 15, 20, 21, 22, 23, 24];
+
+/// How often what came.
+#[derive(Default)]
+struct Tally {
+    /// Refusals of each call by number.
+    analyses: [u64; 25],
+    rewritings: [u64; 25],
+    playings: [u64; 25],
+    /// The program's, the number taken from its text.
+    listings: [u64; 25],
+    steps_taken: u64,
+    used_over_64: u64,
+    largest: u64,
+}
+
+impl Tally {
+    fn all(&self) -> [(&'static str, &[u64; 25]); 4] {
+        [
+            ("analysis", &self.analyses),
+            ("rewriting", &self.rewritings),
+            ("player", &self.playings),
+            ("program", &self.listings),
+        ]
+    }
+}
+
+/// The place of an answer in a tally: 0 for a result.
+fn number_of<T>(answer: &Answer<T>) -> usize {
+    answer.as_ref().err().map_or(0, |refusal| refusal.number as usize)
+}
+
+fn hex(bytes: &[u8]) -> String {
+    bytes.iter().map(|byte| format!("{byte:02x}")).collect()
+}
+
+/// Reports a difference and ends.
+fn differ(what: &str, file: &[u8], with: &dyn Debug, library: &dyn Debug, rust: &dyn Debug) -> ! {
+    println!("difference in {what}\nfile {}\nwith {with:?}\nproved {library:?}\nrust   {rust:?}", hex(file));
+    exit(1)
+}
+
+struct Trial {
+    random: Random,
+    tally: Tally,
+    program: Option<PathBuf>,
+}
+
+impl Trial {
+    /// Analyses with a lent list of `length` words, filled beforehand.
+    fn analyse(&mut self, file: &[u8], length: usize) -> Answer<Analysis> {
+        let before: Vec<u64> = (0..length).map(|_| self.random.word()).collect();
+        let (mut proved, mut rust) = (before.clone(), before.clone());
+        let proved_answer = library::analyse(file, &mut proved);
+        let answer = analysis::analyse(file, &mut rust);
+        if proved_answer != answer {
+            differ("analysis", file, &length, &proved_answer, &answer);
+        }
+        if proved != rust || answer.is_err() && rust != before {
+            differ("analysis, lent list", file, &before, &proved, &rust);
+        }
+        self.tally.analyses[number_of(&answer)] += 1;
+        self.tally.used_over_64 += u64::from(answer.is_ok_and(|answer| answer.used > 64));
+        answer
+    }
+
+    /// Rewrites for `k` with a lent buffer of `length` bytes, filled beforehand, and returns the file.
+    fn rewrite(&mut self, file: &[u8], k: u32, length: usize) -> Answer<Vec<u8>> {
+        let before = self.random.bytes(length);
+        let (mut proved, mut rust) = (before.clone(), before.clone());
+        let proved_answer = library::rewrite(file, k, &mut proved);
+        let answer = rewriting::rewrite(file, k, &mut rust);
+        if proved_answer != answer {
+            differ("rewriting", file, &(k, length), &proved_answer, &answer);
+        }
+        if proved != rust || answer.is_err() && rust != before {
+            differ("rewriting, lent buffer", file, &(k, hex(&before)), &hex(&proved), &hex(&rust));
+        }
+        self.tally.rewritings[number_of(&answer)] += 1;
+        let Rewriting { used, length } = answer?;
+        rust.truncate(length as usize);
+        assert_eq!(Chart::read(&rust).map(|chart| u64::from(chart.timers())), Ok(used));
+        Ok(rust)
+    }
+
+    fn play(&mut self, file: &[u8], counts: &[u32], steps: &Steps) -> Answer<player::Playing> {
+        let proved = library::play(file, counts, &steps.transitions, &steps.times);
+        let answer = player::play(file, counts, &steps.transitions, &steps.times);
+        if proved != answer {
+            differ("player", file, &(counts, &steps.transitions, &steps.times), &proved, &answer);
+        }
+        self.tally.playings[number_of(&answer)] += 1;
+        self.tally.steps_taken += match answer {
+            Ok(_) => steps.times.len() as u64,
+            Err(Refusal { number: 14 | 15 | 22..=24, place }) => place,
+            Err(_) => 0,
+        };
+        answer
+    }
+
+    /// Runs the program on an input and compares what it prints.
+    fn print(&mut self, input: &[u8]) {
+        let Some(program) = &self.program else {
+            return;
+        };
+        let expected = listing(input);
+        let printed = output(program, input);
+        if printed != expected.as_bytes() {
+            let printed = String::from_utf8_lossy(&printed).into_owned();
+            differ("program (the input is K, then the file)", input, &input.len(), &printed, &expected);
+        }
+        let number = expected.strip_prefix("refused ").and_then(|rest| rest.split(' ').next()?.parse().ok());
+        self.tally.listings[number.unwrap_or(0)] += 1;
+    }
+
+    /// All calls on one file, with step lists made for `drawing` where the file is that drawing's.
+    fn all_calls(&mut self, file: &[u8], drawing: Option<&Drawing>, most_steps: usize) {
+        let chart = Chart::read(file);
+        let locations = chart.as_ref().map_or(4, |chart| usize::from(chart.locations()));
+        let room = self.random.below(locations as u64) as usize;
+        let _ = self.analyse(file, room);
+        let extra = self.random.pick(&[0, 0, 1, 300]);
+        let analysis = self.analyse(file, locations + extra);
+        let used = analysis.map_or(3, |analysis| analysis.used.min(64) as u32);
+
+        let board = self.rewrite(file, used, file.len() + extra);
+        if let Ok(board) = &board {
+            for length in [board.len(), board.len() - 1, self.random.below(board.len() as u64) as usize] {
+                let _ = self.rewrite(file, used, length);
+            }
+        }
+        let any = self.random.below(65) as u32;
+        let beyond = self.random.pick(&[65, 128, 255, 256, 65_536, 1 << 31, u32::MAX]);
+        for k in [used.saturating_sub(1), any, 64, beyond] {
+            let length = if self.random.chance(1, 4) { 0 } else { file.len() };
+            let _ = self.rewrite(file, k, length);
+        }
+
+        let timers = chart.as_ref().map_or(1, |chart| usize::from(chart.timers()));
+        let transitions = chart.as_ref().map_or(1, |chart| chart.transitions().len() as u32);
+        for _ in 0..3 {
+            let mut steps = match drawing {
+                Some(drawing) => {
+                    let wait = self.random.pick(&[0, 2, 20, 70_000, 1 << 20]);
+                    let mut steps = run(&mut self.random, drawing, most_steps, wait, true);
+                    if self.random.chance(1, 2) {
+                        lengthen(&mut self.random, drawing, &mut steps);
+                    }
+                    if self.random.chance(1, 8) {
+                        // The same steps as late as can be.
+                        let late = u64::from(LATEST) - steps.times.last().unwrap_or(&0);
+                        steps.times.iter_mut().for_each(|time| *time += late);
+                    }
+                    steps
+                }
+                None => Steps::default(),
+            };
+            if drawing.is_none() || self.random.chance(1, 2) {
+                spoil_steps(&mut self.random, &mut steps, transitions);
+            }
+            let good = self.random.chance(7, 8);
+            let counts_drawn = counts(&mut self.random, timers, good);
+            let answer = self.play(file, &counts_drawn, &steps);
+            if let Ok(board) = &board {
+                let counts_board = counts(&mut self.random, used as usize, true);
+                let board_answer = self.play(board, &counts_board, &steps);
+                if number_of(&answer) != 12 && board_answer != answer {
+                    differ("the player on the rewritten file", file, &(board, steps), &board_answer, &answer);
+                }
+            }
+        }
+    }
+
+    /// One round: a file of some kind, and all calls on it.
+    fn round(&mut self, round: u64) {
+        let random = &mut self.random;
+        let kind = random.below(100);
+        let most_steps = if kind.is_multiple_of(10) { 2_000 } else { 25 };
+        let mut drawing = match kind {
+            0..=69 => {
+                let most = random.pick(&[4, 8, 8, 16, 40]);
+                let shape = Shape::random(random, most);
+                accepted(random, &shape)
+            }
+            70..=79 => random.pick(&[
+                chart_a as fn() -> Drawing,
+                chart_b,
+                chart_c,
+                one_location,
+                self_loop,
+                never_started,
+                started_anew,
+            ])(),
+            80..=85 => {
+                let shape = Shape::random(random, 256);
+                accepted(random, &shape)
+            }
+            86 => accepted(random, &Shape::LARGEST),
+            87 if random.chance(1, 2) => longest(random),
+            87 => {
+                let starts = random.pick(&[(1, 1), (10, 40), (40, 64)]);
+                accepted(random, &Shape { cycle: true, starting: 90, starts, ..Shape::LARGEST })
+            }
+            88..=91 => {
+                let locations = random.between(12, 40) as u16;
+                let starting = random.between(90, 100);
+                accepted(random, &Shape { locations, starting, ..Shape::SMALL_FAMILIES })
+            }
+            92..=95 => {
+                let levels = random.between(2, 16);
+                many_numbers(levels as u16, random.between(1, (8 * levels - 8).min(32)) as u8)
+            }
+            _ => sixty_five_numbers(random.between(1, 63) as u8),
+        };
+        if !drawing.transitions.is_empty() && random.chance(1, 4) {
+            // A transition turned: often it is then in the way of 9 or 10, or families change.
+            let transition = random.below(drawing.transitions.len() as u64) as usize;
+            let transition = &mut drawing.transitions[transition];
+            match random.below(4) {
+                0 => transition.target = transition.source,
+                1 => std::mem::swap(&mut transition.source, &mut transition.target),
+                2 => transition.starts.clear(),
+                _ => transition.starts = (0..drawing.timers).collect(),
+            }
+        }
+        let good = drawing.file();
+        self.tally.largest = self.tally.largest.max(good.len() as u64);
+        match random.below(10) {
+            0..=5 => self.all_calls(&good, Some(&drawing), most_steps),
+            6 | 7 => {
+                let file = spoilt(random, &drawing);
+                self.all_calls(&file, None, 0);
+            }
+            8 => {
+                let file = damaged(random, &good);
+                self.all_calls(&file, None, 0);
+            }
+            _ => {
+                let worse = spoilt(random, &drawing);
+                let file = damaged(random, &worse);
+                self.all_calls(&file, None, 0);
+            }
+        }
+        if round.is_multiple_of(20) {
+            let random = &mut self.random;
+            let k = random.pick(&[0, 1, 2, 3, 8, 16, 63, 64, 64, 65, 255]);
+            let mut file = if random.chance(2, 3) { good } else { damaged(random, &good) };
+            file.insert(0, k);
+            self.print(&file);
+        }
+    }
+
+    /// Lists that are longer than a place of 16 bits tells, and starting counts of every kind on them.
+    fn long_lists(&mut self) {
+        let shape = Shape { locations: 9, transitions: 30, cycle: true, lenient: true, ..Shape::LARGEST };
+        let drawing = accepted(&mut self.random, &shape);
+        let file = drawing.file();
+        let steps = run(&mut self.random, &drawing, 70_000, 0, false);
+        assert_eq!(steps.times.len(), 70_000, "the chart's runs do not end");
+        let board = self.rewrite(&file, 64, file.len()).expect("the chart fits a board of 64");
+        let used = self.analyse(&file, 9).map_or(0, |analysis| analysis.used as usize);
+        for at in [None, Some(65_534), Some(65_535), Some(65_536), Some(69_999)] {
+            let mut steps = steps.clone();
+            if let Some(at) = at {
+                steps.transitions[at] = 30;
+            }
+            for (file, timers) in [(&file, 64), (&board, used)] {
+                let counts = counts(&mut self.random, timers, true);
+                let answer = self.play(file, &counts, &steps);
+                assert_eq!(answer.err(), at.map(|at| Refusal { number: 14, place: at as u64 }));
+            }
+        }
+    }
+
+    /// Inputs of the program about its limits of length.
+    fn input_lengths(&mut self) {
+        let with_k = |file: Vec<u8>| [vec![64], file].concat();
+        self.print(&[]);
+        self.print(&[64]);
+        self.print(&with_k(chart_b().file()));
+        for length in [65_535, 65_536, 65_537, 65_538, 70_000, 200_000] {
+            let mut body = chart_b().file()[5..].to_vec();
+            body.resize(length - 6, 0);
+            self.print(&with_k(enclosed(&body)));
+        }
+        let longest_text = accepted(&mut self.random, &Shape { starts: (1, 1), starting: 5, ..Shape::LARGEST });
+        self.print(&with_k(longest_text.file()));
+        let longest_file = longest(&mut self.random);
+        self.print(&with_k(longest_file.file()));
+    }
+}
+
+/// What a program prints for an input.
+fn output(program: &Path, input: &[u8]) -> Vec<u8> {
+    let mut child = Command::new(program)
+        .stdin(Stdio::piped())
+        .stdout(Stdio::piped())
+        .spawn()
+        .unwrap_or_else(|error| panic!("{}: {error}", program.display()));
+    let mut stdin = child.stdin.take().expect("the input is piped");
+    std::thread::scope(|scope| {
+        scope.spawn(move || match stdin.write_all(input) {
+            Err(error) if error.kind() != ErrorKind::BrokenPipe => panic!("{error}"),
+            _ => {}
+        });
+        child.wait_with_output().expect("the program ends").stdout
+    })
+}
+
+fn main() {
+    let (options, numbers): (Vec<String>, Vec<String>) =
+        std::env::args().skip(1).partition(|word| word.starts_with("--"));
+    let number = |index: usize, default: u64| {
+        numbers.get(index).map_or(default, |word| word.parse().unwrap_or_else(|_| panic!("no number: {word}")))
+    };
+    let (rounds, seed) = (number(0, 20_000), number(1, 1));
+    let default = Path::new(env!("CARGO_MANIFEST_DIR")).join("../target/bin/allocate");
+    let program = std::env::var_os("CHART_PROGRAM").map_or(default, PathBuf::from);
+    let without = options.iter().any(|option| option == "--without-program");
+    if !without && !program.exists() {
+        println!("no program at {}; build it, or pass --without-program", program.display());
+        exit(2);
+    }
+    let program = (!without).then_some(program);
+    let mut trial = Trial { random: Random::new(seed), tally: Tally::default(), program };
+    trial.input_lengths();
+    for round in 0..rounds {
+        trial.round(round);
+        if round.is_multiple_of(2_000) {
+            trial.long_lists();
+        }
+    }
+
+    let tally = &trial.tally;
+    println!("rounds {rounds}, seed {seed}; largest chart {} bytes", tally.largest);
+    println!("charts with used over 64: {}; steps taken: {}", tally.used_over_64, tally.steps_taken);
+    println!("how often each answer came (0: a result)");
+    println!("{:>6} {:>10} {:>10} {:>10} {:>10}", "number", "analysis", "rewriting", "player", "program");
+    for number in (0..=16).chain(20..=24) {
+        let [a, b, c, d] = tally.all().map(|(_, counts)| counts[number]);
+        println!("{number:>6} {a:>10} {b:>10} {c:>10} {d:>10}");
+    }
+    let came = |number: u64| tally.all().iter().any(|(_, counts)| counts[number as usize] > 0);
+    let mut missing: Vec<u64> = EXPECTED.into_iter().filter(|&number| !came(number)).collect();
+    if trial.program.is_some() && !came(16) {
+        missing.push(16);
+    }
+    if !missing.is_empty() || tally.used_over_64 == 0 {
+        println!("never came: {missing:?}; charts with used over 64: {}", tally.used_over_64);
+        exit(2);
+    }
+    let calls: u64 = tally.all().iter().map(|(_, counts)| counts.iter().sum::<u64>()).sum();
+    println!("all {calls} calls agree");
+}

@@ -1,0 +1,250 @@
+//! Measures the proved library beside this crate: analysis, rewriting and player on small, typical and largest charts,
+//! growth by transitions, and the player's time for a step.
+//!
+//! usage: measure [REPETITIONS]
+
+use std::hint::black_box;
+
+use timing_chart::analysis::{self, Analysis};
+use timing_chart::chart::Chart;
+use timing_chart::drawing::{chart_a, Drawing};
+use timing_chart::generator::{accepted, longest, many_numbers, run, Random, Shape, Steps};
+use timing_chart::player::{self, Playing};
+use timing_chart::rewriting::{self, Rewriting};
+use timing_chart::{library, Answer};
+
+/// The steps of a long list.
+const LONG: usize = 100_000;
+
+/// A board of this many timers is the limit of every rewriting.
+const K: u32 = 64;
+
+type Analyse = fn(&[u8], &mut [u64]) -> Answer<Analysis>;
+type Rewrite = fn(&[u8], u32, &mut [u8]) -> Answer<Rewriting>;
+type Play = fn(&[u8], &[u32], &[u32], &[u64]) -> Answer<Playing>;
+
+/// One implementation of the three calls.
+#[derive(Clone, Copy)]
+struct Calls {
+    analyse: Analyse,
+    rewrite: Rewrite,
+    play: Play,
+}
+
+const PROVED: Calls = Calls { analyse: library::analyse, rewrite: library::rewrite, play: library::play };
+const RUST: Calls = Calls { analyse: analysis::analyse, rewrite: rewriting::rewrite, play: player::play };
+
+/// The processor's time that this thread has taken, in nanoseconds: other programs on the machine do not count.
+fn now() -> u64 {
+    #[repr(C)]
+    struct Time {
+        seconds: i64,
+        nanoseconds: i64,
+    }
+    unsafe extern "C" {
+        fn clock_gettime(clock: i32, time: *mut Time) -> i32;
+    }
+    const THREAD: i32 = 3;
+    let mut time = Time { seconds: 0, nanoseconds: 0 };
+    // SAFETY: `time` has the layout of timespec on 64-bit Linux and is valid during the call.
+    assert_eq!(unsafe { clock_gettime(THREAD, &mut time) }, 0, "the thread has a clock");
+    time.seconds as u64 * 1_000_000_000 + time.nanoseconds as u64
+}
+
+/// The time of one call in nanoseconds, over as many calls as fill some milliseconds.
+fn once(call: &mut dyn FnMut()) -> f64 {
+    let begin = now();
+    let mut calls = 0_u32;
+    let mut batch = 1;
+    loop {
+        for _ in 0..batch {
+            call();
+        }
+        calls += batch;
+        let passed = now() - begin;
+        if passed >= 5_000_000 {
+            return passed as f64 / f64::from(calls);
+        }
+        batch *= 2;
+    }
+}
+
+/// The medians of a call by the proved library and by Rust, taken in turns.
+fn medians(repetitions: usize, mut call: impl FnMut(Calls)) -> (f64, f64) {
+    let mut times = (Vec::new(), Vec::new());
+    for _ in 0..repetitions {
+        times.0.push(once(&mut || call(PROVED)));
+        times.1.push(once(&mut || call(RUST)));
+    }
+    (median(times.0), median(times.1))
+}
+
+fn median(mut times: Vec<f64>) -> f64 {
+    times.sort_by(f64::total_cmp);
+    times[times.len() / 2]
+}
+
+fn row(call: &str, chart: &str, (proved, rust): (f64, f64)) {
+    let ratio = proved / rust;
+    println!("{call:<22} {chart:<28} {:>12.3} {:>12.3} {ratio:>8.2}", proved / 1_000.0, rust / 1_000.0);
+}
+
+fn heading(title: &str) {
+    println!("\n{title}");
+    println!("{:<22} {:<28} {:>12} {:>12} {:>8}", "call", "chart", "proved µs", "Rust µs", "ratio");
+}
+
+/// A chart of the shape that fits a board of 64 timers.
+fn fitting(shape: &Shape) -> Drawing {
+    let fits = |seed| {
+        let drawing = accepted(&mut Random::new(seed), shape);
+        let used = analysis::analyse(&drawing.file(), &mut [0; 256]).expect("the chart is accepted").used;
+        (used <= u64::from(K)).then_some(drawing)
+    };
+    (1..).find_map(fits).expect("some seed gives such a chart")
+}
+
+fn typical() -> Drawing {
+    fitting(&Shape {
+        locations: 40,
+        timers: 12,
+        transitions: 80,
+        starting: 50,
+        starts: (1, 3),
+        tests: (1, 3),
+        cycle: true,
+        lenient: true,
+        ..Shape::LARGEST
+    })
+}
+
+fn largest(transitions: u16) -> Drawing {
+    fitting(&Shape { locations: transitions / 2, transitions, cycle: true, lenient: true, ..Shape::LARGEST })
+}
+
+fn analyses(repetitions: usize, file: &[u8]) -> (f64, f64) {
+    let mut live = [0; 256];
+    medians(repetitions, |calls| {
+        black_box((calls.analyse)(black_box(file), black_box(&mut live)).expect("the chart is accepted"));
+    })
+}
+
+fn rewritings(repetitions: usize, file: &[u8]) -> (f64, f64) {
+    let mut out = vec![0; file.len()];
+    medians(repetitions, |calls| {
+        black_box((calls.rewrite)(black_box(file), black_box(K), black_box(&mut out)).expect("the chart fits"));
+    })
+}
+
+fn playings(repetitions: usize, file: &[u8], steps: &Steps) -> (f64, f64) {
+    let timers = Chart::read(file).expect("the chart is accepted").timers();
+    let counts = vec![7; usize::from(timers)];
+    medians(repetitions, |calls| {
+        let played = (calls.play)(black_box(file), &counts, black_box(&steps.transitions), black_box(&steps.times));
+        black_box(played.expect("the list is a run"));
+    })
+}
+
+/// Steps that the chart takes, mostly without a wait; as many as are asked for.
+fn steps_of(drawing: &Drawing, most: usize) -> Steps {
+    let mut steps = run(&mut Random::new(1), drawing, most, 0, false);
+    assert_eq!(steps.times.len(), most, "the chart's runs do not end");
+    for (index, time) in steps.times.iter_mut().enumerate() {
+        *time += index as u64 / 10;
+    }
+    steps
+}
+
+/// Both must answer alike, or a comparison of times says nothing.
+fn check(file: &[u8]) {
+    let (mut a, mut b) = ([0; 256], [0; 256]);
+    assert_eq!(library::analyse(file, &mut a), analysis::analyse(file, &mut b));
+    assert_eq!(a, b);
+    let (mut a, mut b) = (vec![0; file.len()], vec![0; file.len()]);
+    assert_eq!(library::rewrite(file, K, &mut a), rewriting::rewrite(file, K, &mut b));
+    assert_eq!(a, b);
+}
+
+fn describe(name: &str, drawing: &Drawing) {
+    let file = drawing.file();
+    let answer = analysis::analyse(&file, &mut [0; 256]).expect("the chart is accepted");
+    let tests: usize = drawing.transitions.iter().map(|transition| transition.tests.len()).sum();
+    println!(
+        "{name}: {} locations, {} transitions, {} timers, {tests} tests, {} bytes; used {}, floor {}",
+        drawing.locations,
+        drawing.transitions.len(),
+        drawing.timers,
+        file.len(),
+        answer.used,
+        answer.floor
+    );
+}
+
+fn main() {
+    let repetitions = std::env::args().nth(1).map_or(9, |word| word.parse().expect("a number of repetitions"));
+    println!("Medians of {repetitions} repetitions of some milliseconds each, the proved library and Rust in turns.");
+    println!("Both are optimised; processor time of one thread; buffers are not cleared between calls.");
+    println!("Ratio: the proved library's time by Rust's.");
+    println!();
+
+    let small = chart_a();
+    let charts = [
+        ("small (chart A)", small),
+        ("typical", typical()),
+        ("largest", largest(512)),
+        ("longest file", longest(&mut Random::new(1))),
+    ];
+    for (name, drawing) in &charts {
+        describe(name, drawing);
+    }
+    let many = many_numbers(16, 32);
+    describe("most numbers", &many);
+
+    heading("The calls, each from the file's bytes");
+    for (name, drawing) in &charts {
+        let file = drawing.file();
+        check(&file);
+        row("analysis", name, analyses(repetitions, &file));
+        row("rewriting", name, rewritings(repetitions, &file));
+        row("player, no steps", name, playings(repetitions, &file, &Steps::default()));
+    }
+    check(&many.file());
+    row("analysis", "most numbers", analyses(repetitions, &many.file()));
+    let mut steps = Steps::default();
+    for (transition, time) in [(0, 1), (1, 2), (2, 5), (4, 6), (6, 8)] {
+        steps.push(transition, time);
+    }
+    row("player, 5 steps", charts[0].0, playings(repetitions, &charts[0].1.file(), &steps));
+
+    heading("Growth: locations half the transitions, 64 timers, 8 tests where 10 allows");
+    let mut before: Option<[(f64, f64); 3]> = None;
+    for transitions in [64, 128, 256, 512] {
+        let drawing = largest(transitions);
+        let file = drawing.file();
+        check(&file);
+        let times = [
+            analyses(repetitions, &file),
+            rewritings(repetitions, &file),
+            playings(repetitions, &file, &Steps::default()),
+        ];
+        let chart = format!("{transitions} transitions");
+        for (index, call) in ["analysis", "rewriting", "player, no steps"].into_iter().enumerate() {
+            row(call, &chart, times[index]);
+            if let Some(before) = before {
+                let (proved, rust) = (times[index].0 / before[index].0, times[index].1 / before[index].1);
+                println!("{:<22} {:<28} {proved:>11.2}x {rust:>11.2}x", "", "  to half of it");
+            }
+        }
+        before = Some(times);
+    }
+
+    heading(&format!("The player on {LONG} steps; for a step: the time less that of no steps, by the steps"));
+    for (name, drawing) in &charts[1..3] {
+        let file = drawing.file();
+        let steps = steps_of(drawing, LONG);
+        let (proved, rust) = playings(repetitions, &file, &steps);
+        row("player, long list", name, (proved, rust));
+        let empty = playings(repetitions, &file, &Steps::default());
+        row("player, for a step", name, ((proved - empty.0) / LONG as f64, (rust - empty.1) / LONG as f64));
+    }
+}

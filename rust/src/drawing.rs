@@ -1,0 +1,181 @@
+//! Drawings: charts as plain data, put into files without being judged, so that files which must be refused can be made
+//! too. For tests and measurements.
+
+/// A chart as drawn. Nothing is known of its numbers.
+#[derive(Clone, Debug, Default, PartialEq, Eq)]
+pub struct Drawing {
+    pub locations: u16,
+    pub initial: u16,
+    pub timers: u8,
+    pub accepting: Vec<u16>,
+    pub transitions: Vec<Arrow>,
+}
+
+/// A transition as drawn.
+#[derive(Clone, Debug, Default, PartialEq, Eq)]
+pub struct Arrow {
+    pub source: u16,
+    pub target: u16,
+    pub event: u8,
+    pub starts: Vec<u8>,
+    /// Timer, comparison code, constant.
+    pub tests: Vec<(u8, u8, u16)>,
+}
+
+pub const AT_MOST: u8 = 0;
+pub const BELOW: u8 = 1;
+pub const AT_LEAST: u8 = 2;
+pub const ABOVE: u8 = 3;
+pub const EQUAL: u8 = 4;
+
+impl Arrow {
+    /// A transition with event 0, no starts and no tests.
+    pub fn new(source: u16, target: u16) -> Self {
+        Arrow { source, target, ..Arrow::default() }
+    }
+
+    pub fn starts(mut self, timers: &[u8]) -> Self {
+        self.starts = timers.to_vec();
+        self
+    }
+
+    pub fn tests(mut self, timer: u8, code: u8, constant: u16) -> Self {
+        self.tests.push((timer, code, constant));
+        self
+    }
+
+    /// The record's length without its first two bytes.
+    fn length(&self) -> u16 {
+        (7 + self.starts.len() + 4 * self.tests.len()) as u16
+    }
+
+    /// Whether the transition starts a timer.
+    pub fn is_start(&self, timer: u8) -> bool {
+        self.starts.contains(&timer)
+    }
+
+    /// Whether a test of the transition names a timer.
+    pub fn is_test(&self, timer: u8) -> bool {
+        self.tests.iter().any(|test| test.0 == timer)
+    }
+}
+
+impl Drawing {
+    /// A drawing whose location 0 is initial and whose last location accepts.
+    pub fn new(locations: u16, timers: u8, transitions: Vec<Arrow>) -> Self {
+        Drawing { locations, initial: 0, timers, accepting: vec![locations - 1], transitions }
+    }
+
+    /// The drawing's file. Numbers too wide for their field are cut.
+    pub fn file(&self) -> Vec<u8> {
+        self.file_with(|_, length| length)
+    }
+
+    /// The drawing's file, with the length of each record as `length` gives it from its number and its true length.
+    pub fn file_with(&self, length: impl Fn(usize, u16) -> u16) -> Vec<u8> {
+        let mut body = Vec::new();
+        body.extend(self.locations.to_be_bytes());
+        body.extend(self.initial.to_be_bytes());
+        body.push(self.timers);
+        body.extend((self.accepting.len() as u16).to_be_bytes());
+        for location in &self.accepting {
+            body.extend(location.to_be_bytes());
+        }
+        body.extend((self.transitions.len() as u16).to_be_bytes());
+        for (index, transition) in self.transitions.iter().enumerate() {
+            body.extend(length(index, transition.length()).to_be_bytes());
+            body.extend(transition.source.to_be_bytes());
+            body.extend(transition.target.to_be_bytes());
+            body.push(transition.event);
+            body.push(transition.starts.len() as u8);
+            body.extend(&transition.starts);
+            body.push(transition.tests.len() as u8);
+            for (timer, code, constant) in &transition.tests {
+                body.extend([*timer, *code]);
+                body.extend(constant.to_be_bytes());
+            }
+        }
+        enclosed(&body)
+    }
+}
+
+/// A file of version 1 with this body.
+pub fn enclosed(body: &[u8]) -> Vec<u8> {
+    let mut file = vec![1];
+    file.extend((body.len() as u32).to_be_bytes());
+    file.extend(body);
+    file
+}
+
+/// Chart A of document 01: used 3, floor 2.
+pub fn chart_a() -> Drawing {
+    Drawing::new(
+        7,
+        3,
+        vec![
+            Arrow::new(0, 1).starts(&[0]),
+            Arrow::new(1, 2).starts(&[1]),
+            Arrow::new(2, 3).tests(0, AT_LEAST, 3).starts(&[2]),
+            Arrow::new(2, 4).tests(1, AT_MOST, 7).starts(&[2]),
+            Arrow::new(3, 5).tests(1, BELOW, 9),
+            Arrow::new(4, 5).tests(0, EQUAL, 4),
+            Arrow::new(5, 6).tests(2, ABOVE, 2),
+        ],
+    )
+}
+
+/// Chart B of document 01: its second transition tests board timer 0 and starts it.
+pub fn chart_b() -> Drawing {
+    Drawing::new(
+        4,
+        2,
+        vec![
+            Arrow::new(0, 1).starts(&[0]),
+            Arrow::new(1, 2).tests(0, AT_MOST, 2).starts(&[1]),
+            Arrow::new(2, 3).tests(1, AT_LEAST, 1),
+        ],
+    )
+}
+
+/// Chart C of document 01: drawn timer 0 gets two board numbers.
+pub fn chart_c() -> Drawing {
+    Drawing::new(
+        6,
+        2,
+        vec![
+            Arrow::new(0, 1).starts(&[1]),
+            Arrow::new(1, 2).starts(&[0]),
+            Arrow::new(2, 3).tests(0, AT_LEAST, 1),
+            Arrow::new(3, 4).tests(1, AT_MOST, 9).starts(&[0]),
+            Arrow::new(4, 5).tests(0, AT_LEAST, 2),
+        ],
+    )
+}
+
+/// The chart of one location and nothing else, 14 bytes; no location accepts.
+pub fn one_location() -> Drawing {
+    Drawing { locations: 1, ..Drawing::default() }
+}
+
+/// One location with a transition to itself that starts timer 0, no tests: used 0.
+pub fn self_loop() -> Drawing {
+    Drawing::new(1, 1, vec![Arrow::new(0, 0).starts(&[0])])
+}
+
+/// Two locations, 0→0 starts 0; 0→1 tests 0 at least 0: refused 10, place 1.
+pub fn never_started() -> Drawing {
+    Drawing::new(2, 1, vec![Arrow::new(0, 0).starts(&[0]), Arrow::new(0, 1).tests(0, AT_LEAST, 0)])
+}
+
+/// Of the traps of document 01: timer 0 tested and started anew on 1→2, so that families 64 and 128 are apart.
+pub fn started_anew() -> Drawing {
+    Drawing::new(
+        4,
+        1,
+        vec![
+            Arrow::new(0, 1).starts(&[0]),
+            Arrow::new(1, 2).tests(0, AT_LEAST, 1).starts(&[0]),
+            Arrow::new(2, 3).tests(0, AT_LEAST, 1),
+        ],
+    )
+}

@@ -1,0 +1,498 @@
+//! Random charts, damaged files and step lists from a seed. For tests and measurements.
+
+use crate::drawing::{Arrow, Drawing, AT_LEAST, AT_MOST, BELOW};
+use crate::player::LATEST;
+
+/// A small generator of random numbers (SplitMix64).
+#[derive(Clone, Debug)]
+pub struct Random(u64);
+
+impl Random {
+    pub fn new(seed: u64) -> Self {
+        Random(seed)
+    }
+
+    pub fn word(&mut self) -> u64 {
+        self.0 = self.0.wrapping_add(0x9e37_79b9_7f4a_7c15);
+        let mut word = self.0;
+        word = (word ^ (word >> 30)).wrapping_mul(0xbf58_476d_1ce4_e5b9);
+        word = (word ^ (word >> 27)).wrapping_mul(0x94d0_49bb_1331_11eb);
+        word ^ (word >> 31)
+    }
+
+    /// A number below `bound`, which is not 0.
+    pub fn below(&mut self, bound: u64) -> u64 {
+        self.word() % bound
+    }
+
+    /// A number from `low` to `high`, both among them.
+    pub fn between(&mut self, low: u64, high: u64) -> u64 {
+        low + self.below(high - low + 1)
+    }
+
+    /// True `part` times out of `whole`.
+    pub fn chance(&mut self, part: u64, whole: u64) -> bool {
+        self.below(whole) < part
+    }
+
+    pub fn pick<T: Copy>(&mut self, choices: &[T]) -> T {
+        choices[self.below(choices.len() as u64) as usize]
+    }
+
+    pub fn shuffle<T>(&mut self, list: &mut [T]) {
+        for last in (1..list.len()).rev() {
+            list.swap(last, self.below(last as u64 + 1) as usize);
+        }
+    }
+
+    pub fn bytes(&mut self, count: usize) -> Vec<u8> {
+        (0..count).map(|_| self.word() as u8).collect()
+    }
+}
+
+/// What a random chart looks like.
+#[derive(Clone, Copy, Debug)]
+pub struct Shape {
+    pub locations: u16,
+    pub timers: u8,
+    /// At least the number of locations less one, so that each can be reached.
+    pub transitions: u16,
+    /// Of 100 transitions, how many start timers at all.
+    pub starting: u64,
+    /// The fewest and the most timers that such a transition starts, where there are as many.
+    pub starts: (u8, u8),
+    /// The fewest and the most tests of a transition, where enough timers are surely started.
+    pub tests: (u8, u8),
+    /// Whether the transitions that leave the initial location start all timers.
+    pub start_all: bool,
+    /// The most that a constant is, but for a few.
+    pub constant: u16,
+    /// Whether a cycle leads through all locations, so that no run comes to an end; takes one transition more.
+    pub cycle: bool,
+    /// Whether all tests are met for some 65,000 ticks.
+    pub lenient: bool,
+}
+
+impl Shape {
+    /// A random shape with at most so many locations.
+    pub fn random(random: &mut Random, most_locations: u16) -> Shape {
+        let locations = random.between(1, u64::from(most_locations)) as u16;
+        let spare = random.pick(&[0, 1, u64::from(locations), 2 * u64::from(locations)]);
+        let timers = match random.below(10) {
+            0 => 0,
+            1 | 2 => 64,
+            3 => random.between(1, 64),
+            _ => random.between(1, 8),
+        } as u8;
+        Shape {
+            locations,
+            timers,
+            transitions: (u64::from(locations) - 1 + spare).min(512) as u16,
+            starting: random.pick(&[10, 30, 60, 90]),
+            starts: random.pick(&[(1, 1), (1, 2), (1, 3), (1, 8), (1, 64), (50, 64)]),
+            tests: random.pick(&[(0, 1), (0, 1), (0, 2), (1, 3), (0, 8), (8, 8)]),
+            start_all: random.chance(1, 2),
+            constant: random.pick(&[0, 3, 10, 10, 1_000, 65_535]),
+            cycle: random.chance(1, 3),
+            lenient: random.chance(1, 4),
+        }
+    }
+
+    /// The largest chart: 256 locations, 512 transitions, 64 timers, 8 tests wherever they are surely started.
+    pub const LARGEST: Shape = Shape {
+        locations: 256,
+        timers: 64,
+        transitions: 512,
+        starting: 40,
+        starts: (1, 3),
+        tests: (8, 8),
+        start_all: true,
+        constant: 20,
+        cycle: false,
+        lenient: false,
+    };
+
+    /// Many timers live everywhere and most of them started anew everywhere: many small families, whose numbers often
+    /// exceed 64.
+    pub const SMALL_FAMILIES: Shape =
+        Shape { locations: 24, transitions: 300, starting: 100, starts: (54, 64), ..Shape::LARGEST };
+}
+
+/// A chart that passes 1 to 10: each location is reached, and each test reads a timer started on every path to it.
+pub fn accepted(random: &mut Random, shape: &Shape) -> Drawing {
+    let mut order: Vec<u16> = (0..shape.locations).collect();
+    random.shuffle(&mut order);
+    if random.chance(1, 2) {
+        let initial = order.iter().position(|&location| location == 0).unwrap_or(0);
+        order.swap(0, initial);
+    }
+    let mut transitions = Vec::new();
+    for index in 1..order.len() {
+        let near = shape.cycle || random.chance(1, 2);
+        let parent = if near { index - 1 } else { random.below(index as u64) as usize };
+        transitions.push(Arrow::new(order[parent], order[index]));
+    }
+    if shape.cycle && transitions.len() < usize::from(shape.transitions) {
+        transitions.push(Arrow::new(order[order.len() - 1], order[0]));
+    }
+    while transitions.len() < usize::from(shape.transitions) {
+        transitions.push(Arrow::new(random.pick(&order), random.pick(&order)));
+    }
+    random.shuffle(&mut transitions);
+    let mut drawing = Drawing {
+        locations: shape.locations,
+        initial: order[0],
+        timers: shape.timers,
+        accepting: (0..shape.locations).filter(|_| random.chance(1, 3)).collect(),
+        transitions,
+    };
+    for transition in &mut drawing.transitions {
+        transition.event = random.word() as u8;
+        if shape.start_all && transition.source == order[0] {
+            transition.starts = (0..shape.timers).collect();
+        } else if shape.timers > 0 && random.below(100) < shape.starting {
+            let (fewest, most) = (shape.starts.0.min(shape.timers), shape.starts.1.min(shape.timers));
+            let mut timers: Vec<u8> = (0..shape.timers).collect();
+            random.shuffle(&mut timers);
+            timers.truncate(random.between(u64::from(fewest), u64::from(most)) as usize);
+            timers.sort_unstable();
+            transition.starts = timers;
+        }
+    }
+    let started = surely_started(&drawing);
+    for transition in &mut drawing.transitions {
+        let usable: Vec<u8> =
+            (0..shape.timers).filter(|&timer| started[usize::from(transition.source)] >> timer & 1 == 1).collect();
+        if usable.is_empty() {
+            continue;
+        }
+        for _ in 0..random.between(u64::from(shape.tests.0), u64::from(shape.tests.1)) {
+            let most = if random.chance(1, 50) { 65_535 } else { u64::from(shape.constant) };
+            let constant = random.between(0, most) as u16;
+            let (code, constant) = if shape.lenient {
+                random.pick(&[(AT_LEAST, 0), (AT_MOST, 65_535), (BELOW, 65_535)])
+            } else {
+                (random.below(5) as u8, constant)
+            };
+            transition.tests.push((random.pick(&usable), code, constant));
+        }
+    }
+    drawing
+}
+
+/// Of each location the timers that every path to it starts, as a word.
+fn surely_started(drawing: &Drawing) -> Vec<u64> {
+    let mut started = vec![u64::MAX; usize::from(drawing.locations)];
+    started[usize::from(drawing.initial)] = 0;
+    loop {
+        let mut changed = false;
+        for transition in &drawing.transitions {
+            let starts = transition.starts.iter().fold(0, |word, &timer| word | 1 << timer);
+            let after = started[usize::from(transition.source)] | starts;
+            let target = &mut started[usize::from(transition.target)];
+            changed |= *target & !after != 0;
+            *target &= after;
+        }
+        if !changed {
+            return started;
+        }
+    }
+}
+
+/// A chart for which first fit hands out `levels` times `half` numbers, with 2 times `half` timers. At most 16 levels,
+/// `half` at most 32 and at most 8 times `levels` less 8.
+///
+/// The timers are two halves, A and B. Each level has a group of families of A and one of B. For any two different
+/// levels, a location has the A group of the one and the B group of the other, so that a group of level i meets groups
+/// that hold all numbers of the levels before it. A group's locations lie on a cycle that starts the other half only.
+pub fn many_numbers(levels: u16, half: u8) -> Drawing {
+    let mut pairs = Vec::new();
+    for level in 1..levels {
+        pairs.extend((0..level).map(|other| (level, other)));
+        pairs.extend((0..level).map(|other| (other, level)));
+    }
+    // Location 0 is initial; at 1 there is the B group of level 0 alone, so that it is the first of all.
+    let place = |index: usize| index as u16 + 2;
+    let all: Vec<u8> = (0..2 * half).collect();
+    let mut transitions = vec![Arrow::new(0, 1).starts(&all)];
+    transitions
+        .extend(pairs.iter().position(|&pair| pair == (0, 1)).map(|index| Arrow::new(0, place(index)).starts(&all)));
+    for level in 0..levels {
+        for is_a in [true, false] {
+            let group = |pair: &(u16, u16)| if is_a { pair.0 == level } else { pair.1 == level };
+            let mut cycle: Vec<u16> = (0..pairs.len()).filter(|&index| group(&pairs[index])).map(place).collect();
+            if level == 0 && !is_a {
+                cycle.insert(0, 1);
+            }
+            let (tested, started) = if is_a { all.split_at(usize::from(half)) } else { swapped(&all, half) };
+            let mut tests = tested.chunks(8);
+            for (index, &source) in cycle.iter().enumerate() {
+                let target = cycle[(index + 1) % cycle.len()];
+                let mut transition = Arrow::new(source, target).starts(started);
+                transition.tests = tests.next().unwrap_or(&[]).iter().map(|&timer| (timer, 2, 0)).collect();
+                transitions.push(transition);
+            }
+        }
+    }
+    Drawing::new(pairs.len() as u16 + 2, 2 * half, transitions)
+}
+
+/// The timers' second half, then the first.
+fn swapped(all: &[u8], half: u8) -> (&[u8], &[u8]) {
+    let (first, second) = all.split_at(usize::from(half));
+    (second, first)
+}
+
+/// A chart of five locations for which first fit hands out 65 numbers: the second family of timer 0 meets all others
+/// at location 3 and, at location 4, a family of timer `other` that holds number 0. `other` is 1 to 63.
+pub fn sixty_five_numbers(other: u8) -> Drawing {
+    let all: Vec<u8> = (0..64).collect();
+    let mut transitions = vec![
+        Arrow::new(0, 1).starts(&[other]),
+        Arrow::new(1, 4).starts(&[0]),
+        Arrow::new(0, 2).starts(&all),
+        Arrow::new(2, 3).tests(0, 2, 1).starts(&[0]),
+        Arrow::new(4, 0).tests(0, 2, 1).tests(other, 2, 1),
+    ];
+    for timers in all[1..].chunks(8) {
+        let mut transition = Arrow::new(3, 4).starts(&[other]);
+        transition.tests = timers.iter().map(|&timer| (timer, 2, 0)).collect();
+        transitions.push(transition);
+    }
+    Drawing::new(5, 64, transitions)
+}
+
+/// The longest file that passes 1 to 10, 54,254 bytes: all limits are reached, but the one transition that leaves the
+/// initial location has no tests.
+pub fn longest(random: &mut Random) -> Drawing {
+    let all: Vec<u8> = (0..64).collect();
+    let mut transitions: Vec<Arrow> = (0..255).map(|location| Arrow::new(location, location + 1)).collect();
+    while transitions.len() < 512 {
+        transitions.push(Arrow::new(random.between(1, 255) as u16, random.below(256) as u16));
+    }
+    for transition in &mut transitions {
+        transition.starts = all.clone();
+        if transition.source != 0 {
+            transition.tests = (0..8).map(|_| (random.below(64) as u8, AT_MOST, 65_535)).collect();
+        }
+    }
+    Drawing { locations: 256, initial: 0, timers: 64, accepting: (0..256).collect(), transitions }
+}
+
+/// A number of the chart spoilt, so that its file is refused by 4 to 10 or by 3, and perhaps by none; as a file.
+pub fn spoilt(random: &mut Random, drawing: &Drawing) -> Vec<u8> {
+    let mut drawing = drawing.clone();
+    if random.chance(1, 3) || drawing.transitions.is_empty() {
+        match random.below(8) {
+            0 => drawing.locations = random.pick(&[0, 257, 65_535]),
+            1 => drawing.locations = drawing.locations.saturating_add(1),
+            2 => drawing.initial = random.pick(&[drawing.locations, 256, 65_535]),
+            3 => drawing.timers = random.pick(&[65, 255, drawing.timers.saturating_sub(1)]),
+            4 => drawing.accepting.push(random.pick(&[0, drawing.locations, 65_535])),
+            5 => drawing.accepting.reverse(),
+            6 => drawing.transitions.resize(513, Arrow::new(0, 0)),
+            _ => drawing.transitions.clear(),
+        }
+        return drawing.file();
+    }
+    let index = random.below(drawing.transitions.len() as u64) as usize;
+    let transition = &mut drawing.transitions[index];
+    let mut length = (0, 0);
+    match random.below(13) {
+        0 => transition.source = random.pick(&[drawing.locations, drawing.locations + 1, 256, 65_535]),
+        1 => transition.target = random.pick(&[drawing.locations, drawing.locations + 1, 256, 65_535]),
+        2 => transition.starts.push(random.pick(&[drawing.timers, 63, 64, 255])),
+        3 => transition.starts.push(0),
+        4 => transition.starts.reverse(),
+        5 => transition.starts = (0..random.between(65, 80)).map(|timer| timer as u8).collect(),
+        6 => transition.tests.resize(random.between(9, 12) as usize, (0, 0, 0)),
+        7 => {
+            transition.tests.resize(9, (0, 0, 0));
+            length = (index + 1, random.between(0, 50) as u16);
+        }
+        8 => transition.tests.push((random.pick(&[drawing.timers, 64, 255]), 0, 0)),
+        9 => transition.tests.push((0, random.between(5, 255) as u8, 0)),
+        10 => length = (index + 1, random.pick(&[1, 4, 65_535])),
+        11 => transition.starts.clear(),
+        _ => {
+            // Two failures: the first field of them counts.
+            transition.tests.push((0, 9, 0));
+            let second = random.below(drawing.transitions.len() as u64) as usize;
+            drawing.transitions[second].target = drawing.locations;
+        }
+    }
+    drawing.file_with(
+        |record, true_length| {
+            if record + 1 == length.0 {
+                true_length.wrapping_add(length.1)
+            } else {
+                true_length
+            }
+        },
+    )
+}
+
+/// A file with bytes changed, cut off, put in or taken out; its length field is set right or left as it was.
+pub fn damaged(random: &mut Random, file: &[u8]) -> Vec<u8> {
+    let mut file = file.to_vec();
+    for _ in 0..random.pick(&[1, 1, 1, 2, 5]) {
+        let near = if random.chance(1, 2) { file.len().min(40) } else { file.len() };
+        let at = random.below(near as u64 + 1) as usize;
+        match random.below(6) {
+            0 if at < file.len() => file[at] = random.word() as u8,
+            1 if at < file.len() => file[at] ^= 1 << random.below(8),
+            2 if at < file.len() => file[at] = random.pick(&[0, 1, 4, 5, 8, 9, 64, 65, 255]),
+            3 => file.truncate(at),
+            4 => {
+                let count = random.between(1, 9) as usize;
+                let bytes = random.bytes(count);
+                file.splice(at..at, bytes);
+            }
+            _ if at < file.len() => drop(file.remove(at)),
+            _ => file.push(random.word() as u8),
+        }
+    }
+    if random.chance(3, 4) {
+        mend_length(&mut file);
+    }
+    file
+}
+
+/// Sets the length field of a file right.
+pub fn mend_length(file: &mut [u8]) {
+    if let Some(length) = file.len().checked_sub(5) {
+        file[1..5].copy_from_slice(&(length as u32).to_be_bytes());
+    }
+}
+
+/// A step list: transition numbers and times.
+#[derive(Clone, Debug, Default)]
+pub struct Steps {
+    pub transitions: Vec<u32>,
+    pub times: Vec<u64>,
+}
+
+impl Steps {
+    pub fn push(&mut self, transition: u32, time: u64) {
+        self.transitions.push(transition);
+        self.times.push(time);
+    }
+}
+
+/// Steps that a chart takes from the initial location, as far as they are found: at most `most`, with waits of at most
+/// `wait` ticks and, if `due`, often up to a constant of the tests.
+pub fn run(random: &mut Random, drawing: &Drawing, most: usize, wait: u64, due: bool) -> Steps {
+    let mut leaving = vec![Vec::new(); usize::from(drawing.locations)];
+    for (index, transition) in drawing.transitions.iter().enumerate() {
+        leaving[usize::from(transition.source)].push(index);
+    }
+    let mut steps = Steps::default();
+    let mut location = drawing.initial;
+    let mut now = 0;
+    // A timer is only tested once it was started, so starting counts do not matter.
+    let mut started = [0_u64; 64];
+    'steps: while steps.times.len() < most {
+        let choices = &leaving[usize::from(location)];
+        if choices.is_empty() {
+            break;
+        }
+        for _ in 0..60 {
+            let index = random.pick(choices);
+            let transition = &drawing.transitions[index];
+            let mut time = now + random.below(wait + 1);
+            if due && !transition.tests.is_empty() && random.chance(2, 3) {
+                let (timer, _, constant) = random.pick(&transition.tests);
+                let due = started[usize::from(timer)] + u64::from(constant) + random.below(2);
+                time = due.max(now);
+            }
+            let met = |&(timer, code, constant): &(u8, u8, u16)| {
+                let count = time - started[usize::from(timer)];
+                let constant = u64::from(constant);
+                match code {
+                    0 => count <= constant,
+                    1 => count < constant,
+                    2 => count >= constant,
+                    3 => count > constant,
+                    _ => count == constant,
+                }
+            };
+            if time <= u64::from(LATEST) && transition.tests.iter().all(met) {
+                for &timer in &transition.starts {
+                    started[usize::from(timer)] = time;
+                }
+                location = transition.target;
+                now = time;
+                steps.push(index as u32, time);
+                continue 'steps;
+            }
+        }
+        break;
+    }
+    steps
+}
+
+/// Lengthens the steps that a chart takes by one that leaves the last location, whether its tests are met or not.
+pub fn lengthen(random: &mut Random, drawing: &Drawing, steps: &mut Steps) {
+    let location = steps.transitions.last().map_or(drawing.initial, |&last| drawing.transitions[last as usize].target);
+    let leaving = |&index: &u32| drawing.transitions[index as usize].source == location;
+    let choices: Vec<u32> = (0..drawing.transitions.len() as u32).filter(leaving).collect();
+    if !choices.is_empty() {
+        let last = steps.times.last().copied().unwrap_or(0);
+        let late = u64::from(LATEST) + 1;
+        let time = random.pick(&[last, last, last + 1, last + 2, last + 5, last + 100, last.saturating_sub(1), late]);
+        steps.push(random.pick(&choices), time);
+    }
+}
+
+/// Spoils a step list, or lengthens it by a step that is likely to be refused.
+pub fn spoil_steps(random: &mut Random, steps: &mut Steps, transitions: u32) {
+    let any = random.below(u64::from(transitions.max(1))) as u32;
+    let count = steps.times.len() as u64;
+    let at = random.below(count + 1) as usize;
+    let last = steps.times.last().copied().unwrap_or(0);
+    match random.below(12) {
+        10 | 11 => {
+            // Often two failures at once.
+            let transition = random.pick(&[any, any, any, transitions]);
+            steps.push(transition, random.pick(&[0, last.saturating_sub(1), last, u64::from(LATEST) + 1]));
+        }
+        0 => steps.push(any, last + random.below(5)),
+        1 => steps.push(random.pick(&[transitions, transitions + 1, 65_536 + any, u32::MAX]), last),
+        2 => steps.push(any, random.pick(&[16_777_215, 16_777_216, 1 << 24 | last, 1 << 32 | last, u64::MAX])),
+        3 => drop(steps.times.pop()),
+        4 => steps.times.push(0),
+        _ if at == steps.times.len() => steps.push(any, last),
+        5 => steps.times[at] = steps.times[at].saturating_sub(random.between(1, 3)),
+        6 => steps.times[at] += random.between(1, 3),
+        7 => steps.transitions[at] = any,
+        8 => steps.transitions[at] = transitions,
+        _ => steps.times[at] = random.pick(&[16_777_215, 16_777_216]),
+    }
+}
+
+/// Starting counts; a few lists are too short, too long or hold a count that is too large.
+pub fn counts(random: &mut Random, timers: usize, good: bool) -> Vec<u32> {
+    let mut counts: Vec<u32> = (0..timers)
+        .map(|_| match random.below(4) {
+            0 => LATEST,
+            1 => random.below(20) as u32,
+            2 => 0,
+            _ => random.between(0, u64::from(LATEST)) as u32,
+        })
+        .collect();
+    if good {
+        return counts;
+    }
+    match random.below(4) {
+        0 => counts.push(random.pick(&[0, LATEST + 1])),
+        1 if timers > 0 => drop(counts.pop()),
+        _ if timers > 0 => {
+            for _ in 0..random.between(1, 3) {
+                let timer = random.below(timers as u64) as usize;
+                counts[timer] = random.pick(&[LATEST + 1, u32::MAX, 1 << 31]);
+            }
+        }
+        _ => {}
+    }
+    counts
+}

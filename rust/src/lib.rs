@@ -1,0 +1,36 @@
+//! Timing charts: timed automata counted in whole ticks, read from files, analysed, rewritten for a board with fewer
+//! timers, and played.
+//!
+//! The modules follow the parts of document 01 and share no code with the proved library:
+//!
+//! - [`chart`]: the chart, its reader (refusals 1 to 8) and its writer;
+//! - [`lists`]: the same reader and writer over lent lists;
+//! - [`analysis`]: reached, unstarted and live; families, their board numbers, used and floor;
+//! - [`rewriting`]: the chart's file for a board of K timers;
+//! - [`player`]: a step list, played on a file;
+//! - [`listing`]: the program's text from its whole input.
+//!
+//! Every entry point takes bytes and answers with a result or one [`Refusal`]; on a refusal lent memory is untouched.
+//!
+//! With the feature `library`, `library` calls the proved library with the same signatures. [`drawing`] and
+//! [`generator`] make files for tests and measurements.
+
+#![deny(unsafe_code)]
+
+pub mod analysis;
+pub mod chart;
+pub mod drawing;
+pub mod generator;
+pub mod listing;
+pub mod lists;
+pub mod player;
+mod refusal;
+pub mod rewriting;
+pub mod sets;
+
+#[cfg(feature = "library")]
+mod ffi;
+#[cfg(feature = "library")]
+pub mod library;
+
+pub use refusal::{Answer, Refusal, NOWHERE};

@@ -1,0 +1,171 @@
+//! The reader and the writer over lent lists, in the layout of docs/LISTS.md: five numbers and nine lists.
+
+use crate::chart::{limited, location, locations, timer, Chart, Comparison, Output};
+use crate::chart::{MOST_TESTS, MOST_TIMERS, MOST_TRANSITIONS};
+use crate::refusal::{Answer, Refusal, NOWHERE};
+use crate::sets::TimerSet;
+
+/// The chart's numbers, which travel beside its lists.
+#[derive(Clone, Copy, Debug, PartialEq, Eq)]
+pub struct Numbers {
+    pub locations: u16,
+    pub initial: u16,
+    pub timers: u8,
+    pub accepting: u16,
+    pub transitions: u16,
+}
+
+/// The nine lists of a chart, for the writer.
+#[derive(Clone, Copy, Debug)]
+pub struct Lists<'a> {
+    pub accepting: &'a [u16],
+    pub sources: &'a [u16],
+    pub targets: &'a [u16],
+    pub events: &'a [u8],
+    /// Of each transition the set of the timers that it starts: timer j is bit j.
+    pub starts: &'a [u64],
+    /// Of each transition the number of its tests; the tests of all transitions stand packed in the last three lists.
+    pub counts: &'a [u8],
+    pub timers: &'a [u8],
+    pub codes: &'a [u8],
+    pub constants: &'a [u16],
+}
+
+/// The nine lists, lent to the reader.
+#[derive(Debug)]
+pub struct LentLists<'a> {
+    pub accepting: &'a mut [u16],
+    pub sources: &'a mut [u16],
+    pub targets: &'a mut [u16],
+    pub events: &'a mut [u8],
+    pub starts: &'a mut [u64],
+    pub counts: &'a mut [u8],
+    pub timers: &'a mut [u8],
+    pub codes: &'a mut [u8],
+    pub constants: &'a mut [u16],
+}
+
+/// Reads a chart file into lent lists. Judges 1 to 8, then 21.
+pub fn read(file: &[u8], lent: &mut LentLists) -> Answer<Numbers> {
+    let chart = Chart::read(file)?;
+    let accepting = chart.accepting().count();
+    let transitions = chart.transitions().len();
+    let tests: usize = chart.transitions().iter().map(|transition| chart.tests(transition).len()).sum();
+    let per_transition =
+        [lent.sources.len(), lent.targets.len(), lent.events.len(), lent.starts.len(), lent.counts.len()];
+    let per_test = [lent.timers.len(), lent.codes.len(), lent.constants.len()];
+    if lent.accepting.len() < usize::from(accepting)
+        || per_transition.iter().any(|&length| length < transitions)
+        || per_test.iter().any(|&length| length < tests)
+    {
+        return Err(Refusal::nowhere(21));
+    }
+    for (entry, location) in lent.accepting.iter_mut().zip(chart.accepting().iter()) {
+        *entry = u16::from(location);
+    }
+    let mut next = 0;
+    for (index, transition) in chart.transitions().iter().enumerate() {
+        let tests = chart.tests(transition);
+        lent.sources[index] = u16::from(transition.source);
+        lent.targets[index] = u16::from(transition.target);
+        lent.events[index] = transition.event;
+        lent.starts[index] = transition.starts.word();
+        lent.counts[index] = tests.len() as u8;
+        for test in tests {
+            lent.timers[next] = test.timer;
+            lent.codes[next] = test.comparison as u8;
+            lent.constants[next] = test.constant;
+            next += 1;
+        }
+    }
+    Ok(Numbers {
+        locations: chart.locations(),
+        initial: u16::from(chart.initial()),
+        timers: chart.timers(),
+        accepting,
+        transitions: transitions as u16,
+    })
+}
+
+/// The entry of a list that is due next (3 where the list has ended).
+#[inline]
+fn due<T: Copy>(list: &[T], index: usize) -> Answer<T> {
+    list.get(index).copied().ok_or(Refusal::nowhere(3))
+}
+
+/// Judges the lists in the order of the file's fields, 3 to 8, and returns the length of the file.
+fn judge(numbers: &Numbers, lists: &Lists) -> Answer<usize> {
+    let locations = locations(numbers.locations)?;
+    location(numbers.initial, locations, NOWHERE)?;
+    let timers = limited(numbers.timers, MOST_TIMERS, NOWHERE)?;
+    let mut lowest = 0;
+    for index in 0..usize::from(numbers.accepting) {
+        let accepting = u16::from(location(due(lists.accepting, index)?, locations, NOWHERE)?);
+        if accepting < lowest {
+            return Err(Refusal::nowhere(7));
+        }
+        lowest = accepting + 1;
+    }
+    limited(numbers.transitions, MOST_TRANSITIONS, NOWHERE)?;
+    let mut length = 14 + 2 * usize::from(numbers.accepting);
+    let mut next = 0;
+    for index in 0..usize::from(numbers.transitions) {
+        let place = index as u64;
+        location(due(lists.sources, index)?, locations, place)?;
+        location(due(lists.targets, index)?, locations, place)?;
+        due(lists.events, index)?;
+        let starts = TimerSet::from_word(due(lists.starts, index)?);
+        if !starts.minus(TimerSet::below(timers)).is_empty() {
+            return Err(Refusal::at(6, place));
+        }
+        let count = limited(due(lists.counts, index)?, MOST_TESTS, place)?;
+        for test in next..next + usize::from(count) {
+            timer(due(lists.timers, test)?, timers, place)?;
+            Comparison::from_code(due(lists.codes, test)?).ok_or(Refusal::at(8, place))?;
+            due(lists.constants, test)?;
+        }
+        next += usize::from(count);
+        length += 9 + starts.len() as usize + 4 * usize::from(count);
+    }
+    Ok(length)
+}
+
+/// Writes a chart's lists as a file to the front of `out` and returns its length. Judges 3 to 8 in the order of the
+/// file's fields, then 21, all before the first byte is written.
+pub fn write(numbers: &Numbers, lists: &Lists, out: &mut [u8]) -> Answer<usize> {
+    let length = judge(numbers, lists)?;
+    let Some(file) = out.get_mut(..length) else {
+        return Err(Refusal::nowhere(21));
+    };
+    let mut output = Output::new(file);
+    output.put([1]);
+    output.put(((length - 5) as u32).to_be_bytes());
+    output.put(numbers.locations.to_be_bytes());
+    output.put(numbers.initial.to_be_bytes());
+    output.put([numbers.timers]);
+    output.put(numbers.accepting.to_be_bytes());
+    for accepting in &lists.accepting[..usize::from(numbers.accepting)] {
+        output.put(accepting.to_be_bytes());
+    }
+    output.put(numbers.transitions.to_be_bytes());
+    let mut next = 0;
+    for index in 0..usize::from(numbers.transitions) {
+        let starts = TimerSet::from_word(lists.starts[index]);
+        let count = lists.counts[index];
+        let record = 7 + starts.len() as u16 + 4 * u16::from(count);
+        output.put(record.to_be_bytes());
+        output.put(lists.sources[index].to_be_bytes());
+        output.put(lists.targets[index].to_be_bytes());
+        output.put([lists.events[index], starts.len() as u8]);
+        for start in starts {
+            output.put([start]);
+        }
+        output.put([count]);
+        for test in next..next + usize::from(count) {
+            output.put([lists.timers[test], lists.codes[test]]);
+            output.put(lists.constants[test].to_be_bytes());
+        }
+        next += usize::from(count);
+    }
+    Ok(length)
+}

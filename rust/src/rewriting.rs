@@ -1,0 +1,92 @@
+//! The rewriting of a chart for a board of K timers.
+
+use crate::analysis::{judge, used, Families, Liveness};
+use crate::chart::{Chart, Transition, MOST_TIMERS};
+use crate::refusal::{Answer, Refusal};
+use crate::sets::TimerSet;
+
+/// What the rewriting returns beside the file.
+#[derive(Clone, Copy, Debug, PartialEq, Eq)]
+pub struct Rewriting {
+    /// The number of timers of the rewritten chart.
+    pub used: u64,
+    /// The number of bytes of its file.
+    pub length: u64,
+}
+
+/// A chart with its live sets and the board number of each pair of a location and a live timer.
+pub struct Plan {
+    chart: Chart,
+    liveness: Liveness,
+    used: u8,
+    /// At 64 times the location plus the timer; 0 where the timer is not live.
+    numbers: Vec<u8>,
+}
+
+impl Plan {
+    /// Reads a chart file and allots the numbers of a board of `k` timers. Judges 1 to 11 and 20.
+    pub fn of(file: &[u8], k: u32) -> Answer<Plan> {
+        let chart = Chart::read(file)?;
+        let graph = judge(&chart)?;
+        if k > u32::from(MOST_TIMERS) {
+            return Err(Refusal::nowhere(11));
+        }
+        let liveness = Liveness::of(&chart, graph);
+        let families = Families::of(&chart, &liveness);
+        let given = families.first_fit(k as usize).ok_or(Refusal::nowhere(20))?;
+        let mut numbers = vec![0; 64 * usize::from(chart.locations())];
+        for (family, &number) in families.list().iter().zip(&given) {
+            family.locations.iter().for_each(|location| {
+                numbers[64 * usize::from(location) + usize::from(family.timer)] = number as u8;
+            });
+        }
+        Ok(Plan { chart, liveness, used: used(&given) as u8, numbers })
+    }
+
+    /// One more than the largest number given: at most 64.
+    pub fn used(&self) -> u8 {
+        self.used
+    }
+
+    /// The size of the fullest live set.
+    pub fn floor(&self) -> u32 {
+        self.liveness.floor()
+    }
+
+    /// The live set of each location of the chart.
+    pub fn live(&self) -> &[TimerSet] {
+        self.liveness.sets()
+    }
+
+    /// The board number of the family of a timer that is live at the location.
+    #[inline]
+    pub fn number(&self, location: u8, timer: u8) -> u8 {
+        self.numbers[64 * usize::from(location) + usize::from(timer)]
+    }
+
+    /// Writes the rewritten chart's file to the front of `out` and returns its length. Judges 21.
+    ///
+    /// A test reads the number at the transition's source. Of the starts only those live at the target remain, under
+    /// their number there; they form a set, so they stand rising and each once.
+    fn write(&self, out: &mut [u8]) -> Answer<usize> {
+        let born = |transition: &Transition| transition.starts.common(self.live()[usize::from(transition.target)]);
+        let length = self.chart.file_length_with(|transition| born(transition).len());
+        let Some(file) = out.get_mut(..length) else {
+            return Err(Refusal::nowhere(21));
+        };
+        self.chart.write_with(
+            file,
+            self.used,
+            |transition| born(transition).into_iter().map(|timer| self.number(transition.target, timer)).collect(),
+            |transition, timer| self.number(transition.source, timer),
+        );
+        Ok(length)
+    }
+}
+
+/// Rewrites a chart file for a board of `k` timers, to the front of `out`. Judges 1 to 11, 20 and 21.
+pub fn rewrite(file: &[u8], k: u32, out: &mut [u8]) -> Answer<Rewriting> {
+    let plan = Plan::of(file, k)?;
+    let length = plan.write(out)?;
+    Ok(Rewriting { used: u64::from(plan.used()), length: length as u64 })
+}

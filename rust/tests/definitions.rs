@@ -1,0 +1,439 @@
+//! The crate held to a second implementation that spells out the definitions of document 01 one by one, on random
+//! charts.
+
+use std::collections::BTreeSet;
+
+use timing_chart::analysis::{analyse, Analysis};
+use timing_chart::chart::Chart;
+use timing_chart::drawing::{chart_a, chart_b, chart_c, Arrow, Drawing};
+use timing_chart::generator::*;
+use timing_chart::lists::{self, LentLists, Lists, Numbers};
+use timing_chart::player::{play, Playing};
+use timing_chart::rewriting::{rewrite, Rewriting};
+use timing_chart::{Answer, Refusal};
+
+/// The locations that paths from `from` reach by transitions that pass, the empty path among them.
+fn reached(drawing: &Drawing, from: u16, passes: impl Fn(&Arrow) -> bool) -> BTreeSet<u16> {
+    let mut found = BTreeSet::from([from]);
+    let mut latest = vec![from];
+    while let Some(location) = latest.pop() {
+        for transition in &drawing.transitions {
+            if transition.source == location && passes(transition) && found.insert(transition.target) {
+                latest.push(transition.target);
+            }
+        }
+    }
+    found
+}
+
+fn judged(drawing: &Drawing) -> Answer<()> {
+    let all = reached(drawing, drawing.initial, |_| true);
+    if let Some(place) = (0..drawing.locations).find(|location| !all.contains(location)) {
+        return Err(Refusal { number: 9, place: u64::from(place) });
+    }
+    let unstarted = |transition: &Arrow| {
+        transition.tests.iter().any(|&(timer, _, _)| {
+            reached(drawing, drawing.initial, |other| !other.is_start(timer)).contains(&transition.source)
+        })
+    };
+    match drawing.transitions.iter().position(unstarted) {
+        Some(place) => Err(Refusal { number: 10, place: place as u64 }),
+        None => Ok(()),
+    }
+}
+
+fn is_live(drawing: &Drawing, location: u16, timer: u8) -> bool {
+    let quiet = reached(drawing, location, |transition| !transition.is_start(timer));
+    drawing.transitions.iter().any(|transition| quiet.contains(&transition.source) && transition.is_test(timer))
+}
+
+/// A pair of a location and a timer, ordered as 64 times the location plus the timer.
+type Pair = (u16, u8);
+
+struct Planned {
+    pairs: BTreeSet<Pair>,
+    /// Each family with its board number.
+    families: Vec<(BTreeSet<Pair>, usize)>,
+}
+
+impl Planned {
+    fn of(drawing: &Drawing) -> Self {
+        let mut pairs = BTreeSet::new();
+        for location in 0..drawing.locations {
+            pairs.extend((0..drawing.timers).filter(|&j| is_live(drawing, location, j)).map(|j| (location, j)));
+        }
+        let mut left = pairs.clone();
+        let mut families: Vec<(BTreeSet<Pair>, usize)> = Vec::new();
+        while let Some(first) = left.pop_first() {
+            let mut family = BTreeSet::from([first]);
+            let mut latest = vec![first];
+            while let Some((location, timer)) = latest.pop() {
+                for transition in drawing.transitions.iter().filter(|transition| !transition.is_start(timer)) {
+                    for (near, far) in [(transition.source, transition.target), (transition.target, transition.source)]
+                    {
+                        if near == location && left.remove(&(far, timer)) {
+                            family.insert((far, timer));
+                            latest.push((far, timer));
+                        }
+                    }
+                }
+            }
+            let meets = |other: &BTreeSet<Pair>| other.iter().any(|a| family.iter().any(|b| a.0 == b.0));
+            let held: BTreeSet<usize> = families.iter().filter(|other| meets(&other.0)).map(|other| other.1).collect();
+            let number = (0..).find(|number| !held.contains(number)).unwrap();
+            families.push((family, number));
+        }
+        Planned { pairs, families }
+    }
+
+    fn used(&self) -> usize {
+        self.families.iter().map(|family| family.1 + 1).max().unwrap_or(0)
+    }
+
+    fn number(&self, location: u16, timer: u8) -> u8 {
+        let family = self.families.iter().find(|family| family.0.contains(&(location, timer)));
+        family.expect("the timer is live there").1 as u8
+    }
+
+    fn live_sets(&self, drawing: &Drawing) -> Vec<u64> {
+        let set =
+            |location| self.pairs.iter().filter(|pair| pair.0 == location).fold(0, |word, pair| word | 1 << pair.1);
+        (0..drawing.locations).map(set).collect()
+    }
+
+    fn rewritten(&self, drawing: &Drawing) -> Drawing {
+        let mut result = drawing.clone();
+        result.timers = self.used() as u8;
+        for transition in &mut result.transitions {
+            for test in &mut transition.tests {
+                test.0 = self.number(transition.source, test.0);
+            }
+            let born = transition.starts.iter().filter(|&&timer| self.pairs.contains(&(transition.target, timer)));
+            let numbers: BTreeSet<u8> = born.map(|&timer| self.number(transition.target, timer)).collect();
+            transition.starts = numbers.into_iter().collect();
+        }
+        result
+    }
+}
+
+fn played(drawing: &Drawing, counts: &[u32], steps: &Steps) -> Answer<Playing> {
+    if counts.len() != usize::from(drawing.timers) {
+        return Err(Refusal { number: 12, place: 65_535 });
+    }
+    if let Some(place) = counts.iter().position(|&count| count > 16_777_215) {
+        return Err(Refusal { number: 12, place: place as u64 });
+    }
+    if steps.transitions.len() != steps.times.len() {
+        return Err(Refusal { number: 13, place: 65_535 });
+    }
+    let mut counts: Vec<u64> = counts.iter().map(|&count| u64::from(count)).collect();
+    let (mut location, mut now) = (drawing.initial, 0);
+    for (step, (&transition, &time)) in steps.transitions.iter().zip(&steps.times).enumerate() {
+        let refused = |number| Err(Refusal { number, place: step as u64 });
+        if transition as usize >= drawing.transitions.len() {
+            return refused(14);
+        }
+        let transition = &drawing.transitions[transition as usize];
+        if time > 16_777_215 {
+            return refused(15);
+        }
+        if transition.source != location {
+            return refused(22);
+        }
+        if time < now {
+            return refused(23);
+        }
+        for count in &mut counts {
+            *count += time - now;
+        }
+        for &(timer, code, constant) in &transition.tests {
+            let (count, constant) = (counts[usize::from(timer)], u64::from(constant));
+            let met = [count <= constant, count < constant, count >= constant, count > constant, count == constant];
+            if !met[usize::from(code)] {
+                return refused(24);
+            }
+        }
+        for &timer in &transition.starts {
+            counts[usize::from(timer)] = 0;
+        }
+        (location, now) = (transition.target, time);
+    }
+    Ok(Playing { location: u64::from(location), time: now, accepting: drawing.accepting.contains(&location) })
+}
+
+/// Random charts, most of them accepted, some with a test or a transition too many or too few.
+fn drawings(random: &mut Random, count: usize, most_locations: u16) -> impl Iterator<Item = Drawing> + '_ {
+    (0..count).map(move |_| {
+        let shape = Shape::random(random, most_locations);
+        let mut drawing = accepted(random, &shape);
+        let transitions = drawing.transitions.len() as u64;
+        if transitions > 0 && random.chance(1, 4) {
+            let transition = random.below(transitions) as usize;
+            match random.below(3) {
+                0 => drop(drawing.transitions.remove(transition)),
+                1 => drawing.transitions[transition].starts.clear(),
+                _ if drawing.timers > 0 => {
+                    let timer = random.below(u64::from(drawing.timers)) as u8;
+                    let transition = &mut drawing.transitions[transition];
+                    transition.tests.truncate(7);
+                    transition.tests.push((timer, 2, 0));
+                }
+                _ => {}
+            }
+        }
+        drawing
+    })
+}
+
+fn check_analysis_and_rewriting(random: &mut Random, drawing: &Drawing) -> Option<Drawing> {
+    let file = drawing.file();
+    let mut live = vec![5; usize::from(drawing.locations) + 2];
+    let mut out = vec![6; file.len() + 3];
+    if let Err(refusal) = judged(drawing) {
+        assert_eq!(analyse(&file, &mut live), Err(refusal));
+        assert_eq!(rewrite(&file, 99, &mut out), Err(refusal));
+        assert_eq!(play(&file, &[], &[], &[0]), Err(refusal));
+        assert!(live.iter().all(|&word| word == 5) && out.iter().all(|&byte| byte == 6));
+        return None;
+    }
+    let planned = Planned::of(drawing);
+    let mut sets = planned.live_sets(drawing);
+    let floor = sets.iter().map(|set| u64::from(set.count_ones())).max().unwrap();
+    let used = planned.used();
+    assert_eq!(analyse(&file, &mut live), Ok(Analysis { used: used as u64, floor }));
+    sets.extend([5, 5]);
+    assert_eq!(live, sets);
+    let k = random.below(65) as u32;
+    if used > k as usize {
+        assert_eq!(rewrite(&file, k, &mut out), Err(Refusal { number: 20, place: 65_535 }));
+    }
+    if used > 64 {
+        return None;
+    }
+    let board = planned.rewritten(drawing);
+    let mut expected = board.file();
+    let answer = Rewriting { used: used as u64, length: expected.len() as u64 };
+    assert_eq!(rewrite(&file, used as u32, &mut out), Ok(answer));
+    expected.resize(out.len(), 6);
+    assert_eq!(out, expected);
+    Some(board)
+}
+
+#[test]
+fn analysis_and_rewriting_follow_the_definitions() {
+    let mut random = Random::new(1);
+    let mut drawings: Vec<Drawing> = drawings(&mut random, 2_500, 14).collect();
+    drawings.extend([chart_a(), chart_b(), chart_c(), many_numbers(3, 16), many_numbers(5, 16), sixty_five_numbers(1)]);
+    let boards = drawings.iter().filter_map(|drawing| check_analysis_and_rewriting(&mut random, drawing)).count();
+    assert!(boards > 1_000, "{boards}");
+}
+
+#[test]
+fn dense_charts_follow_the_definitions() {
+    let mut random = Random::new(2);
+    for _ in 0..40 {
+        let shape = Shape { locations: 24, transitions: 60, ..Shape::LARGEST };
+        let drawing = accepted(&mut random, &shape);
+        check_analysis_and_rewriting(&mut random, &drawing);
+    }
+}
+
+#[test]
+fn the_player_follows_the_definitions_and_boards_play_alike() {
+    let mut random = Random::new(3);
+    let drawings: Vec<Drawing> = drawings(&mut random, 2_000, 10).filter(|drawing| judged(drawing).is_ok()).collect();
+    let mut taken = 0;
+    for drawing in &drawings {
+        let planned = Planned::of(drawing);
+        for _ in 0..4 {
+            let mut steps = run(&mut random, drawing, 30, 5, true);
+            if random.chance(2, 3) {
+                spoil_steps(&mut random, &mut steps, drawing.transitions.len() as u32);
+            }
+            let is_good = random.chance(7, 8);
+            let start = counts(&mut random, usize::from(drawing.timers), is_good);
+            let answer = play(&drawing.file(), &start, &steps.transitions, &steps.times);
+            assert_eq!(answer, played(drawing, &start, &steps));
+            taken += u64::from(answer.is_ok_and(|playing| playing.time > 0));
+            if planned.used() <= 64 && answer.err().map(|refusal| refusal.number) != Some(12) {
+                let board = planned.rewritten(drawing);
+                let start = counts(&mut random, planned.used(), true);
+                assert_eq!(play(&board.file(), &start, &steps.transitions, &steps.times), answer);
+            }
+        }
+    }
+    assert!(taken > 500, "{taken}");
+}
+
+#[test]
+fn files_survive_reading_and_writing() {
+    let mut random = Random::new(4);
+    for _ in 0..2_000 {
+        let shape = Shape::random(&mut random, 40);
+        let drawing = accepted(&mut random, &shape);
+        let good = drawing.file();
+        for file in [good.clone(), spoilt(&mut random, &drawing), damaged(&mut random, &good)] {
+            let Ok(chart) = Chart::read(&file) else {
+                continue;
+            };
+            let mut out = vec![3; file.len() + 1];
+            assert_eq!(chart.write(&mut out[..file.len() - 1]), Err(Refusal { number: 21, place: 65_535 }));
+            assert!(out.iter().all(|&byte| byte == 3));
+            assert_eq!(chart.write(&mut out), Ok(file.len()));
+            assert_eq!(out.pop(), Some(3));
+            assert_eq!(out, file);
+        }
+    }
+}
+
+/// Nine lists of full length.
+struct Owned {
+    accepting: Vec<u16>,
+    sources: Vec<u16>,
+    targets: Vec<u16>,
+    events: Vec<u8>,
+    starts: Vec<u64>,
+    counts: Vec<u8>,
+    timers: Vec<u8>,
+    codes: Vec<u8>,
+    constants: Vec<u16>,
+}
+
+impl Owned {
+    fn new() -> Self {
+        Owned {
+            accepting: vec![9; 256],
+            sources: vec![9; 512],
+            targets: vec![9; 512],
+            events: vec![9; 512],
+            starts: vec![9; 512],
+            counts: vec![9; 512],
+            timers: vec![9; 4_096],
+            codes: vec![9; 4_096],
+            constants: vec![9; 4_096],
+        }
+    }
+
+    fn lent(&mut self) -> LentLists<'_> {
+        LentLists {
+            accepting: &mut self.accepting,
+            sources: &mut self.sources,
+            targets: &mut self.targets,
+            events: &mut self.events,
+            starts: &mut self.starts,
+            counts: &mut self.counts,
+            timers: &mut self.timers,
+            codes: &mut self.codes,
+            constants: &mut self.constants,
+        }
+    }
+
+    fn lists(&self) -> Lists<'_> {
+        Lists {
+            accepting: &self.accepting,
+            sources: &self.sources,
+            targets: &self.targets,
+            events: &self.events,
+            starts: &self.starts,
+            counts: &self.counts,
+            timers: &self.timers,
+            codes: &self.codes,
+            constants: &self.constants,
+        }
+    }
+}
+
+#[test]
+fn charts_survive_lists() {
+    let mut random = Random::new(5);
+    for _ in 0..500 {
+        let shape = Shape::random(&mut random, 40);
+        let file = accepted(&mut random, &shape).file();
+        let mut owned = Owned::new();
+        let numbers = lists::read(&file, &mut owned.lent()).unwrap();
+        let mut out = vec![7; file.len() + 1];
+        assert_eq!(lists::write(&numbers, &owned.lists(), &mut out[1..]), Ok(file.len()));
+        assert_eq!(out[1..], file);
+        let short = file.len() - 1;
+        assert_eq!(
+            lists::write(&numbers, &owned.lists(), &mut out[..short]),
+            Err(Refusal { number: 21, place: 65_535 })
+        );
+    }
+}
+
+#[test]
+fn lists_are_judged_in_the_order_of_the_fields() {
+    let file = chart_b().file();
+    let mut owned = Owned::new();
+    let numbers = lists::read(&file, &mut owned.lent()).unwrap();
+    assert_eq!(numbers, Numbers { locations: 4, initial: 0, timers: 2, accepting: 1, transitions: 3 });
+    assert_eq!(owned.counts[..4], [0, 1, 1, 9]);
+    assert_eq!(owned.starts[..4], [1, 2, 0, 9]);
+    let lists = owned.lists();
+    let refused = |number, place| Err(Refusal { number, place });
+    let mut out = [8; 100];
+    let mut write = |numbers: Numbers, lists: Lists| {
+        let answer = lists::write(&numbers, &lists, &mut out);
+        if answer.is_err() {
+            assert_eq!(out, [8; 100]);
+        }
+        out = [8; 100];
+        answer.map(|_| ())
+    };
+    assert_eq!(write(numbers, lists), Ok(()));
+    let nowhere = 65_535;
+    assert_eq!(write(Numbers { locations: 0, initial: 9, ..numbers }, lists), refused(4, nowhere));
+    assert_eq!(write(Numbers { locations: 257, ..numbers }, lists), refused(4, nowhere));
+    assert_eq!(write(Numbers { initial: 4, timers: 99, ..numbers }, lists), refused(5, nowhere));
+    assert_eq!(write(Numbers { timers: 65, ..numbers }, lists), refused(4, nowhere));
+    assert_eq!(write(numbers, Lists { accepting: &[], ..lists }), refused(3, nowhere));
+    assert_eq!(write(numbers, Lists { accepting: &[4], ..lists }), refused(5, nowhere));
+    assert_eq!(write(Numbers { accepting: 2, ..numbers }, Lists { accepting: &[1, 1], ..lists }), refused(7, nowhere));
+    assert_eq!(
+        write(Numbers { accepting: 65_535, ..numbers }, Lists { accepting: &[1, 2], ..lists }),
+        refused(3, nowhere)
+    );
+    assert_eq!(write(Numbers { transitions: 513, ..numbers }, Lists { sources: &[], ..lists }), refused(4, nowhere));
+    assert_eq!(write(numbers, Lists { sources: &[0, 1], ..lists }), refused(3, nowhere));
+    assert_eq!(write(numbers, Lists { sources: &[0, 9], ..lists }), refused(5, 1));
+    assert_eq!(write(numbers, Lists { sources: &[0], targets: &[9], ..lists }), refused(5, 0));
+    assert_eq!(write(numbers, Lists { targets: &[1], ..lists }), refused(3, nowhere));
+    assert_eq!(write(numbers, Lists { events: &[1], ..lists }), refused(3, nowhere));
+    assert_eq!(write(numbers, Lists { starts: &[1], ..lists }), refused(3, nowhere));
+    assert_eq!(write(numbers, Lists { starts: &[1, 1 << 63, 0], ..lists }), refused(6, 1));
+    assert_eq!(write(numbers, Lists { starts: &[1, 4, 0], counts: &[9], ..lists }), refused(4, 0));
+    assert_eq!(write(numbers, Lists { counts: &[0, 9], ..lists }), refused(4, 1));
+    assert_eq!(write(numbers, Lists { counts: &[0, 1], ..lists }), refused(3, nowhere));
+    assert_eq!(write(numbers, Lists { timers: &[0], ..lists }), refused(3, nowhere));
+    assert_eq!(write(numbers, Lists { timers: &[2], codes: &[], ..lists }), refused(6, 1));
+    assert_eq!(write(numbers, Lists { codes: &[0, 5], constants: &[0], ..lists }), refused(8, 2));
+    assert_eq!(write(numbers, Lists { codes: &[0], ..lists }), refused(3, nowhere));
+    assert_eq!(write(numbers, Lists { constants: &[0], ..lists }), refused(3, nowhere));
+}
+
+#[test]
+fn lent_lists_too_short_are_21_and_stay_as_they_were() {
+    let file = chart_b().file();
+    let mut owned = Owned::new();
+    type Shorten = fn(&mut LentLists);
+    let shortened: [Shorten; 9] = [
+        |lent| lent.accepting = &mut [],
+        |lent| lent.sources = &mut [],
+        |lent| lent.targets = &mut [],
+        |lent| lent.events = &mut [],
+        |lent| lent.starts = &mut [],
+        |lent| lent.counts = &mut [],
+        |lent| lent.timers = &mut [],
+        |lent| lent.codes = &mut [],
+        |lent| lent.constants = &mut [],
+    ];
+    for shorten in shortened {
+        let mut lent = owned.lent();
+        shorten(&mut lent);
+        assert_eq!(lists::read(&file, &mut lent), Err(Refusal { number: 21, place: 65_535 }));
+        assert!(owned.sources.iter().chain(&owned.constants).all(|&entry| entry == 9));
+        assert!(owned.starts.iter().all(|&entry| entry == 9) && owned.counts.iter().all(|&entry| entry == 9));
+    }
+    assert_eq!(lists::read(&file[..9], &mut owned.lent()), Err(Refusal { number: 1, place: 65_535 }));
+}

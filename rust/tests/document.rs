@@ -1,0 +1,574 @@
+//! The cases of document 01: its charts, places, orders and traps.
+
+use timing_chart::analysis::{self, analyse, Analysis};
+use timing_chart::chart::{Chart, Comparison};
+use timing_chart::drawing::*;
+use timing_chart::generator::{longest, many_numbers, sixty_five_numbers, Random};
+use timing_chart::listing::listing;
+use timing_chart::player::{play, Playing};
+use timing_chart::rewriting::{rewrite, Rewriting};
+use timing_chart::{Answer, Refusal, NOWHERE};
+
+fn refused<T>(number: u64, place: u64) -> Answer<T> {
+    Err(Refusal { number, place })
+}
+
+fn live_of(file: &[u8]) -> (Vec<Vec<u8>>, Analysis) {
+    let mut live = [u64::MAX; 256];
+    let answer = analyse(file, &mut live).unwrap();
+    let locations = usize::from(Chart::read(file).unwrap().locations());
+    assert!(live[locations..].iter().all(|&word| word == u64::MAX));
+    let sets = live[..locations].iter().map(|word| (0..64).filter(|j| word >> j & 1 == 1).collect()).collect();
+    (sets, answer)
+}
+
+/// The families' numbers with their board numbers, by rising number.
+fn families(drawing: &Drawing) -> Vec<(usize, u16)> {
+    let chart = Chart::read(&drawing.file()).unwrap();
+    let graph = analysis::judge(&chart).unwrap();
+    let families = analysis::Families::of(&chart, &analysis::Liveness::of(&chart, graph));
+    let numbers = families.first_fit(usize::MAX).unwrap();
+    let number = |family: &analysis::Family| {
+        let lowest = family.locations.iter().next().unwrap();
+        64 * usize::from(lowest) + usize::from(family.timer)
+    };
+    families.list().iter().map(number).zip(numbers).collect()
+}
+
+fn rewritten(drawing: &Drawing, k: u32) -> Answer<Vec<u8>> {
+    let mut out = vec![0xAA; 60_000];
+    let answer = rewrite(&drawing.file(), k, &mut out)?;
+    let length = answer.length as usize;
+    assert!(out[length..].iter().all(|&byte| byte == 0xAA));
+    out.truncate(length);
+    assert_eq!(u64::from(Chart::read(&out).unwrap().timers()), answer.used);
+    Ok(out)
+}
+
+fn read(file: &[u8]) -> Answer<()> {
+    Chart::read(file).map(|_| ())
+}
+
+#[test]
+fn chart_a_is_analysed() {
+    let (live, answer) = live_of(&chart_a().file());
+    assert_eq!(live, [vec![], vec![0], vec![0, 1], vec![1, 2], vec![0, 2], vec![2], vec![]]);
+    assert_eq!(answer, Analysis { used: 3, floor: 2 });
+    assert_eq!(families(&chart_a()), [(64, 0), (129, 1), (194, 2)]);
+}
+
+#[test]
+fn chart_a_is_rewritten_for_three_timers_and_not_for_two() {
+    assert_eq!(rewritten(&chart_a(), 3), Ok(chart_a().file()));
+    assert_eq!(rewritten(&chart_a(), 2), refused(20, NOWHERE));
+}
+
+#[test]
+fn chart_b_shares_one_timer() {
+    let mut expected = chart_b();
+    expected.timers = 1;
+    expected.transitions[1] = Arrow::new(1, 2).tests(0, AT_MOST, 2).starts(&[0]);
+    expected.transitions[2] = Arrow::new(2, 3).tests(0, AT_LEAST, 1);
+    assert_eq!(rewritten(&chart_b(), 16), Ok(expected.file()));
+    assert_eq!(live_of(&chart_b().file()).1, Analysis { used: 1, floor: 1 });
+}
+
+#[test]
+fn chart_c_gives_timer_0_two_numbers() {
+    assert_eq!(families(&chart_c()), [(65, 0), (128, 1), (256, 0)]);
+    let expected = Drawing::new(
+        6,
+        2,
+        vec![
+            Arrow::new(0, 1).starts(&[0]),
+            Arrow::new(1, 2).starts(&[1]),
+            Arrow::new(2, 3).tests(1, AT_LEAST, 1),
+            Arrow::new(3, 4).tests(0, AT_MOST, 9).starts(&[0]),
+            Arrow::new(4, 5).tests(0, AT_LEAST, 2),
+        ],
+    );
+    assert_eq!(rewritten(&chart_c(), 2), Ok(expected.file()));
+}
+
+#[test]
+fn a_start_that_is_not_born_is_left_out() {
+    let mut expected = self_loop();
+    expected.timers = 0;
+    expected.transitions[0].starts.clear();
+    assert_eq!(rewritten(&self_loop(), 0), Ok(expected.file()));
+    assert_eq!(live_of(&self_loop().file()), (vec![vec![]], Analysis { used: 0, floor: 0 }));
+}
+
+#[test]
+fn a_start_on_another_path_does_not_help() {
+    let file = never_started().file();
+    assert_eq!(analyse(&file, &mut [0; 2]), refused(10, 1));
+    assert_eq!(rewrite(&file, 64, &mut [0; 99]), refused(10, 1));
+    assert_eq!(play(&file, &[0], &[], &[]), refused(10, 1));
+}
+
+#[test]
+fn a_start_on_the_same_transition_comes_after_its_test() {
+    let drawing = Drawing::new(2, 1, vec![Arrow::new(0, 1).tests(0, AT_LEAST, 0).starts(&[0])]);
+    assert_eq!(analyse(&drawing.file(), &mut [0; 2]), refused(10, 0));
+}
+
+#[test]
+fn families_are_apart_where_the_timer_is_started_anew() {
+    assert_eq!(families(&started_anew()), [(64, 0), (128, 0)]);
+    // A parallel transition that does not start the timer links them.
+    let mut linked = started_anew();
+    linked.transitions.push(Arrow::new(1, 2));
+    assert_eq!(families(&linked), [(64, 0)]);
+}
+
+#[test]
+fn chart_b_is_played() {
+    let file = chart_b().file();
+    let board = rewritten(&chart_b(), 1).unwrap();
+    for (file, counts) in [(&file, vec![0, 0]), (&file, vec![16_777_215; 2]), (&board, vec![16_777_215])] {
+        let played = |transitions: &[u32], times: &[u64]| play(file, &counts, transitions, times);
+        let end = Playing { location: 3, time: 8, accepting: true };
+        assert_eq!(played(&[0, 1, 2], &[5, 7, 8]), Ok(end));
+        assert_eq!(played(&[0, 1], &[5, 8]), refused(24, 1));
+        assert_eq!(played(&[0, 1], &[5, 4]), refused(23, 1));
+        assert_eq!(played(&[0, 1, 2], &[5, 7, 7]), refused(24, 2));
+        assert_eq!(played(&[], &[]), Ok(Playing { location: 0, time: 0, accepting: false }));
+        assert_eq!(played(&[0, 1], &[5, 7]), Ok(Playing { location: 2, time: 7, accepting: false }));
+        assert_eq!(played(&[1], &[0]), refused(22, 0));
+        assert_eq!(played(&[3], &[0]), refused(14, 0));
+        assert_eq!(played(&[0], &[]), refused(13, NOWHERE));
+        assert_eq!(played(&[], &[0]), refused(13, NOWHERE));
+    }
+    assert_eq!(play(&file, &[16_777_216, 0], &[], &[]), refused(12, 0));
+    assert_eq!(play(&file, &[0, u32::MAX], &[], &[]), refused(12, 1));
+    assert_eq!(play(&file, &[u32::MAX, u32::MAX], &[], &[]), refused(12, 0));
+    assert_eq!(play(&file, &[16_777_216], &[], &[]), refused(12, NOWHERE));
+    assert_eq!(play(&file, &[0, 0, 0], &[], &[]), refused(12, NOWHERE));
+    // 12 comes before 13.
+    assert_eq!(play(&file, &[0], &[0], &[]), refused(12, NOWHERE));
+    assert_eq!(play(&file, &[16_777_216, 0], &[0], &[]), refused(12, 0));
+}
+
+#[test]
+fn a_step_is_judged_in_the_order_14_15_22_23_24() {
+    let file = chart_b().file();
+    let played = |transitions: &[u32], times: &[u64]| play(&file, &[0, 0], transitions, times);
+    assert_eq!(played(&[9], &[16_777_216]), refused(14, 0));
+    assert_eq!(played(&[u32::MAX], &[u64::MAX]), refused(14, 0));
+    assert_eq!(played(&[2], &[16_777_216]), refused(15, 0));
+    assert_eq!(played(&[0, 0], &[5, 4]), refused(22, 1));
+    assert_eq!(played(&[0, 1], &[5, 1 << 32 | 6]), refused(15, 1));
+    assert_eq!(
+        played(&[0, 1], &[16_777_215, 16_777_215]),
+        Ok(Playing { location: 2, time: 16_777_215, accepting: false })
+    );
+    assert_eq!(played(&[0, 1], &[16_777_215, 0]), refused(23, 1));
+    // A later step is not looked at before its turn.
+    assert_eq!(played(&[1, 99], &[5, u64::MAX]), refused(22, 0));
+    // The same transition is no way on from its own target.
+    assert_eq!(played(&[0, 0], &[5, 5]), refused(22, 1));
+}
+
+#[test]
+fn the_first_step_counts_from_tick_0_and_counts_do_not_wrap() {
+    let drawing = Drawing::new(2, 1, vec![Arrow::new(0, 1).starts(&[0]), Arrow::new(1, 0).tests(0, ABOVE, 65_535)]);
+    let played = |times: &[u64]| play(&drawing.file(), &[16_777_215], &[0, 1], times);
+    assert_eq!(played(&[3, 65_538]), refused(24, 1));
+    assert_eq!(played(&[3, 65_539]), Ok(Playing { location: 0, time: 65_539, accepting: false }));
+    assert_eq!(played(&[3, 16_777_215]), Ok(Playing { location: 0, time: 16_777_215, accepting: false }));
+}
+
+#[test]
+fn places_of_steps_are_not_cut() {
+    let drawing = Drawing::new(1, 0, vec![Arrow::new(0, 0)]);
+    let mut transitions = vec![0; 70_000];
+    let times = vec![7; 70_000];
+    let end = Playing { location: 0, time: 7, accepting: true };
+    assert_eq!(play(&drawing.file(), &[], &transitions, &times), Ok(end));
+    transitions[65_535] = 1;
+    assert_eq!(play(&drawing.file(), &[], &transitions, &times), refused(14, 65_535));
+    transitions[65_535] = 0;
+    transitions[69_999] = 1;
+    assert_eq!(play(&drawing.file(), &[], &transitions, &times), refused(14, 69_999));
+}
+
+#[test]
+fn comparisons_by_table() {
+    let rows = [
+        (Comparison::AtMost, [true, true, false]),
+        (Comparison::Below, [true, false, false]),
+        (Comparison::AtLeast, [false, true, true]),
+        (Comparison::Above, [false, false, true]),
+        (Comparison::Equal, [false, true, false]),
+    ];
+    for (code, (comparison, met)) in rows.into_iter().enumerate() {
+        assert_eq!(Comparison::from_code(code as u8), Some(comparison));
+        assert_eq!([4, 5, 6].map(|count| comparison.met(count, 5)), met);
+        assert_eq!([0, 33_554_430].map(|count| comparison.met(count, 65_535)), [met[0], met[2]]);
+    }
+    assert!((5..=255).all(|code| Comparison::from_code(code).is_none()));
+}
+
+#[test]
+fn the_smallest_chart() {
+    let file = [1, 0, 0, 0, 9, 0, 1, 0, 0, 0, 0, 0, 0, 0];
+    assert_eq!(one_location().file(), file);
+    assert_eq!(read(&file), Ok(()));
+    assert_eq!(read(&file[..13]), refused(1, NOWHERE));
+    assert_eq!(play(&file, &[], &[], &[]), Ok(Playing { location: 0, time: 0, accepting: false }));
+    assert_eq!(analyse(&file, &mut []), refused(21, NOWHERE));
+    assert_eq!(rewrite(&file, 0, &mut [0; 14]), Ok(Rewriting { used: 0, length: 14 }));
+}
+
+#[test]
+fn k_of_64_is_judged_and_65_refused() {
+    let file = chart_b().file();
+    let mut out = [0; 100];
+    assert_eq!(rewrite(&file, 64, &mut out).map(|answer| answer.used), Ok(1));
+    for k in [65, 255, 256, 65_536 + 3, u32::MAX] {
+        assert_eq!(rewrite(&file, k, &mut out), refused(11, NOWHERE));
+    }
+}
+
+#[test]
+fn version_and_length() {
+    let good = chart_b().file();
+    let mut file = good.clone();
+    file[0] = 2;
+    assert_eq!(read(&file), refused(2, NOWHERE));
+    file.push(0);
+    assert_eq!(read(&file), refused(1, NOWHERE));
+    for length in 0..5 {
+        assert_eq!(read(&good[..length]), refused(1, NOWHERE));
+    }
+    assert_eq!(read(&[1, 0, 0, 0, 0]), refused(3, NOWHERE));
+    assert_eq!(read(&[0, 0, 0, 0, 0]), refused(2, NOWHERE));
+    assert_eq!(read(&[1, 0, 0, 0, 1]), refused(1, NOWHERE));
+    // All 32 bits of the length count.
+    for byte in 1..4 {
+        let mut file = good.clone();
+        file[byte] += 1;
+        assert_eq!(read(&file), refused(1, NOWHERE));
+    }
+    assert_eq!(read(&[1, 0xFF, 0xFF, 0xFF, 0xFB]), refused(1, NOWHERE));
+}
+
+#[test]
+fn every_cut_is_3_without_a_place() {
+    for drawing in [chart_a(), chart_b(), chart_c(), self_loop(), one_location()] {
+        let file = drawing.file();
+        let body = &file[5..];
+        for length in 0..body.len() {
+            assert_eq!(read(&enclosed(&body[..length])), refused(3, NOWHERE), "{length}");
+        }
+        let mut longer = body.to_vec();
+        longer.push(0);
+        assert_eq!(read(&enclosed(&longer)), refused(3, NOWHERE));
+    }
+}
+
+/// The answer to chart B with a change.
+fn changed(change: impl FnOnce(&mut Drawing)) -> Answer<()> {
+    let mut drawing = chart_b();
+    change(&mut drawing);
+    read(&drawing.file())
+}
+
+#[test]
+fn fields_before_the_transitions() {
+    assert_eq!(changed(|d| d.locations = 0), refused(4, NOWHERE));
+    assert_eq!(changed(|d| d.locations = 257), refused(4, NOWHERE));
+    assert_eq!(changed(|d| d.locations = 256), Ok(()));
+    assert_eq!(changed(|d| d.initial = 4), refused(5, NOWHERE));
+    assert_eq!(changed(|d| d.initial = 256), refused(5, NOWHERE));
+    assert_eq!(changed(|d| d.timers = 65), refused(4, NOWHERE));
+    assert_eq!(changed(|d| d.timers = 64), Ok(()));
+    assert_eq!(changed(|d| d.accepting = vec![4]), refused(5, NOWHERE));
+    assert_eq!(changed(|d| d.accepting = vec![1, 1]), refused(7, NOWHERE));
+    assert_eq!(changed(|d| d.accepting = vec![2, 1]), refused(7, NOWHERE));
+    assert_eq!(changed(|d| d.accepting = vec![0, 1, 2, 3]), Ok(()));
+    // More accepting locations than there are fail at an entry.
+    assert_eq!(changed(|d| d.accepting = vec![0, 1, 2, 3, 0]), refused(7, NOWHERE));
+    assert_eq!(changed(|d| d.accepting = vec![0, 1, 2, 3, 4]), refused(5, NOWHERE));
+    assert_eq!(changed(|d| d.transitions.resize(512, Arrow::new(0, 0))), Ok(()));
+    assert_eq!(changed(|d| d.transitions.resize(513, Arrow::new(0, 0))), refused(4, NOWHERE));
+    // 513 transitions are refused at the count, even if none follow.
+    assert_eq!(read(&enclosed(&[0, 1, 0, 0, 0, 0, 0, 2, 1])), refused(4, NOWHERE));
+    assert_eq!(read(&enclosed(&[0, 1, 0, 0, 0, 0, 0, 2, 0])), refused(3, NOWHERE));
+}
+
+#[test]
+fn fields_of_a_transition() {
+    assert_eq!(changed(|d| d.transitions[1].source = 4), refused(5, 1));
+    assert_eq!(changed(|d| d.transitions[2].target = 4), refused(5, 2));
+    assert_eq!(changed(|d| d.transitions[2].target = 256), refused(5, 2));
+    assert_eq!(changed(|d| d.transitions[1].starts = vec![2]), refused(6, 1));
+    assert_eq!(changed(|d| d.transitions[1].starts = vec![1, 1]), refused(7, 1));
+    assert_eq!(changed(|d| d.transitions[1].starts = vec![1, 0]), refused(7, 1));
+    assert_eq!(changed(|d| d.transitions[1].starts = (0..65).collect()), refused(4, 1));
+    assert_eq!(changed(|d| d.transitions[1].starts = (0..64).collect()), refused(6, 1));
+    assert_eq!(changed(|d| d.transitions[1].tests = vec![(0, 0, 0); 8]), Ok(()));
+    assert_eq!(changed(|d| d.transitions[1].tests = vec![(0, 0, 0); 9]), refused(4, 1));
+    assert_eq!(changed(|d| d.transitions[1].tests = vec![(2, 9, 0)]), refused(6, 1));
+    assert_eq!(changed(|d| d.transitions[1].tests = vec![(0, 5, 0)]), refused(8, 1));
+    assert_eq!(changed(|d| d.transitions[1].tests = vec![(0, 255, 0)]), refused(8, 1));
+    assert_eq!(changed(|d| d.transitions[1].event = 255), Ok(()));
+    // Equal tests and transitions are allowed.
+    assert_eq!(changed(|d| d.transitions[0] = d.transitions[1].clone()), Ok(()));
+}
+
+#[test]
+fn the_first_field_that_fails_counts() {
+    assert_eq!(changed(|d| (d.locations, d.initial) = (0, 9)), refused(4, NOWHERE));
+    assert_eq!(changed(|d| (d.initial, d.timers) = (9, 99)), refused(5, NOWHERE));
+    assert_eq!(changed(|d| (d.timers, d.accepting) = (99, vec![9])), refused(4, NOWHERE));
+    // An early 8 comes before a late 6.
+    let early = |d: &mut Drawing| {
+        d.transitions[1].tests = vec![(0, 7, 0)];
+        d.transitions[2].tests = vec![(9, 0, 0)];
+    };
+    assert_eq!(changed(early), refused(8, 1));
+    // An early 8 with bytes left over is 8.
+    let mut drawing = chart_b();
+    early(&mut drawing);
+    let mut body = drawing.file()[5..].to_vec();
+    body.push(0);
+    assert_eq!(read(&enclosed(&body)), refused(8, 1));
+    // Within a test the timer comes before the code.
+    assert_eq!(changed(|d| d.transitions[1].tests = vec![(0, 0, 0), (9, 9, 0)]), refused(6, 1));
+}
+
+#[test]
+fn a_records_length_is_judged_at_its_count_of_tests() {
+    let with_length = |change: &dyn Fn(&mut Drawing), length: u16| {
+        let mut drawing = chart_b();
+        change(&mut drawing);
+        read(&drawing.file_with(|index, true_length| if index == 1 { length } else { true_length }))
+    };
+    assert_eq!(with_length(&|_| {}, 12), Ok(()));
+    for length in [0, 11, 13, 65_535] {
+        assert_eq!(with_length(&|_| {}, length), refused(3, NOWHERE));
+        assert_eq!(with_length(&|d| d.transitions[1].source = 4, length), refused(5, 1));
+        assert_eq!(with_length(&|d| d.transitions[1].target = 4, length), refused(5, 1));
+        assert_eq!(with_length(&|d| d.transitions[1].starts = vec![2], length), refused(6, 1));
+        assert_eq!(with_length(&|d| d.transitions[1].starts = vec![1, 0], length), refused(7, 1));
+        // A bad test comes after the length.
+        assert_eq!(with_length(&|d| d.transitions[1].tests = vec![(9, 9, 9)], length), refused(3, NOWHERE));
+    }
+    // Nine tests are 4 only where the length is right, and 3 is the lower number where it is not.
+    let nine = |d: &mut Drawing| d.transitions[1].tests = vec![(0, 0, 0); 9];
+    assert_eq!(with_length(&nine, 7 + 1 + 36), refused(4, 1));
+    assert_eq!(with_length(&nine, 12), refused(3, NOWHERE));
+    // Nine in the last byte of the file is no cut field.
+    let last = |length: u8| enclosed(&[0, 1, 0, 0, 0, 0, 0, 0, 1, 0, length, 0, 0, 0, 0, 0, 0, 9]);
+    assert_eq!(read(&last(7 + 36)), refused(4, 0));
+    assert_eq!(read(&last(7)), refused(3, NOWHERE));
+}
+
+#[test]
+fn the_largest_file_has_54_286_bytes() {
+    let mut transition = Arrow::new(255, 255).starts(&(0..64).collect::<Vec<_>>());
+    transition.tests = vec![(63, EQUAL, 65_535); 8];
+    let drawing = Drawing {
+        locations: 256,
+        initial: 0,
+        timers: 64,
+        accepting: (0..256).collect(),
+        transitions: vec![transition; 512],
+    };
+    let file = drawing.file();
+    assert_eq!(file.len(), 54_286);
+    let chart = Chart::read(&file).unwrap();
+    let mut out = vec![0; 54_286];
+    assert_eq!(chart.write(&mut out), Ok(54_286));
+    assert_eq!(out, file);
+    assert_eq!(analyse(&file, &mut [0; 256]), refused(9, 1));
+    // The longest one that is judged to the end is shorter: the initial location's transition cannot have tests.
+    let longest = longest(&mut Random::new(1));
+    assert_eq!(longest.file().len(), 54_254);
+    assert!(rewritten(&longest, 64).is_ok());
+}
+
+#[test]
+fn the_chart_files_of_the_repository() {
+    for (name, drawing) in [
+        ("a", chart_a()),
+        ("b", chart_b()),
+        ("c", chart_c()),
+        ("one_location", one_location()),
+        ("self_loop", self_loop()),
+        ("never_started", never_started()),
+    ] {
+        let path = format!("{}/../charts/{name}.chart", env!("CARGO_MANIFEST_DIR"));
+        assert_eq!(std::fs::read(&path).unwrap(), drawing.file(), "{path}");
+    }
+}
+
+#[test]
+fn place_of_9_is_the_lowest_location() {
+    let drawing = |initial, arrows: &[(u16, u16)]| Drawing {
+        locations: 4,
+        initial,
+        transitions: arrows.iter().map(|&(source, target)| Arrow::new(source, target)).collect(),
+        ..Drawing::default()
+    };
+    let judged = |initial, arrows: &[(u16, u16)]| analyse(&drawing(initial, arrows).file(), &mut [0; 4]).err();
+    assert_eq!(judged(0, &[(0, 1), (1, 2), (2, 3)]), None);
+    assert_eq!(judged(0, &[(0, 1), (3, 2)]), Some(Refusal { number: 9, place: 2 }));
+    assert_eq!(judged(0, &[(0, 2), (1, 3), (3, 1)]), Some(Refusal { number: 9, place: 1 }));
+    assert_eq!(judged(3, &[(3, 1), (1, 2)]), Some(Refusal { number: 9, place: 0 }));
+    assert_eq!(judged(3, &[(3, 2), (2, 1), (1, 0)]), None);
+    assert_eq!(judged(0, &[]), Some(Refusal { number: 9, place: 1 }));
+}
+
+#[test]
+fn place_of_10_is_the_lowest_transition() {
+    // Unstarted are transition 2 by timer 0, and transition 1 by timer 1: at the higher location.
+    let drawing = Drawing::new(
+        3,
+        2,
+        vec![Arrow::new(0, 1), Arrow::new(2, 0).tests(1, AT_LEAST, 0), Arrow::new(1, 2).tests(0, AT_LEAST, 0)],
+    );
+    assert_eq!(analyse(&drawing.file(), &mut [0; 3]), refused(10, 1));
+    // A loop back to a location without the start leaves nothing unstarted behind it.
+    let around = Drawing::new(
+        3,
+        1,
+        vec![Arrow::new(0, 1).starts(&[0]), Arrow::new(1, 2).tests(0, AT_LEAST, 1), Arrow::new(2, 1)],
+    );
+    assert_eq!(analyse(&around.file(), &mut [0; 3]).map(|answer| answer.used), Ok(1));
+}
+
+#[test]
+fn the_lowest_number_counts_past_the_reading() {
+    // 9 before 10.
+    let drawing = Drawing::new(3, 1, vec![Arrow::new(0, 1).tests(0, AT_LEAST, 0)]);
+    assert_eq!(analyse(&drawing.file(), &mut []), refused(9, 2));
+    // 10 before 11, 20 and 21.
+    assert_eq!(rewrite(&never_started().file(), 65, &mut []), refused(10, 1));
+    // 8 before 11, 12 and 13.
+    let mut bad = chart_b();
+    bad.transitions[2].tests[0].1 = 9;
+    assert_eq!(rewrite(&bad.file(), 65, &mut []), refused(8, 2));
+    assert_eq!(play(&bad.file(), &[], &[0], &[]), refused(8, 2));
+    // 10 before 12.
+    assert_eq!(play(&never_started().file(), &[], &[0], &[]), refused(10, 1));
+    // 11 before 20 and 21, 20 before 21.
+    assert_eq!(rewrite(&chart_a().file(), 65, &mut []), refused(11, NOWHERE));
+    assert_eq!(rewrite(&chart_a().file(), 2, &mut []), refused(20, NOWHERE));
+    assert_eq!(rewrite(&chart_a().file(), 3, &mut []), refused(21, NOWHERE));
+    assert_eq!(rewrite(&chart_a().file(), 0, &mut []), refused(20, NOWHERE));
+}
+
+#[test]
+fn lent_memory_is_untouched_on_a_refusal_and_beyond_the_result() {
+    let file = chart_a().file();
+    let mut live = [77; 9];
+    assert_eq!(analyse(&file, &mut live[..6]), refused(21, NOWHERE));
+    assert_eq!(live, [77; 9]);
+    assert_eq!(analyse(&file, &mut live), Ok(Analysis { used: 3, floor: 2 }));
+    assert_eq!(live, [0, 1, 3, 6, 5, 4, 0, 77, 77]);
+
+    // The room that is needed is the rewritten file's, which here is shorter than the drawn one's.
+    let drawn = self_loop().file();
+    let short = drawn.len() - 1;
+    let mut out = [0xAA; 64];
+    assert_eq!(rewrite(&drawn, 0, &mut out[..short - 1]), refused(21, NOWHERE));
+    assert_eq!(out, [0xAA; 64]);
+    let answer = Rewriting { used: 0, length: short as u64 };
+    assert_eq!(rewrite(&drawn, 0, &mut out[..short]), Ok(answer));
+    assert!(out[short..].iter().all(|&byte| byte == 0xAA));
+    let mut out = [0xAA; 64];
+    assert_eq!(rewrite(&drawn, 65, &mut out), refused(11, NOWHERE));
+    assert_eq!(out, [0xAA; 64]);
+}
+
+#[test]
+fn starts_are_sorted_by_board_number() {
+    // Timer 1 gets number 0 at location 1; then timer 0 is started with it and gets 1. Both are started anew on 2→2.
+    let drawing = Drawing::new(
+        4,
+        2,
+        vec![
+            Arrow::new(0, 1).starts(&[1]),
+            Arrow::new(1, 2).starts(&[0]),
+            Arrow::new(2, 2).tests(0, AT_LEAST, 1).tests(1, AT_LEAST, 1).starts(&[0, 1]),
+            Arrow::new(2, 3).tests(1, ABOVE, 1).tests(0, ABOVE, 1),
+        ],
+    );
+    let expected = Drawing::new(
+        4,
+        2,
+        vec![
+            Arrow::new(0, 1).starts(&[0]),
+            Arrow::new(1, 2).starts(&[1]),
+            Arrow::new(2, 2).tests(1, AT_LEAST, 1).tests(0, AT_LEAST, 1).starts(&[0, 1]),
+            Arrow::new(2, 3).tests(0, ABOVE, 1).tests(1, ABOVE, 1),
+        ],
+    );
+    assert_eq!(rewritten(&drawing, 2), Ok(expected.file()));
+}
+
+#[test]
+fn used_may_exceed_64() {
+    let small = sixty_five_numbers(5);
+    let (live, answer) = live_of(&small.file());
+    assert_eq!(answer, Analysis { used: 65, floor: 64 });
+    assert_eq!(live[3], (0..64).collect::<Vec<_>>());
+    assert_eq!(rewritten(&small, 64), refused(20, NOWHERE));
+    for (levels, half) in [(2, 8), (3, 16), (8, 32), (16, 5), (16, 32)] {
+        let drawing = many_numbers(levels, half);
+        let answer = live_of(&drawing.file()).1;
+        assert_eq!(answer, Analysis { used: u64::from(levels) * u64::from(half), floor: 2 * u64::from(half) });
+        let fits = answer.used <= 64;
+        assert_eq!(rewritten(&drawing, 64).is_ok(), fits);
+        assert_eq!(rewritten(&drawing, 64).err(), (!fits).then_some(Refusal { number: 20, place: NOWHERE }));
+    }
+}
+
+#[test]
+fn all_64_timers_at_once() {
+    let all: Vec<u8> = (0..64).collect();
+    let mut transitions = vec![Arrow::new(0, 1).starts(&all)];
+    for timers in all.chunks(8) {
+        let mut transition = Arrow::new(1, 1);
+        transition.tests = timers.iter().map(|&timer| (timer, AT_LEAST, 0)).collect();
+        transitions.push(transition);
+    }
+    let drawing = Drawing::new(2, 64, transitions);
+    assert_eq!(live_of(&drawing.file()).1, Analysis { used: 64, floor: 64 });
+    assert_eq!(rewritten(&drawing, 64), Ok(drawing.file()));
+    assert_eq!(rewritten(&drawing, 63), refused(20, NOWHERE));
+    let mut input = vec![64];
+    input.extend(drawing.file());
+    let text = listing(&input);
+    assert!(text.starts_with("used 64 floor 64 limit 64\nat 0\nat 1 0>0 1>1 "));
+    assert!(text.ends_with(" 62>62 63>63\n"));
+}
+
+#[test]
+fn the_programs_text() {
+    let with_k = |k: u8, file: Vec<u8>| {
+        let mut input = vec![k];
+        input.extend(file);
+        listing(&input)
+    };
+    assert_eq!(with_k(16, chart_b().file()), "used 1 floor 1 limit 16\nat 0\nat 1 0>0\nat 2 1>0\nat 3\n");
+    assert_eq!(
+        with_k(3, chart_a().file()),
+        "used 3 floor 2 limit 3\nat 0\nat 1 0>0\nat 2 0>0 1>1\nat 3 1>1 2>2\nat 4 0>0 2>2\nat 5 2>2\nat 6\n"
+    );
+    assert_eq!(with_k(2, chart_a().file()), "refused 20 65535\n");
+    assert_eq!(with_k(65, chart_a().file()), "refused 11 65535\n");
+    assert_eq!(with_k(255, never_started().file()), "refused 10 1\n");
+    assert_eq!(with_k(0, one_location().file()), "used 0 floor 0 limit 0\nat 0\n");
+    assert_eq!(listing(&[]), "refused 1 65535\n");
+    assert_eq!(listing(&[64]), "refused 1 65535\n");
+    assert_eq!(listing(&vec![0; 65_537]), "refused 16 65535\n");
+    assert_eq!(listing(&vec![0; 65_536]), "refused 1 65535\n");
+    // An input of 65,536 bytes is judged further: here leftover bytes.
+    let mut body = chart_b().file()[5..].to_vec();
+    body.resize(65_530, 0);
+    assert_eq!(with_k(16, enclosed(&body)), "refused 3 65535\n");
+}
