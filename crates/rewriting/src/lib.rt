@@ -1,7 +1,7 @@
 // Rewrites a chart file for a board of K timers.
 ghost use mathlib.Core.Path.{_≡_};
 ghost use mathlib.Core.List.{List};
-ghost use Prim.Native.Nat.{ℕ, _≤_};
+ghost use Prim.Native.Nat.{ℕ};
 ghost use lib.ListN.{length};
 ghost use Rattle.model.specs.Answer.{result, then};
 ghost use Rattle.model.specs.Chart.{Chart};
