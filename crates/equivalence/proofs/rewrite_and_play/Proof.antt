@@ -48,8 +48,8 @@ enum-known-a-2 c = search needs
 array-share-prefix-out : tie.Need-array-share-prefix-out
 array-share-prefix-out c = written c .room
 
-slice-aggregate-play : tie.Need-slice-aggregate-play
-slice-aggregate-play c = let w = written (c .before) in let r = w .room in simp length-take (omega arith)
+slice-aggregate-board-file : tie.Need-slice-aggregate-board-file
+slice-aggregate-board-file c = let w = written (c .before) in let r = w .room in simp length-take (omega arith)
 
 play-requires-2 : tie.Need-play-requires-2
 play-requires-2 c κs = search needs
@@ -74,7 +74,7 @@ rewrite-and-play-spec =
     enum-known-a
     enum-known-a-2
     array-share-prefix-out
-    slice-aggregate-play
+    slice-aggregate-board-file
     play-requires-2
     returns
     returns-2)
