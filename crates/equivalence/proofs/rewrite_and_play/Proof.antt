@@ -1,6 +1,5 @@
 -- `rewrite_and_play` plays on the file and on what the rewriting left at the front of its buffer. Assumes nothing.
-use mathlib.Core.Path.{_≡_, sym, ap, _∙_}
-use mathlib.Core.List.{List}
+use mathlib.Core.Path.{sym, ap, _∙_}
 use lib.ListN.{length-take}
 use Prim.Native.Nat.{ℕ}
 use native.Mathlib.Omega.{arith}
