@@ -35,9 +35,12 @@ pub fn rewrite_and_play(
             drawn,
             board: Board::NotRewritten(f),
         },
-        Rewritten::File { used: _, length } => Both {
-            drawn,
-            board: Board::Played(player::play(&out[..length], board_counts, transitions, times)),
-        },
+        Rewritten::File { used: _, length } => {
+            let board_file = &out[..length];
+            Both {
+                drawn,
+                board: Board::Played(player::play(board_file, board_counts, transitions, times)),
+            }
+        }
     }
 }

@@ -1,6 +1,5 @@
 -- `rewrite_and_play` plays on the file and on what the rewriting left at the front of its buffer. Assumes nothing.
-use mathlib.Core.Path.{_≡_, sym, ap, _∙_}
-use mathlib.Core.List.{List}
+use mathlib.Core.Path.{sym, ap, _∙_}
 use lib.ListN.{length-take}
 use Prim.Native.Nat.{ℕ}
 use native.Mathlib.Omega.{arith}
@@ -48,8 +47,8 @@ enum-known-a-2 c = search needs
 array-share-prefix-out : tie.Need-array-share-prefix-out
 array-share-prefix-out c = written c .room
 
-slice-aggregate-play : tie.Need-slice-aggregate-play
-slice-aggregate-play c = let w = written (c .before) in let r = w .room in simp length-take (omega arith)
+slice-aggregate-board-file : tie.Need-slice-aggregate-board-file
+slice-aggregate-board-file c = let w = written (c .before) in let r = w .room in simp length-take (omega arith)
 
 play-requires-2 : tie.Need-play-requires-2
 play-requires-2 c κs = search needs
@@ -74,7 +73,7 @@ rewrite-and-play-spec =
     enum-known-a
     enum-known-a-2
     array-share-prefix-out
-    slice-aggregate-play
+    slice-aggregate-board-file
     play-requires-2
     returns
     returns-2)
