@@ -1,2 +1,3 @@
 pub mod DemandHolds
 pub mod RewrittenFile
+pub mod Points
