@@ -1,0 +1,29 @@
+-- The questions of the list of ★ cases, asked of the entry points' definitions: each chart as its file. Assumes nothing.
+use mathlib.Core.List.{List}
+use Prim.Native.Nat.{ℕ}
+use lib.ListN.{replicate}
+use Rattle.model.specs.Answer.{Answer, result, refused}
+use Rattle.model.specs.Chart.{Chart}
+use Rattle.model.specs.FirstFit.{board}
+use Rattle.model.specs.Cases.{Question, Reply, numbersOf}
+use Rattle.model.specs.Cases.Question.{live-sets, numbers, rewrite, play}
+use Rattle.model.specs.Cases.Reply.{sets, given, rewriting-is, played-is}
+use Rattle.file_format.specs.File.{fileOf}
+use Rattle.analysis.specs.Analysing.{Figures, analysedIn, analyseAnswer, listAfter}
+use Rattle.rewriting.specs.Rewriting.{rewriteInto}
+use Rattle.player.specs.Playing.{playAnswer}
+
+-- a list of as many words as there are locations, lent to the analysis
+unfoldable pub analysedList : Chart → List ℕ
+analysedList c = listAfter (analysedIn (c .locations) (fileOf c)) (replicate (c .locations) 7)
+
+-- used and floor as the analysis answers them; a refused chart has none
+abbrev pub figuresReply : Chart → Answer Figures → Reply
+figuresReply c (result f) = given (numbersOf (board c)) (f .used) (f .floor)
+figuresReply c (refused n p) = sets (analysedList c)
+
+unfoldable pub askFile : Question → Reply
+askFile (live-sets c) = sets (analysedList c)
+askFile (numbers c) = figuresReply c (analyseAnswer (c .locations) (fileOf c))
+askFile (rewrite c k) = rewriting-is (rewriteInto k 54286 (fileOf c))
+askFile (play c v is ts) = played-is (playAnswer (fileOf c) v is ts)
