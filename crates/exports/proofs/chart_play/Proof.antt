@@ -25,10 +25,10 @@ cast-t13 : tie.Need-cast-t13
 cast-t13 c = search needs
 
 returns : tie.Need-returns
-returns c = ap playingOf (sym (ap meantPlayed (c .before .a .given .1)) ∙ c .before .before .before .before .play .ensures)
+returns c = ap playingOf (sym (ap meantPlayed (c .before .a .given .1)) ∙ c .before .before .before .play .ensures)
 
 returns-2 : tie.Need-returns-2
-returns-2 c = ap playingOf (sym (ap meantPlayed (c .before .before .a2 .given .1)) ∙ c .before .before .before .before .before .play .ensures)
+returns-2 c = ap playingOf (sym (ap meantPlayed (c .before .before .a2 .given .1)) ∙ c .before .before .before .before .play .ensures)
 
 pub chart-play-spec : {M : Type 1} → statement M
 chart-play-spec =
