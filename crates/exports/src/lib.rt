@@ -1,0 +1,117 @@
+// The three calls as C sees them: a slice is a pointer and a length, an answer a struct by value whose number is 0 where there is a result.
+ghost use mathlib.Core.Path.{_≡_};
+ghost use lib.ListN.{length};
+ghost use Rattle.analysis.specs.Analysing.{analysedIn, analyseAnswer, listAfter};
+ghost use Rattle.rewriting.specs.Rewriting.{rewriteInto, rewriteAnswer, bufferAfter};
+ghost use Rattle.player.specs.Playing.{playAnswer};
+ghost use Rattle.exports.specs.Exported.{analysisOf, rewritingOf, playingOf};
+use analysis::Analysis;
+use player::Played;
+use rewriting::Rewritten;
+
+// A refusal's number and place, or 0 and 0 with used and floor.
+#[repr(C)]
+pub struct chart_analysis {
+    pub number: u64,
+    pub place: u64,
+    pub used: u64,
+    pub floor: u64,
+}
+
+// A refusal's number and place, or 0 and 0 with the timers used and the new file's length.
+#[repr(C)]
+pub struct chart_rewriting {
+    pub number: u64,
+    pub place: u64,
+    pub used: u64,
+    pub length: u64,
+}
+
+// A refusal's number and place, or 0 and 0 with where and when the steps end; accepting is 1 or 0.
+#[repr(C)]
+pub struct chart_playing {
+    pub number: u64,
+    pub place: u64,
+    pub location: u64,
+    pub time: u64,
+    pub accepting: u64,
+}
+
+// The analysis of a chart file; the live sets go over the front of the list.
+#[no_mangle]
+pub extern "C" fn chart_analyse(file: &[u8], live: &mut [u64]) -> chart_analysis
+    ensures answer { λ r. ⌜ r ≡ analysisOf (analyseAnswer (length (now (live .entry))) (now (file .entry))) ⌝ }
+    ensures lent { λ _. ⌜ now (live .exit) ≡ listAfter (analysedIn (length (now (live .entry))) (now (file .entry))) (now (live .entry)) ⌝ }
+{
+    let a = analysis::analyse(file, live);
+    match a {
+        Analysis::Found { used, floor } => chart_analysis {
+            number: 0,
+            place: 0,
+            used: used as u64,
+            floor: floor as u64,
+        },
+        Analysis::Refused(f) => chart_analysis {
+            number: f.number as u64,
+            place: f.place,
+            used: 0,
+            floor: 0,
+        },
+    }
+}
+
+// The rewriting of a chart file for a board of k timers; the new file goes over the front of the buffer.
+#[no_mangle]
+pub extern "C" fn chart_rewrite(file: &[u8], k: u32, out: &mut [u8]) -> chart_rewriting
+    ensures answer { λ r. ⌜ r ≡ rewritingOf (rewriteAnswer k (length (now (out .entry))) (now (file .entry))) ⌝ }
+    ensures lent { λ _. ⌜ now (out .exit) ≡ bufferAfter (rewriteInto k (length (now (out .entry))) (now (file .entry))) (now (out .entry)) ⌝ }
+{
+    let a = rewriting::rewrite(file, k, out);
+    match a {
+        Rewritten::File { used, length } => chart_rewriting {
+            number: 0,
+            place: 0,
+            used: used as u64,
+            length: length as u64,
+        },
+        Rewritten::Refused(f) => chart_rewriting {
+            number: f.number as u64,
+            place: f.place,
+            used: 0,
+            length: 0,
+        },
+    }
+}
+
+// The player, called on a chart file.
+#[no_mangle]
+pub extern "C" fn chart_play(
+    file: &[u8],
+    counts: &[u32],
+    transitions: &[u32],
+    times: &[u64],
+) -> chart_playing
+    ensures { λ r. ⌜ r ≡ playingOf (playAnswer (now (file .entry)) (now (counts .entry)) (now (transitions .entry)) (now (times .entry))) ⌝ }
+{
+    let a = player::play(file, counts, transitions, times);
+    match a {
+        Played::Arrived {
+            location,
+            time,
+            accepting,
+        } => chart_playing {
+            number: 0,
+            place: 0,
+            location: location as u64,
+            time,
+            accepting: accepting as u64,
+        },
+        Played::Refused(f) => chart_playing {
+            number: f.number as u64,
+            place: f.place,
+            location: 0,
+            time: 0,
+            accepting: 0,
+        },
+    }
+}

@@ -1,0 +1,90 @@
+/* Analyses, rewrites for 16 timers and plays chart B of document 01, and prints the answers. */
+#include <inttypes.h>
+#include <stdio.h>
+
+#include "chart.h"
+
+/* B, 4 locations, 2 timers: 0→1 starts 0; 1→2 tests 0 at most 2, starts 1; 2→3 tests 1 at least 1. The bytes of charts/b.chart. */
+static const uint8_t B[] = {
+    1, 0, 0, 0, 48,                                 /* version, length of the rest */
+    0, 4, 0, 0, 2, 0, 1, 0, 3, 0, 3,                /* locations, initial, timers, accepting: 3; transitions */
+    0, 8, 0, 0, 0, 1, 0, 1, 0, 0,                   /* 0→1 */
+    0, 12, 0, 1, 0, 2, 0, 1, 1, 1, 0, 0, 0, 2,      /* 1→2 */
+    0, 11, 0, 2, 0, 3, 0, 0, 1, 1, 2, 0, 1,         /* 2→3 */
+};
+
+#define LENGTH(list) (sizeof(list) / sizeof(list)[0])
+
+/* What memory is filled with before it is lent. */
+enum { UNTOUCHED = 170 };
+
+static void analyse(size_t room) {
+    uint64_t live[8];
+    for (size_t q = 0; q < LENGTH(live); q++)
+        live[q] = UNTOUCHED;
+    chart_analysis a = chart_analyse(B, sizeof B, live, room);
+    if (a.number != 0)
+        printf("refused %" PRIu64 " %" PRIu64 "\n", a.number, a.place);
+    else
+        printf("used %" PRIu64 " floor %" PRIu64 "\n", a.used, a.floor);
+    printf("live");
+    for (size_t q = 0; q < LENGTH(live); q++)
+        printf(" %" PRIu64, live[q]);
+    printf("\n");
+}
+
+/* Leaves the rewritten file in out and returns its length, 0 if there is none. */
+static size_t rewrite(uint32_t k, uint8_t *out, size_t room) {
+    for (size_t i = 0; i < room; i++)
+        out[i] = UNTOUCHED;
+    chart_rewriting r = chart_rewrite(B, sizeof B, k, out, room);
+    if (r.number != 0) {
+        printf("refused %" PRIu64 " %" PRIu64 "\n", r.number, r.place);
+        return 0;
+    }
+    printf("used %" PRIu64 " length %" PRIu64 "\nfile", r.used, r.length);
+    for (size_t i = 0; i < r.length; i++)
+        printf(" %02x", out[i]);
+    printf("\n");
+    return (size_t)r.length;
+}
+
+static void play(const uint8_t *file, size_t length, const uint32_t *counts, size_t timers,
+                 const uint32_t *transitions, const uint64_t *times, size_t steps) {
+    chart_playing p = chart_play(file, length, counts, timers, transitions, steps, times, steps);
+    if (p.number != 0)
+        printf("refused %" PRIu64 " %" PRIu64 "\n", p.number, p.place);
+    else
+        printf("location %" PRIu64 " time %" PRIu64 " accepting %" PRIu64 "\n", p.location, p.time, p.accepting);
+}
+
+int main(void) {
+    analyse(8);
+    analyse(3);
+
+    uint8_t board[64];
+    rewrite(0, board, sizeof board);
+    rewrite(65, board, sizeof board);
+    rewrite(16, board, 1);
+    size_t length = rewrite(16, board, sizeof board);
+
+    const uint32_t transitions[] = {0, 1, 2};
+    const uint64_t in_time[] = {5, 7, 8}, late[] = {5, 8}, back[] = {5, 4}, early[] = {5, 7, 7};
+    const uint32_t counts[] = {16777215, 0}, over[] = {16777216, 0};
+
+    /* B as drawn, and as rewritten */
+    for (int rewritten = 0; rewritten < 2; rewritten++) {
+        const uint8_t *file = rewritten ? board : B;
+        size_t bytes = rewritten ? length : sizeof B;
+        size_t timers = rewritten ? 1 : 2;
+        printf("%s\n", rewritten ? "rewritten" : "drawn");
+        play(file, bytes, counts, timers, transitions, in_time, LENGTH(in_time));
+        play(file, bytes, counts, timers, transitions, late, LENGTH(late));
+        play(file, bytes, counts, timers, transitions, back, LENGTH(back));
+        play(file, bytes, counts, timers, transitions, early, LENGTH(early));
+        play(file, bytes, over, timers, transitions, in_time, LENGTH(in_time));
+        play(file, bytes, counts, timers, NULL, NULL, 0);
+    }
+    play(NULL, 0, NULL, 0, NULL, NULL, 0);
+    return 0;
+}
