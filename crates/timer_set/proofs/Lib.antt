@@ -2,3 +2,4 @@ pub mod Digits
 pub mod Members
 pub mod Machine
 pub mod Counts
+pub mod Below

@@ -3,9 +3,9 @@
 use mathlib.Core.Bool.{Bool, not}
 use mathlib.Core.List.{List, foldl}
 use Prim.Native.Nat.{ℕ, _-_, _/_, _%_, _^_}
-use lib.Dec.{eqb}
+use lib.Dec.{leb, eqb}
 use lib.Bits.{bitAnd, bitOr, bitXor}
-use Rattle.lists.specs.Lists.{lowest, pick}
+use Rattle.lists.specs.Lists.{anyOf, lowest, pick}
 
 -- j is in w
 unfoldable pub member : (w j : ℕ) → Bool
@@ -41,6 +41,10 @@ setOf l = foldl added 0 l
 -- the timers of a set, rising
 unfoldable pub members : ℕ → List ℕ
 members w = pick (member w) 64
+
+-- every timer of the set is below n
+unfoldable pub allBelow : (n w : ℕ) → Bool
+allBelow n w = not (anyOf (λ j. leb n j) (members w))
 
 -- the lowest of the 64 timers that is not in the set, or 64
 unfoldable pub lowestMissing : ℕ → ℕ

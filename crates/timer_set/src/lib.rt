@@ -3,7 +3,7 @@ ghost use mathlib.Core.Path.{_≡_};
 ghost use Prim.Native.Nat.{_<_};
 ghost use lib.Dec.{eqb};
 ghost use lib.Count.{ones};
-ghost use Rattle.timer_set.specs.Members.{member, joined, common, minus, added, removed, lowestMissing};
+ghost use Rattle.timer_set.specs.Members.{member, joined, common, minus, added, removed, allBelow, lowestMissing};
 
 pub struct TimerSet {
     pub bits: u64,
@@ -78,6 +78,13 @@ impl TimerSet {
         ensures { λ r. ⌜ r ≡ ones (self .bits) ⌝ }
     {
         u64::count_ones(self.bits)
+    }
+
+    // Every timer of the set is below n.
+    pub fn all_below(self, n: u8) -> bool
+        ensures { λ r. ⌜ r ≡ allBelow n (self .bits) ⌝ }
+    {
+        if n < 64 { self.bits >> n == 0 } else { true }
     }
 
     // The lowest timer that is not in the set, 64 where none is missing.

@@ -1,0 +1,93 @@
+-- The list of cells of placed families, how many numbers these use, and families placed one list after another. Assumes nothing.
+use mathlib.Core.Path.{_≡_, refl, sym, ap, _∙_, subst}
+use mathlib.Core.Logic.{_⊎_, inl, inr}
+use mathlib.Core.Bool.{Bool, true, _||_, true≢false}
+use mathlib.Core.Option.{Option, none, some}
+use mathlib.Core.List.{List, [], _∷_, _++_}
+use Prim.Native.Nat.{ℕ, zero, suc, _+_, _*_, _/_, _%_, _≤_, _<_, max}
+use native.Mathlib.Decide.{ℕ-discrete}
+use native.Mathlib.Omega.{arith}
+use lib.ListN.{length, getD}
+use lib.Seq.{ext-getD}
+use Rattle.lists.specs.Lists.{top}
+use Rattle.lists.proofs.Bools.{or-cases, or-left, or-right, lt-or-le}
+use Rattle.lists.proofs.Gather.{length-upTo, getD-upTo}
+use Rattle.model.specs.Family.{Family}
+use Rattle.model.specs.FirstFit.{Placed, held, free, place, usedBy, numberAt}
+use Rattle.model.proofs.FirstFit.{free-least, held-out, used-above}
+use Rattle.allocation.specs.Cells.{noNumber, cell, cells}
+use Rattle.allocation.specs.Numbering.{anyBelow}
+
+-- ---- some number below n passes
+
+pub below-in : (f : ℕ → Bool) (n k : ℕ) → k < n → f k ≡ true → anyBelow f n ≡ true
+unfolding anyBelow
+below-in f zero k h t = absurd (omega arith)
+below-in f (suc n) k h t = go (ℕ-discrete k n) (below-in f n k)
+  where
+    go : Dec (k ≡ n) → (k < n → f k ≡ true → anyBelow f n ≡ true) → (anyBelow f n || f n) ≡ true
+    go (yes e) ih = or-right (anyBelow f n) (ap f (sym e) ∙ t)
+    go (no ne) ih = or-left (f n) (ih (omega arith) t)
+
+pub below-out : (f : ℕ → Bool) (n : ℕ) → anyBelow f n ≡ true → (k : ℕ) × (k < n) × (f k ≡ true)
+unfolding anyBelow
+below-out f zero h = absurd (true≢false (sym h))
+below-out f (suc n) h = go (or-cases (anyBelow f n) h) (below-out f n)
+  where
+    go : (anyBelow f n ≡ true) ⊎ (f n ≡ true) → (anyBelow f n ≡ true → (k : ℕ) × (k < n) × (f k ≡ true)) → (k : ℕ) × (k < suc n) × (f k ≡ true)
+    go (inl a) ih = let r = ih a in (r .0, omega (arith, r .1), r .2)
+    go (inr b) ih = (n, omega arith, b)
+
+-- ---- cells
+
+div64 : (s i : ℕ) → i < 64 → (64 * s + i) / 64 ≡ s
+div64 s i h = omega arith
+
+mod64 : (s i : ℕ) → i < 64 → (64 * s + i) % 64 ≡ i
+mod64 s i h = omega arith
+
+module _ (ps : List Placed) (n : ℕ) where
+  pub cells-length : length (cells ps n) ≡ 64 * n
+  unfolding cells
+  cells-length = length-upTo _ (64 * n)
+
+  pub cells-at : (s i : ℕ) → s < n → i < 64 → getD (cells ps n) (64 * s + i) 0 ≡ cell (numberAt ps s i)
+  unfolding cells
+  cells-at s i h k = getD-upTo _ (64 * n) (64 * s + i) 0 (omega arith) ∙ rw (div64 s i k, mod64 s i k) refl
+
+  -- a list with these cells
+  pub cells-is : (l : List ℕ) → length l ≡ 64 * n → ((s i : ℕ) → s < n → i < 64 → getD l (64 * s + i) 0 ≡ cell (numberAt ps s i)) → l ≡ cells ps n
+  cells-is l long at = ext-getD 0 l (cells ps n) (long ∙ sym cells-length)
+      (λ x h.
+      let e : 64 * (x / 64) + x % 64 ≡ x = omega arith in
+      subst (λ (y : ℕ). getD l y 0 ≡ getD (cells ps n) y 0) e
+      (at (x / 64) (x % 64) (omega arith) (omega arith) ∙ sym (cells-at (x / 64) (x % 64) (omega arith) (omega arith))))
+
+pub cell-some : (o : Option ℕ) (k : ℕ) → k < 65535 → cell o ≡ k → o ≡ some k
+cell-some none k h e = absurd (omega arith)
+cell-some (some x) k h e = ap some e
+
+pub cells-none : (n : ℕ) (l : List ℕ) → length l ≡ 64 * n → ((x : ℕ) → x < 64 * n → getD l x 0 ≡ noNumber) → l ≡ cells [] n
+unfolding numberAt
+cells-none n l long clear = cells-is [] n l long (λ s i h k. clear (64 * s + i) (omega arith))
+
+-- ---- how many numbers are used
+
+pub used-more : (g : Placed) (ps : List Placed) → usedBy (g ∷ ps) ≡ max (suc (g .number)) (usedBy ps)
+unfolding usedBy top
+used-more g ps = refl
+
+-- the next number is at most one that no family has
+pub free-used : (f : Family) (ps : List Placed) → free (held f ps) ≤ usedBy ps
+free-used f ps = go (lt-or-le (usedBy ps) (free (held f ps)))
+  where
+    go : (usedBy ps < free (held f ps)) ⊎ (free (held f ps) ≤ usedBy ps) → free (held f ps) ≤ usedBy ps
+    go (inl h) =
+        let b = held-out f (usedBy ps) ps (free-least (held f ps) (usedBy ps) h) in
+        absurd (omega (arith, b .number, used-above ps (b .place) (b .holder) (b .is-nth)))
+    go (inr h) = h
+
+pub place-append : (fs gs : List Family) (ps : List Placed) → place (fs ++ gs) ps ≡ place gs (place fs ps)
+unfolding place
+place-append [] gs ps = refl
+place-append (f ∷ fs) gs ps = place-append fs gs _

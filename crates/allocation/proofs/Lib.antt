@@ -1,0 +1,10 @@
+pub mod CodePairs
+pub mod Labels
+pub mod Turns
+pub mod Filling
+pub mod Rows
+pub mod CellList
+pub mod Placing
+pub mod Flatten
+pub mod LabelFamilies
+pub mod ChartPairs

@@ -1,0 +1,93 @@
+-- The numbers of a word that stand in rows, and the lowest that stands in none, word by word. Assumes nothing.
+use mathlib.Core.Path.{_≡_, refl, sym, ap, _∙_}
+use mathlib.Core.Logic.{_⊎_, inl, inr}
+use mathlib.Core.Bool.{Bool, true, false, not, _||_}
+use mathlib.Core.List.{List}
+use Prim.Native.Nat.{ℕ, _+_, _-_, _*_, _/_, _%_, _≤_, _<_}
+use native.Mathlib.Numerals.{add-one}
+use native.Mathlib.Omega.{arith}
+use lib.Dec.{eqb}
+use lib.ListN.{getD}
+use borrow.Author.Tests.{eq-eqb, ne-eqb}
+use Rattle.lists.specs.Lists.{lowest}
+use Rattle.lists.proofs.Bools.{same-bool, same-number, not-false, lt-or-le}
+use Rattle.lists.proofs.Lowest.{lowest-passes, lowest-before, lowest-is}
+use Rattle.timer_set.specs.Members.{member, added, lowestMissing}
+use Rattle.timer_set.proofs.Members.{member-added, member-empty}
+use Rattle.allocation.specs.Numbering.{anyBelow, inFamily, inRow, taken}
+
+or-false : (b : Bool) → b ≡ (b || false)
+or-false true = refl
+or-false false = refl
+
+or-assoc : (a b c : Bool) → ((a || b) || c) ≡ (a || (b || c))
+or-assoc true b c = refl
+or-assoc false b c = refl
+
+-- ---- one row
+
+module _ (numbers : List ℕ) (s w : ℕ) where
+  pub row-none : (b : Bool) (x : ℕ) → b ≡ (b || inRow numbers s (64 * w + x) 0)
+  unfolding inRow anyBelow
+  row-none b x = or-false b
+
+  module _ (set before i x : ℕ) (h : x < 64) (e : member set x ≡ (member before x || inRow numbers s (64 * w + x) i)) where
+    abbrev y : ℕ
+    y = getD numbers (64 * s + i) 0
+
+    row-more : member set x || eqb y (64 * w + x) ≡ (member before x || inRow numbers s (64 * w + x) (i + 1))
+    unfolding inRow anyBelow
+    row-more = rw (add-one, e) (or-assoc (member before x) _ _)
+
+    pub row-yes : y / 64 ≡ w → member (added set (y % 64)) x ≡ (member before x || inRow numbers s (64 * w + x) (i + 1))
+    row-yes d = member-added set (y % 64) x ∙ ap (λ (b : Bool). member set x || b) same ∙ row-more
+      where
+        same : eqb x (y % 64) ≡ eqb y (64 * w + x)
+        same = same-bool _ _
+            (λ t. let n : x ≡ y % 64 = same-number t in eq-eqb y (64 * w + x) (omega arith))
+            (λ t. let n : y ≡ 64 * w + x = same-number t in eq-eqb x (y % 64) (omega arith))
+
+    pub row-no : (y / 64 ≡ w → ⊥) → member set x ≡ (member before x || inRow numbers s (64 * w + x) (i + 1))
+    row-no d = or-false (member set x) ∙ ap (λ (b : Bool). member set x || b) (sym (ne-eqb y (64 * w + x) (λ n. d (omega arith)))) ∙ row-more
+
+-- ---- the rows of a family
+
+module _ (labels live numbers : List ℕ) (q j : ℕ) where
+  pub taken-none : (k x : ℕ) → member 0 x ≡ taken labels live numbers q j k 0
+  unfolding taken anyBelow
+  taken-none k x = member-empty x
+
+  module _ (s k : ℕ) where
+    pub taken-yes : inFamily labels live q j s ≡ true → (taken labels live numbers q j k s || inRow numbers s k 64) ≡ taken labels live numbers q j k (s + 1)
+    unfolding taken anyBelow
+    taken-yes e = rw (add-one, e)
+
+    pub taken-no : inFamily labels live q j s ≡ false → taken labels live numbers q j k s ≡ taken labels live numbers q j k (s + 1)
+    unfolding taken anyBelow
+    taken-no e = rw (add-one, e) (or-false _)
+
+-- ---- the lowest number that does not pass, 64 at a time
+
+module _ (f : ℕ → Bool) (set w : ℕ) (word : (x : ℕ) → x < 64 → member set x ≡ f (64 * w + x)) (below : (k : ℕ) → k < 64 * w → f k ≡ true) where
+  -- the numbers of the word below its lowest missing one pass
+  word-below : (k : ℕ) → k < 64 * w + lowestMissing set → k < 64 * w + 64 → f k ≡ true
+  unfolding lowestMissing
+  word-below k h h′ = go (lt-or-le k (64 * w))
+    where
+      go : (k < 64 * w) ⊎ (64 * w ≤ k) → f k ≡ true
+      go (inl l) = below k l
+      go (inr l) =
+          let e : 64 * w + (k - 64 * w) ≡ k = omega arith in
+          rw e at (sym (word (k - 64 * w) (omega arith)) ∙ not-false _ (lowest-before (λ j. not (member set j)) 64 (k - 64 * w) (omega arith)))
+
+  pub word-found : lowestMissing set < 64 → w < 256 → 64 * w + lowestMissing set ≡ lowest (λ k. not (f k)) 16384
+  unfolding lowestMissing
+  word-found h l = sym (lowest-is (λ k. not (f k)) 16384 (64 * w + lowestMissing set) (omega arith)
+      (λ _. ap not (sym (word (lowestMissing set) h)) ∙ lowest-passes (λ j. not (member set j)) 64 h)
+      (λ k b. ap not (word-below k b (omega arith))))
+
+  pub word-full : 64 ≤ lowestMissing set → (k : ℕ) → k < 64 * (w + 1) → f k ≡ true
+  word-full h k b = word-below k (omega arith) (omega arith)
+
+pub all-full : (f : ℕ → Bool) → ((k : ℕ) → k < 16384 → f k ≡ true) → 16384 ≡ lowest (λ k. not (f k)) 16384
+all-full f h = sym (lowest-is (λ k. not (f k)) 16384 16384 (omega arith) (λ b. absurd (omega arith)) (λ k b. ap not (h k b)))

@@ -1,0 +1,37 @@
+-- What the analysis of a chart file answers, and what it leaves in the lent list. Assumes nothing.
+use mathlib.Core.List.{List}
+use Prim.Native.Nat.{ℕ}
+use lib.Dec.{leb}
+use Rattle.model.specs.Answer.{Answer, result, refused, then, unless, nowhere}
+use Rattle.model.specs.Chart.{Chart}
+use Rattle.model.specs.Live.{liveSets}
+use Rattle.model.specs.FirstFit.{used, floor}
+use Rattle.chart_lists.specs.Lists.{put}
+use Rattle.chart_lists.specs.Numbers.{refusedAs}
+use Rattle.judgement.specs.Judging.{judgedIn}
+use Rattle.analysis.specs.declared.Analysis.{Analysis}
+use Rattle.analysis.specs.declared.Analysis.the-variants as analysis
+
+-- 1 to 10, then 21 if the lent list is shorter than the number of locations
+unfoldable pub analysedIn : (room : ℕ) → List ℕ → Answer Chart
+analysedIn room bs = then (judgedIn bs) (λ c. unless (leb (c .locations) room) 21 nowhere (result c))
+
+pub record Figures : Type 0 where
+  pub used : ℕ
+  pub floor : ℕ
+
+unfoldable pub figuresOf : Chart → Figures
+figuresOf c = record { used = used c; floor = floor c }
+
+unfoldable pub analyseAnswer : (room : ℕ) → List ℕ → Answer Figures
+analyseAnswer room bs = then (analysedIn room bs) (λ c. result (figuresOf c))
+
+-- the lent list afterwards: the live set of each location over its front, or as it was
+abbrev pub listAfter : Answer Chart → List ℕ → List ℕ
+listAfter (result c) l = put (liveSets c) l
+listAfter (refused n p) l = l
+
+-- what an answer of the code means
+abbrev pub meantAnalysis : Analysis → Answer Figures
+meantAnalysis (analysis.Found u f) = result (record { used = u; floor = f })
+meantAnalysis (analysis.Refused f) = refusedAs f

@@ -1,0 +1,4 @@
+pub mod RewrittenLists
+pub mod Order
+pub mod Fits
+pub mod Refusals

@@ -1,0 +1,193 @@
+-- The record of a transition that is handed over is what the code writes for it, and so are all of them. Assumes nothing.
+use mathlib.Core.Path.{_≡_, refl, sym, ap, _∙_, subst}
+use mathlib.Core.Option.{Option, none, some}
+use mathlib.Core.List.{List, [], _∷_, append-assoc}
+use Prim.Native.Nat.{ℕ, zero, suc, _+_, _-_, _*_, _≤_, _<_}
+use native.Mathlib.Numerals.{add-one}
+use native.Mathlib.Omega.{arith}
+use lib.ListN.{length, drop, getD, getElem?}
+use borrow.Rule.Slice.PartMut.{midOf, putMid}
+use Rattle.lists.specs.Lists.{gather}
+use Rattle.timer_set.specs.Members.{members}
+use Rattle.comparison.specs.Comparison.{codeOf}
+use Rattle.model.specs.Answer.{Answer, result, refused}
+use Rattle.model.specs.Chart.{Test, Transition}
+use Rattle.file_format.specs.Parse.{writeAll}
+use Rattle.file_format.specs.Body.{writeTest, writeTransition}
+use Rattle.file_format.proofs.Lengths.{length-transition}
+use Rattle.chart_lists.specs.Lists.{Lists, put}
+use Rattle.writer.specs.Handing.{handedTest, handedTests, handedTransition, handedTransitions}
+use Rattle.writer.specs.Parts.{testLists}
+use Rattle.writer.specs.Bytes.{testBytes, testAt, testsBytes, headBytes, recordBytes, Room, bytesOf, records}
+use Rattle.writer.proofs.Entries.{nth-bound, nth-is}
+use Rattle.writer.proofs.Items.{Each, items-each, items-length, each-nth, each-room}
+use Rattle.writer.proofs.Parts.{tests-items, transitions-items}
+use Rattle.writer.proofs.Handed.{TestOf, test-of, TransitionOf, transition-of, tests-length}
+use Rattle.writer.proofs.Turns.{length-record}
+use Rattle.writer.proofs.Writes.{Wrote, wrote-first, wrote-done, wrote-room, wrote-again, gather-all}
+
+-- ---- tests
+
+module _ (l : Lists) (timers i : ℕ) where
+  abbrev TestsFrom : ℕ → List Test → Type 0
+  TestsFrom k ts = Each (λ k s. handedTest l timers i k) (λ s t. s) k 0 ts
+
+  tests-from : (k g : ℕ) (ts : List Test) → handedTests l timers i k g ≡ result ts → TestsFrom k ts
+  tests-from k g ts e = items-each (λ k s. handedTest l timers i k) (λ s t. s) k 0 g ts (sym (tests-items l timers i k g) ∙ e)
+
+  test-at : (k : ℕ) (t : Test) → TestOf l timers k t → testAt l k ≡ writeTest 2 t
+  unfolding testAt testBytes writeTest
+  test-at k t h = rw (nth-is (l .timers) k (h .timer), nth-is (l .codes) k (h .code), nth-is (l .constants) k (h .constant))
+
+  pub tests-bytes : (k g : ℕ) (ts : List Test) → handedTests l timers i k g ≡ result ts → testsBytes l k g ≡ writeAll (writeTest 2) ts
+  unfolding testsBytes
+  tests-bytes k g ts e =
+      rw (← tests-length l timers i k g ts e) (gather-all (writeTest 2) ts (λ t. testAt l (k + t)) (λ j t n. test-at (k + j) t (each-nth (λ k s. handedTest l timers i k) (λ s t. s) (TestOf l timers) (λ k s t. test-of l timers i k t) k 0 ts (tests-from k g ts e) j t n)))
+
+-- ---- a transition
+
+-- the bytes that the code writes for transition i
+abbrev pub recordAt : Lists → (i k : ℕ) → List ℕ
+recordAt l i k =
+    recordBytes (getD (l .sources) i 0) (getD (l .targets) i 0) (getD (l .events) i 0) (getD (l .starts) i 0)
+    (testLists (l .timers) (l .codes) (l .constants)) k (getD (l .counts) i 0)
+
+module _ (l : Lists) (locations timers i k : ℕ) (r : Transition) (h : TransitionOf l locations timers i k r) where
+  record-bytes : recordAt l i k ≡ writeTransition 2 r
+  unfolding recordBytes headBytes writeTransition testsBytes testAt
+  record-bytes =
+      rw (
+        nth-is (l .sources) i (h .source),
+        nth-is (l .targets) i (h .target),
+        nth-is (l .events) i (h .event),
+        nth-is (l .starts) i (h .starts),
+        nth-is (l .counts) i (h .count),
+        ← h .starts-are,
+        tests-bytes l timers i k (length (r .tests)) (r .tests) (h .tests),
+      ) (simp append-assoc)
+
+  record-size : 9 + length (members (getD (l .starts) i 0)) + 4 * getD (l .counts) i 0 ≡ length (writeTransition 2 r)
+  record-size =
+      rw (nth-is (l .starts) i (h .starts), nth-is (l .counts) i (h .count), ← h .starts-are, length-transition) (sym (length-record r))
+
+  test-room : (f : Test → ℕ) (w : List ℕ) → ((k : ℕ) (t : Test) → TestOf l timers k t → getElem? w k ≡ some (f t)) → getD (l .counts) i 0 ≤ length w - k
+  test-room f w e =
+      rw (nth-is (l .counts) i (h .count)) (each-room (λ k s. handedTest l timers i k) (λ s t. s) f w (λ k s t o. e k t (test-of l timers i k t o)) k 0 (r .tests) (tests-from l timers i k (length (r .tests)) (r .tests) (h .tests)))
+
+-- ---- all transitions
+
+drop-nth : {A : Type 0} (xs : List A) (i : ℕ) → i < length xs → (a : A) × (getElem? xs i ≡ some a) × (drop i xs ≡ a ∷ drop (suc i) xs)
+drop-nth [] i h = absurd (omega arith)
+drop-nth (x ∷ xs) zero h = (x, refl, refl)
+drop-nth (x ∷ xs) (suc i) h = drop-nth xs i (omega arith)
+
+abbrev pub listOf : {A : Type 0} → Answer (List A) → List A
+listOf (result xs) = xs
+listOf (refused n p) = []
+
+abbrev written : Option Transition → List ℕ
+written none = []
+written (some r) = writeTransition 2 r
+
+-- the record of transition i
+unfoldable pub recordOf : List Transition → ℕ → List ℕ
+recordOf rs i = written (getElem? rs i)
+
+module _ (l : Lists) (locations timers n : ℕ) where
+  abbrev handedOver : Answer (List Transition)
+  handedOver = handedTransitions l locations timers 0 0 n
+
+  abbrev Left : (i k : ℕ) → List Transition → Type 0
+  Left i k rs = Each (handedTransition l locations timers) (λ k r. k + length (r .tests)) i k rs
+
+  -- i records are written; the next goes to place at, and its tests begin at place k of the lists
+  pub record Writing (first out : List ℕ) (at k i : ℕ) : Type 0 where
+    pub wrote : Wrote (recordOf (listOf handedOver)) n first out at i
+    pub left : Left i k (drop i (listOf handedOver))
+    pub few : k ≤ 8 * i
+
+  module _ (first : List ℕ) (room : Room records handedOver (length first)) where
+    handed-list : listOf handedOver ≡ room .item
+    handed-list = ap listOf (room .is)
+
+    list-length : length (listOf handedOver) ≡ n
+    list-length =
+        rw handed-list (items-length (handedTransition l locations timers) (λ k r. k + length (r .tests)) 0 0 n (room .item)
+        (sym (transitions-items l locations timers 0 0 n) ∙ room .is))
+
+    all-records : gather (recordOf (listOf handedOver)) n ≡ records (listOf handedOver)
+    unfolding records recordOf
+    all-records =
+        ap (gather (recordOf (listOf handedOver))) (sym list-length)
+        ∙ gather-all (writeTransition 2) (listOf handedOver) (recordOf (listOf handedOver)) (λ i r e. ap written e)
+
+    pub writing-first : Writing first first 0 0 0
+    writing-first = record {
+      wrote = wrote-first _ n first;
+      left = rw handed-list (items-each (handedTransition l locations timers) (λ k r. k + length (r .tests)) 0 0 n (room .item)
+          (sym (transitions-items l locations timers 0 0 n) ∙ room .is));
+      few = omega arith;
+    }
+
+    module _ {out : List ℕ} {at k i : ℕ} (w : Writing first out at k i) where
+      pub writing-done : n ≤ i → out ≡ put (bytesOf records handedOver) first
+      writing-done h = wrote-done (w .wrote) h ∙ ap (λ (xs : List ℕ). put xs first) (all-records ∙ ap records handed-list ∙ sym (ap (bytesOf records) (room .is)))
+
+      module _ (m : i < n) where
+        next-there : (r : Transition) × (getElem? (listOf handedOver) i ≡ some r) × (drop i (listOf handedOver) ≡ r ∷ drop (suc i) (listOf handedOver))
+        next-there = drop-nth (listOf handedOver) i (omega (arith, list-length))
+
+        abbrev next : Transition
+        next = next-there .0
+
+        next-left : (handedTransition l locations timers i k ≡ result next) × Left (suc i) (k + length (next .tests)) (drop (suc i) (listOf handedOver))
+        next-left = subst (Left i k) (next-there .2) (w .left)
+
+        next-of : TransitionOf l locations timers i k next
+        next-of = transition-of l locations timers i k next (next-left .0)
+
+        -- what the code needs to know to write the next record
+        pub record Next : Type 0 where
+          pub source : i < length (l .sources)
+          pub target : i < length (l .targets)
+          pub event : i < length (l .events)
+          pub starts : i < length (l .starts)
+          pub count : i < length (l .counts)
+          pub few : getD (l .counts) i 0 ≤ 8
+          pub timers-room : getD (l .counts) i 0 ≤ length (l .timers) - k
+          pub codes-room : getD (l .counts) i 0 ≤ length (l .codes) - k
+          pub constants-room : getD (l .counts) i 0 ≤ length (l .constants) - k
+          pub fits : at + (9 + length (members (getD (l .starts) i 0)) + 4 * getD (l .counts) i 0) ≤ length out
+
+        next-bytes : recordOf (listOf handedOver) i ≡ writeTransition 2 next
+        unfolding recordOf
+        next-bytes = ap written (next-there .1)
+
+        pub writing-next : Next
+        unfolding records
+        writing-next =
+            let h = next-of in
+            record {
+              source = nth-bound (l .sources) i (h .source);
+              target = nth-bound (l .targets) i (h .target);
+              event = nth-bound (l .events) i (h .event);
+              starts = nth-bound (l .starts) i (h .starts);
+              count = nth-bound (l .counts) i (h .count);
+              few = rw (nth-is (l .counts) i (h .count)) (h .few-tests);
+              timers-room = test-room l locations timers i k next h (λ t. t .timer) (l .timers) (λ k t o. o .timer);
+              codes-room = test-room l locations timers i k next h (λ t. codeOf (t .comparison)) (l .codes) (λ k t o. o .code);
+              constants-room = test-room l locations timers i k next h (λ t. t .constant) (l .constants) (λ k t o. o .constant);
+              fits = rw (record-size l locations timers i k next h, ← next-bytes) (wrote-room (w .wrote) m (rw (all-records, handed-list) (room .fits)));
+            }
+
+        pub writing-again : {last : List ℕ} {at′ : ℕ}
+            → last ≡ put (recordAt l i k) (midOf at (length out - at) out)
+            → length last ≡ length (midOf at (length out - at) out)
+            → at′ ≡ at + (9 + length (members (getD (l .starts) i 0)) + 4 * getD (l .counts) i 0)
+            → Writing first (putMid at (length out - at) out last) at′ (k + getD (l .counts) i 0) (i + 1)
+        writing-again {last} {at′} e s p = record {
+          wrote = wrote-again (w .wrote) m (next-bytes ∙ sym (record-bytes l locations timers i k next next-of)) e s
+              (p ∙ rw (record-bytes l locations timers i k next next-of, record-size l locations timers i k next next-of));
+          left = rw (nth-is (l .counts) i (next-of .count), add-one i) (next-left .1);
+          few = omega (arith, w .few, writing-next .few);
+        }

@@ -1,0 +1,60 @@
+use mathlib.Core.Path.{sym, _∙_}
+use borrow.Author.Needs.{needs}
+use Rattle.writer.proofs.Answers.{found, turned}
+use Rattle.writer.proofs.Judging.{entry-limited, test-timer, test-code, test-constant}
+use Rattle.writer.proofs.judge_test.Statement.{statement}
+use Rattle.writer.proofs.judge_test.Tie as tie
+
+byte-at-requires : tie.Need-byte-at-requires
+byte-at-requires c κs = search needs
+
+below-requires : tie.Need-below-requires
+below-requires c κs = search needs
+
+enum-told : tie.Need-enum-told
+enum-told c = search needs
+
+enum-told-2 : tie.Need-enum-told-2
+enum-told-2 c = search needs
+
+returns : tie.Need-returns
+returns c = let e = entry-limited _ _ _ _ _ (c .before .before .before .byte-at .ensures) (c .before .before .below .ensures) in
+    let h = turned (c .enum-told2 .given .1) e in
+    e ∙ h ∙ sym (test-timer _ _ _ _ h)
+
+judge-code-requires : tie.Need-judge-code-requires
+judge-code-requires c κs = search needs
+
+enum-told-3 : tie.Need-enum-told-3
+enum-told-3 c = search needs
+
+enum-told-4 : tie.Need-enum-told-4
+enum-told-4 c = search needs
+
+returns-2 : tie.Need-returns-2
+returns-2 c = let e = entry-limited _ _ _ _ _ (c .before .before .before .before .before .before .byte-at .ensures) (c .before .before .before .before .before .below .ensures) in
+    let h = turned (c .enum-told4 .given .1) (c .before .before .judge-code .ensures) in
+    c .before .before .judge-code .ensures ∙ h ∙ sym (test-code _ _ _ _ (found (c .before .before .before .enum-told .given .1) e) h)
+
+pair-at-requires : tie.Need-pair-at-requires
+pair-at-requires c κs = search needs
+
+returns-3 : tie.Need-returns-3
+returns-3 c = let e = entry-limited _ _ _ _ _ (c .before .before .before .before .before .before .before .byte-at .ensures) (c .before .before .before .before .before .before .below .ensures) in
+    c .pair-at .ensures ∙ sym (test-constant _ _ _ _ (found (c .before .before .before .before .enum-told .given .1) e) (found (c .before .enum-told3 .given .1) (c .before .before .before .judge-code .ensures)))
+
+pub judge-test-spec : {M : Type 1} → statement M
+judge-test-spec =
+    tie.close
+    (tie.spec
+    byte-at-requires
+    below-requires
+    enum-told
+    enum-told-2
+    returns
+    judge-code-requires
+    enum-told-3
+    enum-told-4
+    returns-2
+    pair-at-requires
+    returns-3)

@@ -1,0 +1,74 @@
+-- The bytes that the code writes, by the entries of the lists. That they are those of the chart handed over is shown in proofs/.
+-- Assumes nothing.
+use mathlib.Core.Path.{_≡_}
+use mathlib.Core.List.{List, [], _++_}
+use Prim.Native.Nat.{ℕ, _+_, _≤_}
+use lib.ListN.{length, getD}
+use Rattle.lists.specs.Lists.{gather}
+use Rattle.timer_set.specs.Members.{members}
+use Rattle.model.specs.Answer.{Answer, result, refused}
+use Rattle.model.specs.Chart.{Transition, Chart}
+use Rattle.file_format.specs.Parse.{digits, writeAll}
+use Rattle.file_format.specs.Body.{recordLength, writeTransition}
+use Rattle.file_format.specs.File.{fileOf}
+use Rattle.chart_lists.specs.Lists.{Lists}
+use Rattle.chart_lists.specs.declared.Numbers.{Numbers}
+use Rattle.writer.specs.Handing.{handed}
+
+-- the first n numbers of a list, in w bytes each
+unfoldable pub numberBytes : (w : ℕ) → List ℕ → (n : ℕ) → List ℕ
+numberBytes w l n = gather (λ i. digits w (getD l i 0)) n
+
+-- a test
+unfoldable pub testBytes : (timer code constant : ℕ) → List ℕ
+testBytes timer code constant = digits 1 timer ++ (digits 1 code ++ digits 2 constant)
+
+-- the test at place k of the lists
+unfoldable pub testAt : Lists → (k : ℕ) → List ℕ
+testAt l k = testBytes (getD (l .timers) k 0) (getD (l .codes) k 0) (getD (l .constants) k 0)
+
+-- g tests from place k on
+unfoldable pub testsBytes : Lists → (k g : ℕ) → List ℕ
+testsBytes l k g = gather (λ t. testAt l (k + t)) g
+
+-- the first eight bytes of a record
+unfoldable pub headBytes : (size source target event s : ℕ) → List ℕ
+headBytes size source target event s = digits 2 size ++ (digits 2 source ++ (digits 2 target ++ (digits 1 event ++ digits 1 s)))
+
+-- the record of a transition that starts the timers of w and has g tests from place k on
+unfoldable pub recordBytes : (source target event w : ℕ) → Lists → (k g : ℕ) → List ℕ
+recordBytes source target event w l k g =
+    let s = length (members w) in
+    headBytes (recordLength 2 s g) source target event s ++ (writeAll (digits 1) (members w) ++ (digits 1 g ++ testsBytes l k g))
+
+-- version, length of what follows, and the header up to the accepting locations
+unfoldable pub frontBytes : (size : ℕ) → Numbers → List ℕ
+frontBytes size m =
+    digits 1 1
+    ++ (digits 4 size
+    ++ (digits 2 (m .locations)
+    ++ (digits 2 (m .initial)
+    ++ (digits 1 (m .timers)
+    ++ digits 2 (m .accepting)))))
+
+-- what a writer asks: there is a result, and room for its bytes
+pub record Room {A : Type 0} (w : A → List ℕ) (x : Answer A) (room : ℕ) : Type 0 where
+  pub item : A
+  pub is : x ≡ result item
+  pub fits : length (w item) ≤ room
+
+-- the bytes of a result
+abbrev pub bytesOf : {A : Type 0} → (A → List ℕ) → Answer A → List ℕ
+bytesOf w (result a) = w a
+bytesOf w (refused n p) = []
+
+-- the records of the transitions that are handed over
+unfoldable pub records : List Transition → List ℕ
+records rs = writeAll (writeTransition 2) rs
+
+-- what the writer of the file asks: the chart was judged, n is the length of its file, and there is room for it
+pub record Judged (m : Numbers) (l : Lists) (n room : ℕ) : Type 0 where
+  pub chart : Chart
+  pub is : handed m l ≡ result chart
+  pub size : n ≡ length (fileOf chart)
+  pub fits : n ≤ room

@@ -1,0 +1,82 @@
+-- The parts of a chart in lists that the code judges one after another, and what it keeps of each. That they make up `handed` is shown in
+-- proofs/. Assumes nothing.
+use mathlib.Core.Bool.{not}
+use mathlib.Core.List.{List, []}
+use Prim.Native.Nat.{ℕ}
+use lib.Dec.{leb, ltb}
+use lib.ListN.{length}
+use Rattle.timer_set.specs.Members.{members}
+use Rattle.comparison.specs.Comparison.{comparisonOf}
+use Rattle.model.specs.Answer.{Answer, result, then, unless, nowhere}
+use Rattle.model.specs.Chart.{Transition}
+use Rattle.file_format.specs.File.{fileOf}
+use Rattle.file_format.specs.Lengths.{total, transitionLength}
+use Rattle.chart_lists.specs.Lists.{Lists, lists}
+use Rattle.chart_lists.specs.declared.Numbers.{Numbers}
+use Rattle.writer.specs.Handing.{entryAt, entryBelow, handedAccepting, known, handedTest, handedTests, beyond, handedTransition, handedTransitions, handed}
+
+-- a number below the limit, else the refusal n at the place p
+unfoldable pub limited : (limit n p : ℕ) → Answer ℕ → Answer ℕ
+limited limit n p x = then x (λ v. unless (ltb v limit) n p (result v))
+
+-- the numbers of locations and timers and the initial location
+unfoldable pub passNumbers : Numbers → Answer ℕ
+passNumbers m =
+    unless (ltb (m .locations) 257) 4 nowhere (
+    unless (leb 1 (m .locations)) 4 nowhere (
+    unless (ltb (m .initial) (m .locations)) 5 nowhere (
+    unless (ltb (m .timers) 65) 4 nowhere (
+    result 0))))
+
+-- the accepting locations: how many
+unfoldable pub passAccepting : (locations : ℕ) → List ℕ → (n : ℕ) → Answer ℕ
+passAccepting locations l n = then (handedAccepting locations l 0 0 n) (λ xs. result (length xs))
+
+-- the code of a comparison
+unfoldable pub passCode : List ℕ → (i k : ℕ) → Answer ℕ
+passCode l i k = then (entryAt l k) (λ code. then (known i (comparisonOf code)) (λ x. result code))
+
+-- the lists that the tests are in
+abbrev pub testLists : (timers codes constants : List ℕ) → Lists
+testLists j x k = lists [] [] [] [] [] [] j x k
+
+-- a test: its constant
+unfoldable pub passTest : Lists → (timers i k : ℕ) → Answer ℕ
+passTest l timers i k = then (handedTest l timers i k) (λ t. result (t .constant))
+
+-- g tests: how many
+unfoldable pub passTests : Lists → (timers i k g : ℕ) → Answer ℕ
+passTests l timers i k g = then (handedTests l timers i k g) (λ ts. result (length ts))
+
+-- the number of tests of transition i, and these tests
+unfoldable pub passCount : Lists → (counts : List ℕ) → (timers i k : ℕ) → Answer ℕ
+passCount l counts timers i k = then (entryAt counts i) (λ g. unless (leb g 8) 4 i (passTests l timers i k g))
+
+-- the source, the target and the event of transition i
+unfoldable pub passEnds : (sources targets events : List ℕ) → (locations i : ℕ) → Answer ℕ
+passEnds sources targets events locations i =
+    then (entryBelow sources i locations 5 i) (λ source. then (entryBelow targets i locations 5 i) (λ target. entryAt events i))
+
+-- the timers that transition i starts: how many
+unfoldable pub passStarts : List ℕ → (timers i : ℕ) → Answer ℕ
+passStarts l timers i = then (entryAt l i) (λ w. unless (not (beyond timers w)) 6 i (result (length (members w))))
+
+-- what gives the length of a record
+pub record Sizes : Type 0 where
+  pub starts : ℕ
+  pub tests : ℕ
+
+unfoldable pub sizesOf : Transition → Sizes
+sizesOf r = record { starts = length (r .starts); tests = length (r .tests) }
+
+-- transition i: its sizes
+unfoldable pub passTransition : Lists → (locations timers i k : ℕ) → Answer Sizes
+passTransition l locations timers i k = then (handedTransition l locations timers i k) (λ r. result (sizesOf r))
+
+-- n transitions: how many bytes their records have
+unfoldable pub passTransitions : Lists → (locations timers n : ℕ) → Answer ℕ
+passTransitions l locations timers n = then (handedTransitions l locations timers 0 0 n) (λ rs. result (total (transitionLength 2) rs))
+
+-- the whole chart: the length of its file
+unfoldable pub passChart : Numbers → Lists → Answer ℕ
+passChart m l = then (handed m l) (λ c. result (length (fileOf c)))
