@@ -12,9 +12,13 @@ use Rattle.judgement.specs.Judging.{judgedIn}
 use Rattle.analysis.specs.declared.Analysis.{Analysis}
 use Rattle.analysis.specs.declared.Analysis.the-variants as analysis
 
--- 1 to 10, then 21 if the lent list is shorter than the number of locations
+-- 21 if the lent list is shorter than the number of locations
+unfoldable pub analysedChart : (room : ℕ) → Chart → Answer Chart
+analysedChart room c = unless (leb (c .locations) room) 21 nowhere (result c)
+
+-- 1 to 10, then 21
 unfoldable pub analysedIn : (room : ℕ) → List ℕ → Answer Chart
-analysedIn room bs = then (judgedIn bs) (λ c. unless (leb (c .locations) room) 21 nowhere (result c))
+analysedIn room bs = then (judgedIn bs) (analysedChart room)
 
 pub record Figures : Type 0 where
   pub used : ℕ
@@ -23,8 +27,11 @@ pub record Figures : Type 0 where
 unfoldable pub figuresOf : Chart → Figures
 figuresOf c = record { used = used c; floor = floor c }
 
+abbrev pub figuresIn : Answer Chart → Answer Figures
+figuresIn x = then x (λ c. result (figuresOf c))
+
 unfoldable pub analyseAnswer : (room : ℕ) → List ℕ → Answer Figures
-analyseAnswer room bs = then (analysedIn room bs) (λ c. result (figuresOf c))
+analyseAnswer room bs = figuresIn (analysedIn room bs)
 
 -- the lent list afterwards: the live set of each location over its front, or as it was
 abbrev pub listAfter : Answer Chart → List ℕ → List ℕ

@@ -6,3 +6,4 @@ pub mod Corollaries
 pub mod Largest
 pub mod Loading
 pub mod Fronts
+pub mod Handed

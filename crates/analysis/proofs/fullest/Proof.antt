@@ -1,0 +1,79 @@
+-- `fullest`: the larger of the most so far and the fullest of the sets to come is the fullest of all. Assumes nothing.
+use mathlib.Core.Path.{_≡_, refl, sym, ap, _∙_}
+use mathlib.Core.List.{List, []}
+use Prim.Native.Nat.{ℕ, suc, max, _+_, _-_, _≤_, _<_}
+use native.Mathlib.Omega.{arith}
+use native.Mathlib.Numerals.{add-one}
+use lib.Count.{ones}
+use lib.ListN.{length, getD, drop}
+use lib.Seq.{drop-cons, drop-length}
+use Rattle.model.specs.FirstFit.{fullest}
+use borrow.Author.Needs.{needs}
+use Rattle.analysis.proofs.fullest.Statement.{statement}
+use Rattle.analysis.proofs.fullest.Tie as tie
+
+-- one set more, and no set more
+next : (sets : List ℕ) (q : ℕ) → q < length sets → fullest (drop q sets) ≡ max (ones (getD sets q 0)) (fullest (drop (q + 1) sets))
+unfolding fullest
+next sets q h = ap fullest (drop-cons sets q 0 h) ∙ ap (λ (k : ℕ). max (ones (getD sets q 0)) (fullest (drop k sets))) (sym (add-one q))
+
+none : (sets : List ℕ) {q : ℕ} → q ≡ length sets → fullest (drop q sets) ≡ 0
+unfolding fullest
+none sets e = ap (λ (k : ℕ). fullest (drop k sets)) e ∙ ap fullest (drop-length sets)
+
+abbrev Inv-loop : tie.InvT-loop
+Inv-loop sets n most₀ q₀ most q = (q ≤ n) × (n ≡ length sets) × (max most (fullest (drop q sets)) ≡ fullest sets)
+
+abbrev μ-loop : tie.MeasureT-loop
+μ-loop sets n most₀ q₀ most q = n - q
+
+loop-holds : tie.Need-loop-holds Inv-loop μ-loop
+loop-holds c = (omega arith, refl, omega arith)
+
+mul-t7 : tie.Need-mul-t7 Inv-loop μ-loop
+mul-t7 c = search needs
+
+shared-slice-read-t9 : tie.Need-shared-slice-read-t9 Inv-loop μ-loop
+shared-slice-read-t9 c = search needs
+
+count-requires : tie.Need-count-requires Inv-loop μ-loop
+count-requires c κs = search needs
+
+add-q : tie.Need-add-q Inv-loop μ-loop
+add-q c = search needs
+
+loop-less : tie.Need-loop-less Inv-loop μ-loop
+loop-less c = search needs
+
+loop-again : tie.Need-loop-again Inv-loop μ-loop
+loop-again c =
+    let l = c .before .before .before .before .loop in
+    (omega arith, refl, omega (arith, l .inv .2, next (c .before .before .before .before .before .before .args .sets .now) (l .q) (omega arith), c .before .count .ensures))
+
+loop-less-2 : tie.Need-loop-less-2 Inv-loop μ-loop
+loop-less-2 c = search needs
+
+loop-again-2 : tie.Need-loop-again-2 Inv-loop μ-loop
+loop-again-2 c =
+    let l = c .before .before .before .before .loop in
+    (omega arith, refl, omega (arith, l .inv .2, next (c .before .before .before .before .before .before .args .sets .now) (l .q) (omega arith), c .before .count .ensures))
+
+returns : tie.Need-returns Inv-loop μ-loop
+returns c = let l = c .before .loop in omega (arith, l .inv .2, none (c .before .before .before .args .sets .now) {q = l .q} (omega arith))
+
+pub fullest-spec : {M : Type 1} → statement M
+fullest-spec =
+    tie.close
+    (tie.spec
+    Inv-loop
+    μ-loop
+    loop-holds
+    mul-t7
+    shared-slice-read-t9
+    count-requires
+    add-q
+    loop-less
+    loop-again
+    loop-less-2
+    loop-again-2
+    returns)
