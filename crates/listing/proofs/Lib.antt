@@ -1,0 +1,4 @@
+pub mod Part
+pub mod Writes
+pub mod Decimal
+pub mod Written
