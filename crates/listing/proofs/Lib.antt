@@ -2,3 +2,5 @@ pub mod Part
 pub mod Writes
 pub mod Decimal
 pub mod Written
+pub mod Cells
+pub mod Turns

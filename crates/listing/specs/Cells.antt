@@ -25,8 +25,11 @@ unfoldable pub inCell : ℕ → Option ℕ
 inCell n = elim (eqb n noNumber) [ true ↦ none | false ↦ some n ]
 
 -- the entries of the timers whose cells begin at base
+abbrev pub entryIn : (cells : List ℕ) → (base j : ℕ) → List ℕ
+entryIn cells base j = entryText j (inCell (getD cells (base + j) 0))
+
 unfoldable pub entriesIn : (cells : List ℕ) → (base timers : ℕ) → List ℕ
-entriesIn cells base timers = gather (λ j. entryText j (inCell (getD cells (base + j) 0))) timers
+entriesIn cells base timers = gather (entryIn cells base) timers
 
 unfoldable pub lineIn : (cells : List ℕ) → (timers q : ℕ) → List ℕ
 lineIn cells timers q = (atWord ++ decimal q) ++ (entriesIn cells (64 * q) timers ++ (lineFeed ∷ []))

@@ -1,53 +1,45 @@
+-- `put_entry`: nothing for a cell with no number, else the timer and the number. Assumes nothing.
+use mathlib.Core.Path.{sym}
+use native.Mathlib.Omega.{arith}
+use denote.Ref.{now}
+use Rattle.listing.proofs.Cells.{entry-none, entry-some, entry-size}
+use Rattle.listing.proofs.Written.{written-none, written-next, written-as, written-part}
 use borrow.Author.Needs.{needs}
 use Rattle.listing.proofs.put_entry.Statement.{statement}
 use Rattle.listing.proofs.put_entry.Tie as tie
-use Rattle.listing.proofs.put_entry.Reads as reads
-use Rattle.listing.proofs.put_entry.Lts as lts
-use Rattle.listing.proofs.put_number.Reads as put-number-reads
 
--- src/lib.rt:85:9
 returns : tie.Need-returns
-returns c = ?
+returns c = let s = c .before .before in written-as (written-none (now (s .args .out))) (sym (entry-none (s .args .j) (s .args .number) (c .if1 .taken)))
 
--- src/lib.rt:87:30
 slice-aggregate-put-number : tie.Need-slice-aggregate-put-number
 slice-aggregate-put-number c = search needs
 
--- src/lib.rt:87:9
 put-number-requires : tie.Need-put-number-requires
-put-number-requires c κs = ?
+put-number-requires c κs = let s = c .before .before .before .before in (omega (arith, s .pre, entry-size (s .args .j) (s .args .number) (c .before .before .if1 .left)))
 
--- src/lib.rt:88:21
 sub-put-number : tie.Need-sub-put-number
-sub-put-number c = ?
+sub-put-number c = let s = c .before .before .before .before .before .before .before in (omega (arith, s .pre, entry-size (s .args .j) (s .args .number) (c .before .before .before .before .before .if1 .left)))
 
--- src/lib.rt:88:21
 part-put-number-start : tie.Need-part-put-number-start
-part-put-number-start c = ?
+part-put-number-start c = let s = c .before .before .before .before .before .before .before in (omega (arith, s .pre, entry-size (s .args .j) (s .args .number) (c .before .before .before .before .before .if1 .left)))
 
--- src/lib.rt:88:21
 part-put-number-end : tie.Need-part-put-number-end
 part-put-number-end c = search needs
 
--- src/lib.rt:88:37
 slice-aggregate-put-number-2 : tie.Need-slice-aggregate-put-number-2
 slice-aggregate-put-number-2 c = search needs
 
--- src/lib.rt:88:10
 put-number-requires-2 : tie.Need-put-number-requires-2
-put-number-requires-2 c κs = ?
+put-number-requires-2 c κs = let s = c .before .before .before .before .before .before .before .before .before in written-part (c .before .before .before .before .put-number .ensures) _ (omega (arith, s .pre, entry-size (s .args .j) (s .args .number) (c .before .before .before .before .before .before .before .if1 .left)))
 
--- src/lib.rt:88:5
 add-result : tie.Need-add-result
-add-result c = ?
+add-result c = let s = c .before .before .before .before .before .before .before .before .before .before .before .before in (omega (arith, s .pre, entry-size (s .args .j) (s .args .number) (c .before .before .before .before .before .before .before .before .before .before .if1 .left)))
 
--- src/lib.rt:80:1
 same-length : tie.Need-same-length
 same-length c = search needs
 
--- src/lib.rt:80:1
 returns-2 : tie.Need-returns-2
-returns-2 c = ?
+returns-2 c = let s = c .before .before .before .before .before .before .before .before .before .before .before .before in written-as (written-next (c .before .before .before .before .before .before .before .put-number .ensures) (c .before .before .put-number2 .ensures)) (entry-some (s .args .j) (s .args .number) (c .before .before .before .before .before .before .before .before .before .before .if1 .left))
 
 pub put-entry-spec : {M : Type 1} → statement M
 put-entry-spec =

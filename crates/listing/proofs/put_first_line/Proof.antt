@@ -1,81 +1,70 @@
+-- `put_first_line`: the three numbers and the line feed, one after another. Assumes nothing.
+use Prim.Native.Nat.{_+_}
+use native.Mathlib.Omega.{arith}
+use lib.ListN.{length}
+use Rattle.listing.specs.Text.{decimal, usedWord, floorWord, limitWord}
+use Rattle.listing.proofs.Written.{written-next, written-byte, written-as, written-long, written-below, written-within, written-part, first-parts, first-length}
 use borrow.Author.Needs.{needs}
 use Rattle.listing.proofs.put_first_line.Statement.{statement}
 use Rattle.listing.proofs.put_first_line.Tie as tie
-use Rattle.listing.proofs.put_first_line.Reads as reads
-use Rattle.listing.proofs.put_first_line.Lts as lts
-use Rattle.listing.proofs.put_number.Reads as put-number-reads
 
--- src/lib.rt:72:30
 slice-aggregate-put-number : tie.Need-slice-aggregate-put-number
 slice-aggregate-put-number c = search needs
 
--- src/lib.rt:72:9
 put-number-requires : tie.Need-put-number-requires
-put-number-requires c κs = ?
+put-number-requires c κs = let s = c .before .before .before in (omega (arith, s .pre, first-length (s .args .used) (s .args .floor) (s .args .limit)))
 
--- src/lib.rt:73:32
 sub-put-number : tie.Need-sub-put-number
-sub-put-number c = ?
+sub-put-number c = let s = c .before .before .before .before .before .before in (omega (arith, s .pre, first-length (s .args .used) (s .args .floor) (s .args .limit)))
 
--- src/lib.rt:73:32
 part-put-number-start : tie.Need-part-put-number-start
-part-put-number-start c = ?
+part-put-number-start c = let s = c .before .before .before .before .before .before in (omega (arith, s .pre, first-length (s .args .used) (s .args .floor) (s .args .limit)))
 
--- src/lib.rt:73:32
 part-put-number-end : tie.Need-part-put-number-end
 part-put-number-end c = search needs
 
--- src/lib.rt:73:48
 slice-aggregate-put-number-2 : tie.Need-slice-aggregate-put-number-2
 slice-aggregate-put-number-2 c = search needs
 
--- src/lib.rt:73:21
 put-number-requires-2 : tie.Need-put-number-requires-2
-put-number-requires-2 c κs = ?
+put-number-requires-2 c κs = let s = c .before .before .before .before .before .before .before .before in written-part (c .before .before .before .before .put-number .ensures) _ (omega (arith, s .pre, first-length (s .args .used) (s .args .floor) (s .args .limit)))
 
--- src/lib.rt:73:16
 add-next : tie.Need-add-next
-add-next c = ?
+add-next c = let s = c .before .before .before .before .before .before .before .before .before .before .before in (omega (arith, s .pre, first-length (s .args .used) (s .args .floor) (s .args .limit)))
 
--- src/lib.rt:74:33
 sub-put-number-2 : tie.Need-sub-put-number-2
-sub-put-number-2 c = ?
+sub-put-number-2 c = let s = c .before .before .before .before .before .before .before .before .before .before .before in written-within (written-next (c .before .before .before .before .before .before .before .put-number .ensures) (c .before .before .put-number2 .ensures)) (omega (arith, s .pre, first-length (s .args .used) (s .args .floor) (s .args .limit)))
 
--- src/lib.rt:74:33
 part-put-number-start-2 : tie.Need-part-put-number-start-2
-part-put-number-start-2 c = ?
+part-put-number-start-2 c = let s = c .before .before .before .before .before .before .before .before .before .before .before in written-within (written-next (c .before .before .before .before .before .before .before .put-number .ensures) (c .before .before .put-number2 .ensures)) (omega (arith, s .pre, first-length (s .args .used) (s .args .floor) (s .args .limit)))
 
--- src/lib.rt:74:33
 part-put-number-end-2 : tie.Need-part-put-number-end-2
 part-put-number-end-2 c = search needs
 
--- src/lib.rt:74:51
 slice-aggregate-put-number-3 : tie.Need-slice-aggregate-put-number-3
 slice-aggregate-put-number-3 c = search needs
 
--- src/lib.rt:74:22
 put-number-requires-3 : tie.Need-put-number-requires-3
-put-number-requires-3 c κs = ?
+put-number-requires-3 c κs = let s = c .before .before .before .before .before .before .before .before .before .before .before .before .before in written-part (written-next (c .before .before .before .before .before .before .before .before .before .put-number .ensures) (c .before .before .before .before .put-number2 .ensures)) (7 + length (decimal (s .args .limit))) (omega (arith, s .pre, first-length (s .args .used) (s .args .floor) (s .args .limit)))
 
--- src/lib.rt:74:15
 add-end : tie.Need-add-end
-add-end c = ?
+add-end c = let s = c .before .before .before .before .before .before .before .before .before .before .before .before .before .before .before .before in (omega (arith, s .pre, first-length (s .args .used) (s .args .floor) (s .args .limit)))
 
--- src/lib.rt:75:5
 slice-write-out : tie.Need-slice-write-out
-slice-write-out c = ?
+slice-write-out c = let s = c .before .before .before .before .before .before .before .before .before .before .before .before .before .before .before .before in written-below (written-next (written-next (c .before .before .before .before .before .before .before .before .before .before .before .before .put-number .ensures) (c .before .before .before .before .before .before .before .put-number2 .ensures)) (c .before .before .put-number3 .ensures)) (omega (arith, s .pre, first-length (s .args .used) (s .args .floor) (s .args .limit)))
 
--- src/lib.rt:76:5
 add-result : tie.Need-add-result
-add-result c = ?
+add-result c = let s = c .before .before .before .before .before .before .before .before .before .before .before .before .before .before .before .before in (omega (arith, s .pre, first-length (s .args .used) (s .args .floor) (s .args .limit)))
 
--- src/lib.rt:68:1
-same-length : tie.Need-same-length
-same-length c = ?
-
--- src/lib.rt:68:1
 returns : tie.Need-returns
-returns c = ?
+unfolding usedWord floorWord limitWord
+returns c = 
+    let s = c .before .before .before .before .before .before .before .before .before .before .before .before .before .before .before .before in
+    let w = written-next (written-next (c .before .before .before .before .before .before .before .before .before .before .before .before .put-number .ensures) (c .before .before .before .before .before .before .before .put-number2 .ensures)) (c .before .before .put-number3 .ensures) in
+    written-as (written-byte w 10 (omega (arith, s .pre, first-length (s .args .used) (s .args .floor) (s .args .limit)))) (first-parts (s .args .used) (s .args .floor) (s .args .limit))
+
+same-length : tie.Need-same-length
+same-length c = written-long (returns c) (c .before .before .before .before .before .before .before .before .before .before .before .before .before .before .before .before .pre)
 
 pub put-first-line-spec : {M : Type 1} → statement M
 put-first-line-spec =

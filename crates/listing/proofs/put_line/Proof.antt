@@ -1,58 +1,48 @@
+-- `put_line`: the location, its entries and the line feed, one after another. Assumes nothing.
+use native.Mathlib.Omega.{arith}
+use denote.Ref.{now}
+use Rattle.listing.specs.Text.{atWord}
+use Rattle.listing.proofs.Written.{written-next, written-byte, written-as, written-long, written-below, written-part, line-parts, line-length}
 use borrow.Author.Needs.{needs}
 use Rattle.listing.proofs.put_line.Statement.{statement}
 use Rattle.listing.proofs.put_line.Tie as tie
-use Rattle.listing.proofs.put_line.Reads as reads
-use Rattle.listing.proofs.put_line.Lts as lts
-use Rattle.listing.proofs.put_entries.Reads as put-entries-reads
-use Rattle.listing.proofs.put_number.Reads as put-number-reads
 
--- src/lib.rt:110:30
 slice-aggregate-put-number : tie.Need-slice-aggregate-put-number
 slice-aggregate-put-number c = search needs
 
--- src/lib.rt:110:9
 put-number-requires : tie.Need-put-number-requires
-put-number-requires c κs = ?
+put-number-requires c κs = let s = c .before .before .before .before in (omega (arith, s .pre .2, line-length (now (s .args .cells)) (s .args .timers) (s .args .q)))
 
--- src/lib.rt:111:32
 sub-put-entries : tie.Need-sub-put-entries
-sub-put-entries c = ?
+sub-put-entries c = let s = c .before .before .before .before .before .before .before in (omega (arith, s .pre .2, line-length (now (s .args .cells)) (s .args .timers) (s .args .q)))
 
--- src/lib.rt:111:32
 part-put-entries-start : tie.Need-part-put-entries-start
-part-put-entries-start c = ?
+part-put-entries-start c = let s = c .before .before .before .before .before .before .before in (omega (arith, s .pre .2, line-length (now (s .args .cells)) (s .args .timers) (s .args .q)))
 
--- src/lib.rt:111:32
 part-put-entries-end : tie.Need-part-put-entries-end
 part-put-entries-end c = search needs
 
--- src/lib.rt:111:55
 mul-put-entries : tie.Need-mul-put-entries
 mul-put-entries c = search needs
 
--- src/lib.rt:111:20
 put-entries-requires : tie.Need-put-entries-requires
-put-entries-requires c κs = ?
+put-entries-requires c κs = let s = c .before .before .before .before .before .before .before .before in (s .pre .0, written-part (c .before .before .before .put-number .ensures) _ (omega (arith, s .pre .2, line-length (now (s .args .cells)) (s .args .timers) (s .args .q))))
 
--- src/lib.rt:111:15
 add-end : tie.Need-add-end
-add-end c = ?
+add-end c = let s = c .before .before .before .before .before .before .before .before .before .before .before in (omega (arith, s .pre .2, line-length (now (s .args .cells)) (s .args .timers) (s .args .q)))
 
--- src/lib.rt:112:5
 slice-write-out : tie.Need-slice-write-out
-slice-write-out c = ?
+slice-write-out c = let s = c .before .before .before .before .before .before .before .before .before .before .before in written-below (written-next (c .before .before .before .before .before .before .put-number .ensures) (c .before .before .put-entries .ensures)) (omega (arith, s .pre .2, line-length (now (s .args .cells)) (s .args .timers) (s .args .q)))
 
--- src/lib.rt:113:5
 add-result : tie.Need-add-result
-add-result c = ?
+add-result c = let s = c .before .before .before .before .before .before .before .before .before .before .before in (omega (arith, s .pre .2, line-length (now (s .args .cells)) (s .args .timers) (s .args .q)))
 
--- src/lib.rt:106:1
-same-length : tie.Need-same-length
-same-length c = ?
-
--- src/lib.rt:106:1
 returns : tie.Need-returns
-returns c = ?
+unfolding atWord
+returns c = let s = c .before .before .before .before .before .before .before .before .before .before .before in written-as (written-byte (written-next (c .before .before .before .before .before .before .put-number .ensures) (c .before .before .put-entries .ensures)) 10 (omega (arith, s .pre .2, line-length (now (s .args .cells)) (s .args .timers) (s .args .q)))) (line-parts (now (s .args .cells)) (s .args .timers) (s .args .q))
+
+same-length : tie.Need-same-length
+same-length c = written-long (returns c) (c .before .before .before .before .before .before .before .before .before .before .before .pre .2)
 
 pub put-line-spec : {M : Type 1} → statement M
 put-line-spec =

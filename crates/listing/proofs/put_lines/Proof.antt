@@ -1,58 +1,60 @@
+-- `put_lines`: after q turns the lines of the locations below q are written. Assumes nothing.
+use Prim.Native.Nat.{_+_, _-_, _≤_}
+use lib.ListN.{length}
+use native.Mathlib.Omega.{arith}
+use denote.Ref.{now}
+use Rattle.listing.specs.Cells.{lineIn, linesIn}
+use Rattle.listing.proofs.Written.{written-long, written-within, written-part}
+use Rattle.listing.proofs.Turns.{Turns, turns-first, turns-done, turns-room, turns-again}
+use borrow.Author.Needs.{needs}
 use Rattle.listing.proofs.put_lines.Statement.{statement}
 use Rattle.listing.proofs.put_lines.Tie as tie
-use Rattle.listing.proofs.put_lines.Reads as reads
-use Rattle.listing.proofs.put_lines.Lts as lts
-use Rattle.listing.proofs.put_line.Reads as put-line-reads
 
 abbrev Inv-loop : tie.InvT-loop
-Inv-loop out₀ cells timers n at₀ q₀ out at q = ?
+Inv-loop out₀ cells timers n at₀ q₀ out at q = Turns (lineIn cells timers) n out₀ out at q
 
 abbrev μ-loop : tie.MeasureT-loop
-μ-loop out₀ cells timers n at₀ q₀ out at q = ?
+μ-loop out₀ cells timers n at₀ q₀ out at q = n - q
 
--- src/lib.rt:123:5
 loop-holds : tie.Need-loop-holds Inv-loop μ-loop
-loop-holds c = ?
+loop-holds c = turns-first _ _ _
 
--- src/lib.rt:124:24
+-- room for the next one
+room : (c : tie.In-loop Inv-loop μ-loop) → let a = c .before .before .before .before .args in
+    c .before .loop .at + length (lineIn (now (a .cells)) (a .timers) (c .before .loop .q)) ≤ length (now (a .out))
+unfolding linesIn
+room c = turns-room (c .before .loop .inv) (c .loop-test .taken) (c .before .before .before .before .pre .3)
+
 sub-put-line : tie.Need-sub-put-line Inv-loop μ-loop
-sub-put-line c = ?
+sub-put-line c = written-within (c .before .loop .inv .written) (omega (arith, room c))
 
--- src/lib.rt:124:24
 part-put-line-start : tie.Need-part-put-line-start Inv-loop μ-loop
-part-put-line-start c = ?
+part-put-line-start c = written-within (c .before .loop .inv .written) (omega (arith, room c))
 
--- src/lib.rt:124:24
 part-put-line-end : tie.Need-part-put-line-end Inv-loop μ-loop
-part-put-line-end c = ?
+part-put-line-end c = search needs
 
--- src/lib.rt:124:15
 put-line-requires : tie.Need-put-line-requires Inv-loop μ-loop
-put-line-requires c κs = ?
+put-line-requires c κs = let s = c .before .before .before .before .before in (omega (arith, s .pre .0, s .pre .2), s .pre .1, written-part (c .before .before .loop .inv .written) _ (room (c .before)))
 
--- src/lib.rt:124:9
 add-at : tie.Need-add-at Inv-loop μ-loop
-add-at c = ?
+add-at c = omega (arith, room (c .before .before .before .before), c .before .before .put-line .ensures .size-is, c .before .before .before .before .before .before .before .before .good)
 
--- src/lib.rt:125:9
 add-q : tie.Need-add-q Inv-loop μ-loop
-add-q c = ?
+add-q c = search needs
 
--- src/lib.rt:123:5
 loop-less : tie.Need-loop-less Inv-loop μ-loop
-loop-less c = ?
+loop-less c = search needs
 
--- src/lib.rt:123:5
 loop-again : tie.Need-loop-again Inv-loop μ-loop
-loop-again c = ?
+loop-again c = turns-again (c .before .before .before .before .before .loop .inv) (c .before .before .before .before .loop-test .taken) (c .before .before .put-line .ensures)
 
--- src/lib.rt:117:1
-same-length : tie.Need-same-length Inv-loop μ-loop
-same-length c = ?
-
--- src/lib.rt:117:1
 returns : tie.Need-returns Inv-loop μ-loop
-returns c = ?
+unfolding linesIn
+returns c = turns-done (c .before .loop .inv) (c .loop-test .left)
+
+same-length : tie.Need-same-length Inv-loop μ-loop
+same-length c = written-long (returns c) (c .before .before .before .before .pre .3)
 
 pub put-lines-spec : {M : Type 1} → statement M
 put-lines-spec =
