@@ -4,3 +4,5 @@ pub mod Decimal
 pub mod Written
 pub mod Cells
 pub mod Turns
+pub mod Lines
+pub mod Fits

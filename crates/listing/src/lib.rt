@@ -144,6 +144,29 @@ fn put_chart<'a>(
     at + put_lines(&mut out[at..], cells, timers, live.len())
 }
 
+// 20, else the text of a chart that was judged, for a board of at most 64 timers.
+fn put_numbered<'a>(
+    out: &mut [u8],
+    limit: u8,
+    sources: &'a [u16],
+    targets: &'a [u16],
+    starts: &'a [u64],
+    tested: &'a [u64],
+    timers: u8,
+    live: &mut [u64],
+    cells: &mut [u16],
+) -> usize
+    requires { ⌜ OfChart (now sources) (now targets) (now starts) (now tested) timers (length (now live)) × (length (now cells) ≡ 64 * length (now live)) × (limit ≤ 64) × (131072 ≤ length (now out)) ⌝ }
+    ensures { λ r. ⌜ ((c : Chart) → ListsFor c (now (sources .entry)) (now (targets .entry)) (now (starts .entry)) (now (tested .entry)) timers (length (now (live .entry)))
+        → Written (answerText limit (listedChart limit c)) (now (out .entry)) (now (out .exit)) r) ⌝ }
+{
+    let used = numbering::number_chart(sources, targets, starts, tested, timers, live, cells);
+    if used > limit as u32 {
+        return put_refusal(out, 20, 65535);
+    }
+    put_chart(out, limit, used, timers, live, cells)
+}
+
 // 11, then 20, else the text of a chart that was judged.
 fn put_judged<'a>(
     out: &mut [u8],
@@ -164,7 +187,9 @@ fn put_judged<'a>(
     let m = numbers.locations as usize;
     let mut live = [0u64; 256];
     let mut cells = [0u16; 16384];
-    let used = numbering::number_chart(
+    put_numbered(
+        out,
+        limit,
         sources,
         targets,
         starts,
@@ -172,11 +197,7 @@ fn put_judged<'a>(
         numbers.timers,
         &mut live[..m],
         &mut cells[..64 * m],
-    );
-    if used > limit as u32 {
-        return put_refusal(out, 20, 65535);
-    }
-    put_chart(out, limit, used, numbers.timers, &live[..m], &cells[..64 * m])
+    )
 }
 
 // The text of the whole input.
