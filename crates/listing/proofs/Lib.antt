@@ -4,5 +4,6 @@ pub mod Decimal
 pub mod Written
 pub mod Cells
 pub mod Turns
-pub mod Lines
 pub mod Fits
+pub mod Lines
+pub mod Accepted

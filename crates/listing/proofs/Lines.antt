@@ -11,7 +11,7 @@ use Rattle.model.specs.Valid.{Valid}
 use Rattle.model.specs.FirstFit.{Placed, numberAt, usedBy, fullest, floor, board, used}
 use Rattle.model.proofs.NumberAt.{number-below}
 use Rattle.allocation.specs.Cells.{cell, cells}
-use Rattle.allocation.proofs.CellList.{cells-at}
+use Rattle.allocation.proofs.CellList.{cells-length, cells-at}
 use Rattle.allocation.proofs.Flatten.{gather-same}
 use Rattle.numbering.specs.Numbered.{NumberedChart}
 use Rattle.analysis.proofs.Entry.{length-live}
@@ -19,6 +19,7 @@ use Rattle.listing.specs.Text.{decimal, lineFeed, atWord}
 use Rattle.listing.specs.Listing.{entryText, firstLine, lineOf, chartText}
 use Rattle.listing.specs.Cells.{inCell, entryIn, entriesIn, lineIn, linesIn}
 use Rattle.listing.proofs.Cells.{no-number, a-number}
+use Rattle.listing.proofs.Fits.{chart-fits}
 
 -- a number that is given is below the number that marks a cell with none
 in-cell : (o : Option ℕ) → ((k : ℕ) → o ≡ some k → k < 64) → inCell (cell o) ≡ o
@@ -42,11 +43,25 @@ module _ (ps : List Placed) (few : usedBy ps ≤ 64) (locations timers : ℕ) (n
   unfolding linesIn
   lines-are = gather-same (lineIn (cells ps locations) timers) (lineOf timers ps) locations line-is
 
-module _ {c : Chart} {live numbers : List ℕ} {count : ℕ} (m : NumberedChart c live numbers count) (K : ℕ) where
-  pub text-is : {W : ℕ} → Valid W c → count ≤ 64 → {timers : ℕ} → timers ≡ c .timers
-      → firstLine count (fullest live) K ++ linesIn numbers timers (length live) ≡ chartText K c
+module _ {c : Chart} {live numbers : List ℕ} {count : ℕ} (m : NumberedChart c live numbers count) {W : ℕ} (v : Valid W c) (few : count ≤ 64) where
+  long : length live ≡ c .locations
+  long = ap length (m .live-are) ∙ length-live c
+
+  pub text-is : (K : ℕ) {timers : ℕ} → timers ≡ c .timers → firstLine count (fullest live) K ++ linesIn numbers timers (length live) ≡ chartText K c
   unfolding chartText used floor
-  text-is v few {timers} e =
-      let long : length live ≡ c .locations = ap length (m .live-are) ∙ length-live c in
+  text-is K e =
       let u : usedBy (board c) ≤ 64 = rw (m .used-is) at few in
-      rw (long, m .numbers-are, m .used-is, m .live-are, e) (ap (λ (l : List ℕ). firstLine (usedBy (board c)) (floor c) K ++ l) (lines-are (board c) u (c .locations) (c .timers) (v .few-timers)))
+      rw (long, m .numbers-are, m .used-is, m .live-are, e)
+      (ap (λ (l : List ℕ). firstLine (usedBy (board c)) (floor c) K ++ l) (lines-are (board c) u (c .locations) (c .timers) (v .few-timers)))
+
+  -- what the code that writes it asks for
+  pub text-asks : (K room : ℕ) {timers : ℕ} → timers ≡ c .timers → 131072 ≤ room
+      → (64 * length live ≤ length numbers) × (length numbers ≤ 16384) × (timers ≤ 64)
+      × (length (firstLine count (fullest live) K ++ linesIn numbers timers (length live)) ≤ room)
+  text-asks K room e r =
+      let n : length numbers ≡ 64 * c .locations = ap length (m .numbers-are) ∙ cells-length (board c) (c .locations) in (
+        omega (arith, long),
+        omega (arith, v .few-locations),
+        omega (arith, v .few-timers),
+        rw (text-is K e) (omega (arith, chart-fits v (omega (arith, m .used-is)) K)),
+      )
