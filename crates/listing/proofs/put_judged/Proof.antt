@@ -44,7 +44,7 @@ put-numbered-requires : tie.Need-put-numbered-requires
 put-numbered-requires c κs = let s = c .before .before .before .before .before .before .before .before .before .before in
     let o = s .pre .0 in
     let e = length-empty (s .args .numbers .locations) 256 (omega (arith, few-cells o)) in
-    (record { chart = o .chart; lists = lent-lists e (o .lists) }, length-empty _ 16384 (few-cells o) ∙ ap (λ (k : ℕ). 64 * k) (sym e), c .before .before .before .if1 .left, s .pre .1)
+    (record { chart = o .chart; lists = lent-lists e (o .lists) }, length-empty _ 16384 (few-cells o) ∙ ap (λ (k : ℕ). 64 * k) (sym e), c .before .before .before .before .if1 .left, s .pre .1)
 
 same-length-2 : tie.Need-same-length-2
 same-length-2 c = search needs
