@@ -46,16 +46,20 @@ accepted-is K file = go (chartIn file) refl
     go (result c) e = rw e (of c (judged c) refl)
     go (refused n p) e = rw e
 
-module _ (K : ℕ) (file : List ℕ) (h : length (K ∷ file) ≤ 65536) where
-  text-by : textOf (K ∷ file) ≡ answerText K (then (judgedIn file) (listedChart K))
-  unfolding textOf
-  text-by = rw (le-leb (length (K ∷ file)) 65536 h, textOf) (ap (answerText K) (accepted-is K file))
+module _ (K : ℕ) (file : List ℕ) where
+  pub accepted-refused : {n p : ℕ} → judgedIn file ≡ refused n p → accepted K file ≡ refused n p
+  accepted-refused e = accepted-is K file ∙ rw e
 
-  pub text-refused : {n p : ℕ} → judgedIn file ≡ refused n p → textOf (K ∷ file) ≡ refusedText n p
-  text-refused e = text-by ∙ rw e
+  pub accepted-judged : {c : Chart} → judgedIn file ≡ result c → accepted K file ≡ listedChart K c
+  accepted-judged e = accepted-is K file ∙ rw e
 
-  pub text-judged : {c : Chart} → judgedIn file ≡ result c → textOf (K ∷ file) ≡ answerText K (listedChart K c)
-  text-judged e = text-by ∙ rw e
+-- ---- the whole input
+
+pub text-file : (input : List ℕ) → (length input ≡ 0 → ⊥) → length input ≤ 65536
+    → textOf input ≡ answerText (getD input 0 0) (accepted (getD input 0 0) (drop 1 input))
+unfolding textOf
+text-file [] h l = absurd (h refl)
+text-file (K ∷ file) h l = rw (le-leb (length (K ∷ file)) 65536 l, textOf)
 
 pub text-16 : (input : List ℕ) → 65536 < length input → textOf input ≡ refusedText 16 nowhere
 unfolding textOf

@@ -7,7 +7,7 @@ ghost use Rattle.model.specs.Chart.{Chart};
 ghost use Rattle.model.specs.FirstFit.{fullest};
 ghost use Rattle.numbering.specs.Numbered.{ListsFor, OfChart};
 ghost use Rattle.listing.specs.Text.{decimal};
-ghost use Rattle.listing.specs.Listing.{refusedText, firstLine, entryText, answerText, textOf, listInto, listAnswer, bufferAfter, meantListed};
+ghost use Rattle.listing.specs.Listing.{refusedText, firstLine, entryText, accepted, answerText, textOf, listInto, listAnswer, bufferAfter, meantListed};
 ghost use Rattle.listing.specs.Cells.{Written, inCell, entriesIn, lineIn, linesIn, listedChart};
 use chart_lists::Numbers;
 use chart_lists::Refusal;
@@ -200,18 +200,12 @@ fn put_judged<'a>(
     )
 }
 
-// The text of the whole input.
-fn put_text(out: &mut [u8], input: &[u8]) -> usize
+// The text for a chart file and a board of so many timers.
+fn put_file(out: &mut [u8], limit: u8, file: &[u8]) -> usize
     requires { ⌜ 131072 ≤ length (now out) ⌝ }
-    ensures { λ r. ⌜ Written (textOf (now (input .entry))) (now (out .entry)) (now (out .exit)) r ⌝ }
+    ensures { λ r. ⌜ Written (answerText limit (accepted limit (now (file .entry)))) (now (out .entry)) (now (out .exit)) r ⌝ }
 {
-    if input.len() > 65536 {
-        return put_refusal(out, 16, 65535);
-    }
-    if input.len() == 0 {
-        return put_refusal(out, 1, 65535);
-    }
-    let h = judgement::judge(&input[1..]);
+    let h = judgement::judge(file);
     let a = h.answer;
     match a {
         Read::Refused(f) => put_refusal(out, f.number, f.place),
@@ -223,7 +217,7 @@ fn put_text(out: &mut [u8], input: &[u8]) -> usize
             let tested = h.tested;
             put_judged(
                 out,
-                input[0],
+                limit,
                 &sources[..n],
                 &targets[..n],
                 &starts[..n],
@@ -232,6 +226,20 @@ fn put_text(out: &mut [u8], input: &[u8]) -> usize
             )
         }
     }
+}
+
+// The text of the whole input.
+fn put_text(out: &mut [u8], input: &[u8]) -> usize
+    requires { ⌜ 131072 ≤ length (now out) ⌝ }
+    ensures { λ r. ⌜ Written (textOf (now (input .entry))) (now (out .entry)) (now (out .exit)) r ⌝ }
+{
+    if input.len() > 65536 {
+        return put_refusal(out, 16, 65535);
+    }
+    if input.len() == 0 {
+        return put_refusal(out, 1, 65535);
+    }
+    put_file(out, input[0], &input[1..])
 }
 
 // The text of the whole input over the front of the lent buffer, or 21.
