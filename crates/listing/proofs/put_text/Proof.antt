@@ -1,7 +1,11 @@
 -- `put_text`: 16, then 1 where there is no byte at all, else the text of the chart file after the first byte. Assumes nothing.
 use mathlib.Core.Path.{sym, ap, _∙_}
+use mathlib.Core.List.{List}
 use Prim.Native.Nat.{ℕ}
 use native.Mathlib.Omega.{arith}
+use lib.ListN.{getD}
+use Rattle.listing.specs.Listing.{accepted, answerText}
+use Rattle.listing.proofs.Part.{mid-all}
 use Rattle.listing.proofs.Written.{written-as}
 use Rattle.listing.proofs.Fits.{refused-fits}
 use Rattle.listing.proofs.Accepted.{text-16, text-1, text-file}
@@ -46,7 +50,9 @@ same-length-3 : tie.Need-same-length-3
 same-length-3 c = search needs
 
 returns-3 : tie.Need-returns-3
-returns-3 c = ?
+returns-3 c = let s = c .before .before .before .before .before .before .before .before .before .before in
+    let i = s .args .input .now in
+    written-as (c .before .before .put-file .ensures) (ap (λ (f : List ℕ). answerText (getD i 0 0) (accepted (getD i 0 0) f)) (mid-all 1 i) ∙ sym (text-file i (c .before .before .before .before .before .before .if2 .left) (c .before .before .before .before .before .before .before .if1 .left)))
 
 pub put-text-spec : {M : Type 1} → statement M
 put-text-spec =
