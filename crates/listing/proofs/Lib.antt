@@ -7,3 +7,4 @@ pub mod Turns
 pub mod Fits
 pub mod Lines
 pub mod Accepted
+pub mod Answers
