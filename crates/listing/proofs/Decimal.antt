@@ -10,15 +10,15 @@ use lib.ListN.{length, length-append}
 use borrow.Author.Tests.{lt-ltb, le-ltb, ltb-true, ltb-false}
 use Rattle.listing.specs.Text.{decimalIn, decimal}
 
-one-digit : (k n : ℕ) → n < 10 → decimalIn (suc k) n ≡ ((48 + n) ∷ [])
+pub one-digit : (k n : ℕ) → n < 10 → decimalIn (suc k) n ≡ ((48 + n) ∷ [])
 unfolding decimalIn
 one-digit k n h = rw (lt-ltb n 10 h, decimalIn)
 
-more-digits : (k n : ℕ) → 10 ≤ n → decimalIn (suc k) n ≡ decimalIn k (n / 10) ++ ((48 + n % 10) ∷ [])
+pub more-digits : (k n : ℕ) → 10 ≤ n → decimalIn (suc k) n ≡ decimalIn k (n / 10) ++ ((48 + n % 10) ∷ [])
 unfolding decimalIn
 more-digits k n h = rw (le-ltb n 10 h, decimalIn)
 
-tenth : (k n : ℕ) → n < 10 ^ suc k → n / 10 < 10 ^ k
+pub tenth : (k n : ℕ) → n < 10 ^ suc k → n / 10 < 10 ^ k
 tenth k n h = omega (arith, pow-suc 10 k)
 
 -- digits to spare change nothing

@@ -8,3 +8,7 @@ pub mod Fits
 pub mod Lines
 pub mod Accepted
 pub mod Answers
+pub mod Inputs
+pub mod Outcomes
+pub mod Digits
+pub mod Refusals
