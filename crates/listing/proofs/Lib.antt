@@ -12,3 +12,4 @@ pub mod Inputs
 pub mod Outcomes
 pub mod Digits
 pub mod Refusals
+pub mod Example
