@@ -8,10 +8,11 @@ use lib.ListN.{length, take}
 use lib.Seq.{take-all, length-take-le}
 use borrow.Author.Tests.{le-leb}
 use Rattle.lists.proofs.Bools.{lt-or-le}
+use Rattle.model.specs.Answer.{result}
 use Rattle.file_format.proofs.RoundTrip.{Bytes}
 use Rattle.file_format.proofs.File.{reads-valid}
 use Rattle.judgement.proofs.Corollaries.{judged-result}
-use Rattle.listing.specs.Listing.{accepted, answerText, textOf}
+use Rattle.listing.specs.Listing.{accepted, answerText, textOf, listInto}
 use Rattle.listing.proofs.Fits.{refused-fits, chart-fits}
 use Rattle.listing.proofs.Accepted.{text-16, text-1}
 use Rattle.listing.proofs.Outcomes.{Outcome, outcome}
@@ -45,3 +46,8 @@ text-of-first input = go (lt-or-le 65536 (length input))
     go : (65536 < length input) ⊎ (length input ≤ 65536) → textOf (take 65537 input) ≡ textOf input
     go (inl l) = let e : length (take 65537 input) ≡ 65537 = length-take-le 65537 input (omega arith) in text-16 (take 65537 input) (omega arith) ∙ sym (text-16 input l)
     go (inr l) = ap textOf (take-all 65537 input (omega arith))
+
+-- with that much room the text is always handed back
+pub text-handed : (input : List ℕ) → Bytes input → listInto 131072 input ≡ result (textOf input)
+unfolding listInto
+text-handed input b = rw (le-leb (length (textOf input)) 131072 (text-fits input b))
