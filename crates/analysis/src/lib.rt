@@ -17,7 +17,7 @@ pub enum Analysis {
 }
 
 // The count of ones in the fullest of the sets.
-fn fullest(sets: &[u64]) -> u32
+pub fn fullest(sets: &[u64]) -> u32
     ensures { λ r. ⌜ r ≡ FirstFit·fullest (now (sets .entry)) ⌝ }
 {
     let n = sets.len();

@@ -1,0 +1,48 @@
+-- The example of document 01 ("What the four parts hand back"): the text for chart B with K = 16. Assumes nothing.
+use mathlib.Core.Path.{_≡_, refl}
+use mathlib.Core.List.{List, [], _∷_, _++_, filterMap}
+use Prim.Native.Nat.{ℕ}
+use lib.Count.{ones, onesIn}
+use Rattle.timer_set.specs.Members.{member, joined, common, minus, added, everyTimer, setOf}
+use Rattle.lists.specs.Lists.{memb, anyOf, firstOf, lowest, gather, upTo, pick, top}
+use Rattle.comparison.specs.Comparison.{comparisonOf, met}
+use Rattle.model.specs.Flow.{brings, made, round, roundsOf, sameSets, changing, settled}
+use Rattle.model.specs.Live.{startsSet, testsSet, atInitial, liveFlow, unstartedFlow, reachedFlow, liveSets, unstartedSets, reachedSets, isEmpty, firstUnreached, firstUnstarted}
+use Rattle.model.specs.Family.{isPair, livePairs, familyNumber, linkFlow, familyOf, familyFrom, families, meets}
+use Rattle.model.specs.FirstFit.{held, free, place, firstFit, usedBy, numberAt, allHeld, blocked, fullest, floor, board}
+use Rattle.model.specs.Judge.{judged, fitted, rewriting}
+use Rattle.file_format.specs.Parse.{number, below, many, entry, rising}
+use Rattle.file_format.specs.Body.{readComparison, readTest, readTests, recordLength, readTransition, readTransitions, readHeader, chartOf, readBody}
+use Rattle.file_format.specs.File.{readFrame, judgeFrame, readFile, chartIn}
+use Rattle.listing.specs.Text.{decimalIn, decimal, refusedWord, usedWord, floorWord, limitWord, atWord}
+use Rattle.listing.specs.Listing.{refusedText, firstLine, lineOf, chartText, accepted, textOf}
+
+-- one byte K, then the file of chart B
+pub input : List ℕ
+input = 16
+    ∷ 1 ∷ 0 ∷ 0 ∷ 0 ∷ 48 ∷ 0 ∷ 4 ∷ 0 ∷ 0 ∷ 2 ∷ 0 ∷ 1 ∷ 0 ∷ 3 ∷ 0 ∷ 3 ∷ 0 ∷ 8 ∷ 0 ∷ 0 ∷ 0 ∷ 1 ∷ 0 ∷ 1
+    ∷ 0 ∷ 0 ∷ 0 ∷ 12 ∷ 0 ∷ 1 ∷ 0 ∷ 2 ∷ 0 ∷ 1 ∷ 1 ∷ 1 ∷ 0 ∷ 0 ∷ 0 ∷ 2 ∷ 0 ∷ 11 ∷ 0 ∷ 2 ∷ 0 ∷ 3 ∷ 0 ∷ 0
+    ∷ 1 ∷ 1 ∷ 2 ∷ 0 ∷ 1 ∷ []
+
+-- used 1 floor 1 limit 16; at 0; at 1 0>0; at 2 1>0; at 3
+pub lines : List ℕ
+lines =
+    (117 ∷ 115 ∷ 101 ∷ 100 ∷ 32 ∷ 49 ∷ 32 ∷ 102 ∷ 108 ∷ 111 ∷ 111 ∷ 114 ∷ 32 ∷ 49 ∷ 32 ∷ 108 ∷ 105 ∷ 109 ∷ 105 ∷ 116 ∷ 32 ∷ 49 ∷ 54 ∷ 10 ∷ [])
+    ++ (97 ∷ 116 ∷ 32 ∷ 48 ∷ 10 ∷ [])
+    ++ (97 ∷ 116 ∷ 32 ∷ 49 ∷ 32 ∷ 48 ∷ 62 ∷ 48 ∷ 10 ∷ [])
+    ++ (97 ∷ 116 ∷ 32 ∷ 50 ∷ 32 ∷ 49 ∷ 62 ∷ 48 ∷ 10 ∷ [])
+    ++ (97 ∷ 116 ∷ 32 ∷ 51 ∷ 10 ∷ [])
+
+pub text-of-B : textOf input ≡ lines
+unfolding input lines
+    member joined common minus added everyTimer setOf ones onesIn filterMap
+    memb anyOf firstOf lowest gather upTo pick top comparisonOf met
+    brings made round roundsOf sameSets changing settled
+    startsSet testsSet atInitial liveFlow unstartedFlow reachedFlow liveSets unstartedSets reachedSets isEmpty firstUnreached firstUnstarted
+    isPair livePairs familyNumber linkFlow familyOf familyFrom families meets
+    held free place firstFit usedBy numberAt allHeld blocked fullest floor board
+    judged fitted rewriting
+    number below many entry rising readComparison readTest readTests recordLength readTransition readTransitions readHeader chartOf readBody
+    readFrame judgeFrame readFile chartIn
+    decimalIn decimal refusedWord usedWord floorWord limitWord atWord refusedText firstLine lineOf chartText accepted textOf
+text-of-B = refl

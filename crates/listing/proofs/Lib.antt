@@ -1,0 +1,15 @@
+pub mod Part
+pub mod Writes
+pub mod Decimal
+pub mod Written
+pub mod Cells
+pub mod Turns
+pub mod Fits
+pub mod Lines
+pub mod Accepted
+pub mod Answers
+pub mod Inputs
+pub mod Outcomes
+pub mod Digits
+pub mod Refusals
+pub mod Example

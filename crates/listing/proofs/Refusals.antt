@@ -1,0 +1,90 @@
+-- Which refusals the text shows, and when it shows 9 and 10. Assumes nothing.
+use mathlib.Core.Path.{_≡_, refl, sym, ap, _∙_}
+use mathlib.Core.Logic.{_⊎_, inl, inr, _↔_}
+use mathlib.Core.List.{List, [], _∷_, _++_}
+use Prim.Native.Nat.{ℕ, _^_, _≤_, _<_}
+use native.Mathlib.Omega.{arith}
+use lib.ListN.{length}
+use Rattle.lists.proofs.Bools.{lt-or-le}
+use Rattle.model.specs.Answer.{Answer, result, refused, nowhere}
+use Rattle.model.specs.Chart.{Chart}
+use Rattle.model.proofs.Answers.{not-result, refused-same}
+use Rattle.model.proofs.Judgement.{LowestUnreached, LowestUnstarted}
+use Rattle.file_format.proofs.RoundTrip.{Bytes}
+use Rattle.judgement.specs.Judging.{judgedIn}
+use Rattle.judgement.specs.Refusals.{RefusalOfJudgement}
+use Rattle.judgement.specs.Refusals.RefusalOfJudgement.{of-file, of-unreached, of-unstarted}
+use Rattle.judgement.proofs.Corollaries.{HoldsChart, judged-9, judged-10, refusals-of-judgedIn}
+use Rattle.listing.specs.Text.{refusedWord, usedWord}
+use Rattle.listing.specs.Listing.{accepted, answerText, refusedText, firstLine, chartText, textOf}
+use Rattle.listing.specs.Refusals.{RefusalShown}
+use Rattle.listing.specs.Refusals.RefusalShown.{of-judgement, of-limit, of-size, of-used}
+use Rattle.listing.proofs.Digits.{refused-same as text-same}
+use Rattle.listing.proofs.Accepted.{text-16, text-1, accepted-refused}
+use Rattle.listing.proofs.Outcomes.{Outcome, outcome}
+use Rattle.listing.proofs.Outcomes.Outcome.{is-refused, is-limit, is-used, is-text}
+use Rattle.listing.proofs.Inputs.{text-accepted}
+
+-- a chart's text begins with another letter
+text-differs : (K : ℕ) (c : Chart) (n p : ℕ) → chartText K c ≡ refusedText n p → ⊥
+unfolding chartText firstLine usedWord refusedText refusedWord
+text-differs K c n p e = let z : _≡_ {A = ℕ} 117 114 = cc in omega arith
+
+-- numbers and places of refusals are short
+small : {n p : ℕ} → RefusalShown n p → (n < 10 ^ 20) × (p < 10 ^ 20)
+small (of-judgement (of-file r)) = place (r .place) (r .last-number)
+  where
+    place : {n p : ℕ} → (p ≡ nowhere) ⊎ ((4 ≤ n) × (p < 512)) → n ≤ 8 → (n < 10 ^ 20) × (p < 10 ^ 20)
+    place (inl e) h = (omega arith, omega arith)
+    place (inr l) h = (omega arith, omega (arith, l .1))
+small (of-judgement (of-unreached e l)) = (omega arith, omega arith)
+small (of-judgement (of-unstarted e l)) = (omega arith, omega arith)
+small (of-limit e f) = (omega arith, omega arith)
+small (of-size e f) = (omega arith, omega arith)
+small (of-used e f) = (omega arith, omega arith)
+
+-- a text that shows a refusal shows no other
+same : {m q : ℕ} → RefusalShown m q → (n p : ℕ) → n < 10 ^ 20 → p < 10 ^ 20 → refusedText m q ≡ refusedText n p → RefusalShown n p
+same {m} {q} r n p hn hp e =
+    let s = small r in
+    let t = text-same m n q p (s .0) hn (s .1) hp e in
+    rw (t .0, t .1) at r
+
+module _ (K : ℕ) (file : List ℕ) (bytes : Bytes file) where
+  of-file-after : (n p : ℕ) → n < 10 ^ 20 → p < 10 ^ 20 → answerText K (accepted K file) ≡ refusedText n p → RefusalShown n p
+  of-file-after n p hn hp e = go (outcome K file)
+    where
+      go : Outcome K file → RefusalShown n p
+      go (is-refused {n = m} {p = q} j a) = same (of-judgement (refusals-of-judgedIn file bytes m q j)) n p hn hp (rw a at e)
+      go (is-limit j h a) = same (of-limit refl refl) n p hn hp (rw a at e)
+      go (is-used j h l a) = same (of-used refl refl) n p hn hp (rw a at e)
+      go (is-text {c} j h l a) = absurd (text-differs K c n p (rw a at e))
+
+  -- 1 to 10 are the judgement's, for an input that is not too long
+  module _ (short : length (K ∷ file) ≤ 65536) where
+    pub shows-judged : (n p : ℕ) → n ≤ 10 → p < 10 ^ 20 → (textOf (K ∷ file) ≡ refusedText n p) ↔ (judgedIn file ≡ refused n p)
+    shows-judged n p few hp = ((λ e. out (outcome K file) (sym (text-accepted K file short) ∙ e)), (λ j. text-accepted K file short ∙ rw (accepted-refused K file j)))
+      where
+        out : Outcome K file → answerText K (accepted K file) ≡ refusedText n p → judgedIn file ≡ refused n p
+        out (is-refused {n = m} {p = q} j a) e =
+            let s = small (of-judgement (refusals-of-judgedIn file bytes m q j)) in
+            let t = text-same m n q p (s .0) (omega arith) (s .1) hp (rw a at e) in
+            rw (t .0, t .1) at j
+        out (is-limit j h a) e = let t = text-same 11 n 65535 p (omega arith) (omega arith) (omega arith) hp (rw a at e) in absurd (omega (arith, t .0))
+        out (is-used j h l a) e = let t = text-same 20 n 65535 p (omega arith) (omega arith) (omega arith) hp (rw a at e) in absurd (omega (arith, t .0))
+        out (is-text {c} j h l a) e = absurd (text-differs K c n p (rw a at e))
+
+    pub shows-9 : (q : ℕ) → q < 256 → (textOf (K ∷ file) ≡ refusedText 9 q) ↔ HoldsChart file (λ c. LowestUnreached c q)
+    shows-9 q h = let a = shows-judged 9 q (omega arith) (omega arith) in let b = judged-9 file bytes q in ((λ e. b .0 (a .0 e)), (λ x. a .1 (b .1 x)))
+
+    pub shows-10 : (i : ℕ) → i < 512 → (textOf (K ∷ file) ≡ refusedText 10 i) ↔ HoldsChart file (λ c. LowestUnstarted c i)
+    shows-10 i h = let a = shows-judged 10 i (omega arith) (omega arith) in let b = judged-10 file bytes i in ((λ e. b .0 (a .0 e)), (λ x. a .1 (b .1 x)))
+
+-- the text shows no other refusal
+pub refusals-shown : (input : List ℕ) → Bytes input → (n p : ℕ) → n < 10 ^ 20 → p < 10 ^ 20 → textOf input ≡ refusedText n p → RefusalShown n p
+refusals-shown [] b n p hn hp e = same (of-judgement (of-file (record { first-number = omega arith; last-number = omega arith; place = inl refl }))) n p hn hp (sym (text-1 [] (omega arith)) ∙ e)
+refusals-shown (K ∷ file) b n p hn hp e = go (lt-or-le 65536 (length (K ∷ file)))
+  where
+    go : (65536 < length (K ∷ file)) ⊎ (length (K ∷ file) ≤ 65536) → RefusalShown n p
+    go (inl l) = same (of-size refl refl) n p hn hp (sym (text-16 (K ∷ file) l) ∙ e)
+    go (inr l) = of-file-after K file (b .1) n p hn hp (sym (text-accepted K file l) ∙ e)

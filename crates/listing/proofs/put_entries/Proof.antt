@@ -1,0 +1,91 @@
+-- `put_entries`: after j turns the entries of the timers below j are written. Assumes nothing.
+use Prim.Native.Nat.{_+_, _-_, _≤_}
+use lib.ListN.{length}
+use native.Mathlib.Omega.{arith}
+use denote.Ref.{now}
+use Rattle.listing.specs.Cells.{entryIn, entriesIn}
+use Rattle.listing.proofs.Written.{written-long, written-within, written-part}
+use Rattle.listing.proofs.Turns.{Turns, turns-first, turns-done, turns-room, turns-again}
+use borrow.Author.Needs.{needs}
+use Rattle.listing.proofs.put_entries.Statement.{statement}
+use Rattle.listing.proofs.put_entries.Tie as tie
+
+abbrev Inv-loop : tie.InvT-loop
+Inv-loop out₀ cells base timers at₀ j₀ out at j = Turns (entryIn cells base) timers out₀ out at j
+
+abbrev μ-loop : tie.MeasureT-loop
+μ-loop out₀ cells base timers at₀ j₀ out at j = timers - j
+
+loop-holds : tie.Need-loop-holds Inv-loop μ-loop
+loop-holds c = turns-first _ _ _
+
+-- room for the next one
+room : (c : tie.In-loop Inv-loop μ-loop) → let a = c .before .before .before .before .args in
+    c .before .loop .at + length (entryIn (now (a .cells)) (a .base) (c .before .loop .j)) ≤ length (now (a .out))
+unfolding entriesIn
+room c = turns-room (c .before .loop .inv) (c .loop-test .taken) (c .before .before .before .before .pre .1)
+
+sub-put-entry : tie.Need-sub-put-entry Inv-loop μ-loop
+sub-put-entry c = written-within (c .before .loop .inv .written) (omega (arith, room c))
+
+part-put-entry-start : tie.Need-part-put-entry-start Inv-loop μ-loop
+part-put-entry-start c = written-within (c .before .loop .inv .written) (omega (arith, room c))
+
+part-put-entry-end : tie.Need-part-put-entry-end Inv-loop μ-loop
+part-put-entry-end c = search needs
+
+cast-put-entry : tie.Need-cast-put-entry Inv-loop μ-loop
+cast-put-entry c = search needs
+
+add-put-entry : tie.Need-add-put-entry Inv-loop μ-loop
+add-put-entry c = search needs
+
+mul-put-entry : tie.Need-mul-put-entry Inv-loop μ-loop
+mul-put-entry c = search needs
+
+shared-slice-read-put-entry : tie.Need-shared-slice-read-put-entry Inv-loop μ-loop
+shared-slice-read-put-entry c = search needs
+
+put-entry-requires : tie.Need-put-entry-requires Inv-loop μ-loop
+put-entry-requires c κs = written-part (c .before .before .before .loop .inv .written) _ (room (c .before .before))
+
+add-at : tie.Need-add-at Inv-loop μ-loop
+add-at c = omega (arith, room (c .before .before .before .before .before), c .before .before .put-entry .ensures .size-is, c .before .before .before .before .before .before .before .before .before .good)
+
+add-j : tie.Need-add-j Inv-loop μ-loop
+add-j c = search needs
+
+loop-less : tie.Need-loop-less Inv-loop μ-loop
+loop-less c = search needs
+
+loop-again : tie.Need-loop-again Inv-loop μ-loop
+loop-again c = turns-again (c .before .before .before .before .before .before .loop .inv) (c .before .before .before .before .before .loop-test .taken) (c .before .before .put-entry .ensures)
+
+returns : tie.Need-returns Inv-loop μ-loop
+unfolding entriesIn
+returns c = turns-done (c .before .loop .inv) (c .loop-test .left)
+
+same-length : tie.Need-same-length Inv-loop μ-loop
+same-length c = written-long (returns c) (c .before .before .before .before .pre .1)
+
+pub put-entries-spec : {M : Type 1} → statement M
+put-entries-spec =
+    tie.close
+    (tie.spec
+    Inv-loop
+    μ-loop
+    loop-holds
+    sub-put-entry
+    part-put-entry-start
+    part-put-entry-end
+    cast-put-entry
+    add-put-entry
+    mul-put-entry
+    shared-slice-read-put-entry
+    put-entry-requires
+    add-at
+    add-j
+    loop-less
+    loop-again
+    same-length
+    returns)
