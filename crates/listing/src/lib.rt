@@ -108,9 +108,9 @@ fn put_line(out: &mut [u8], cells: &[u16], timers: u8, q: usize) -> usize
     ensures { λ r. ⌜ Written (lineIn (now (cells .entry)) timers q) (now (out .entry)) (now (out .exit)) r ⌝ }
 {
     let at = put_number(out, b"at ", q as u64);
-    let end = at + put_entries(&mut out[at..], cells, 64 * q, timers);
-    out[end] = b'\n';
-    end + 1
+    let last = at + put_entries(&mut out[at..], cells, 64 * q, timers);
+    out[last] = b'\n';
+    last + 1
 }
 
 // The lines of the locations below n.

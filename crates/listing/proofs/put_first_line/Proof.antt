@@ -58,7 +58,7 @@ add-result c = let s = c .before .before .before .before .before .before .before
 
 returns : tie.Need-returns
 unfolding usedWord floorWord limitWord
-returns c = 
+returns c =
     let s = c .before .before .before .before .before .before .before .before .before .before .before .before .before .before .before .before in
     let w = written-next (written-next (c .before .before .before .before .before .before .before .before .before .before .before .before .put-number .ensures) (c .before .before .before .before .before .before .before .put-number2 .ensures)) (c .before .before .put-number3 .ensures) in
     written-as (written-byte w 10 (omega (arith, s .pre, first-length (s .args .used) (s .args .floor) (s .args .limit)))) (first-parts (s .args .used) (s .args .floor) (s .args .limit))

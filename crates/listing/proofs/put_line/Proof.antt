@@ -28,8 +28,8 @@ mul-put-entries c = search needs
 put-entries-requires : tie.Need-put-entries-requires
 put-entries-requires c κs = let s = c .before .before .before .before .before .before .before .before in (s .pre .0, written-part (c .before .before .before .put-number .ensures) _ (omega (arith, s .pre .2, line-length (now (s .args .cells)) (s .args .timers) (s .args .q))))
 
-add-end : tie.Need-add-end
-add-end c = let s = c .before .before .before .before .before .before .before .before .before .before .before in (omega (arith, s .pre .2, line-length (now (s .args .cells)) (s .args .timers) (s .args .q)))
+add-last : tie.Need-add-last
+add-last c = let s = c .before .before .before .before .before .before .before .before .before .before .before in (omega (arith, s .pre .2, line-length (now (s .args .cells)) (s .args .timers) (s .args .q)))
 
 slice-write-out : tie.Need-slice-write-out
 slice-write-out c = let s = c .before .before .before .before .before .before .before .before .before .before .before in written-below (written-next (c .before .before .before .before .before .before .put-number .ensures) (c .before .before .put-entries .ensures)) (omega (arith, s .pre .2, line-length (now (s .args .cells)) (s .args .timers) (s .args .q)))
@@ -55,7 +55,7 @@ put-line-spec =
     part-put-entries-end
     mul-put-entries
     put-entries-requires
-    add-end
+    add-last
     slice-write-out
     add-result
     same-length

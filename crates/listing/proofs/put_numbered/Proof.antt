@@ -30,8 +30,8 @@ same-length-3 c = search needs
 returns : tie.Need-returns
 returns c = let s = c .before .before .before .before .before .before .before .before .before .before .before .before .before .before .before .before .before .before .before in
     λ d l.
-        let m = c .before .before .before .before .before .before .before .before .before .number-chart .ensures d l in
-        written-as (c .before .before .put-refusal .ensures) (sym (ap (answerText (s .args .limit)) (listed-20 (s .args .limit) d (s .pre .2) (omega (arith, m .used-is, c .before .before .before .before .if1 .taken)))))
+    let m = c .before .before .before .before .before .before .before .before .before .number-chart .ensures d l in
+    written-as (c .before .before .put-refusal .ensures) (sym (ap (answerText (s .args .limit)) (listed-20 (s .args .limit) d (s .pre .2) (omega (arith, m .used-is, c .before .before .before .before .if1 .taken)))))
 
 put-chart-requires : tie.Need-put-chart-requires
 put-chart-requires c κs = let s = c .before .before .before .before .before .before .before .before .before .before .before .before .before .before .before .before .before .before in
@@ -50,11 +50,11 @@ same-length-6 c = search needs
 returns-2 : tie.Need-returns-2
 returns-2 c = let s = c .before .before .before .before .before .before .before .before .before .before .before .before .before .before .before .before .before .before .before .before .before in
     λ d l.
-        let m = c .before .before .before .before .before .before .before .before .before .before .before .number-chart .ensures d l in
-        let few = c .before .before .before .before .before .before .if1 .left in
-        written-as (c .before .before .put-chart .ensures)
-        (text-is m (l .valid) (omega (arith, s .pre .2)) (s .args .limit) (l .timers-are)
-        ∙ sym (ap (answerText (s .args .limit)) (listed-text (s .args .limit) d (s .pre .2) (omega (arith, m .used-is)))))
+    let m = c .before .before .before .before .before .before .before .before .before .before .before .number-chart .ensures d l in
+    let few = c .before .before .before .before .before .before .if1 .left in
+    written-as (c .before .before .put-chart .ensures)
+    (text-is m (l .valid) (omega (arith, s .pre .2)) (s .args .limit) (l .timers-are)
+    ∙ sym (ap (answerText (s .args .limit)) (listed-text (s .args .limit) d (s .pre .2) (omega (arith, m .used-is)))))
 
 pub put-numbered-spec : {M : Type 1} → statement M
 put-numbered-spec =

@@ -41,7 +41,7 @@ add-result c = let a = c .before .before .before .before .before .before .before
 
 returns : tie.Need-returns
 unfolding refusedWord
-returns c = 
+returns c =
     let s = c .before .before .before .before .before .before .before .before .before .before .before in
     written-as (written-byte (written-next (c .before .before .before .before .before .before .before .put-number .ensures) (c .before .before .put-number2 .ensures)) 10 (omega (arith, s .pre, refused-length (s .args .number) (s .args .place)))) (refused-parts (s .args .number) (s .args .place))
 
