@@ -1,4 +1,3 @@
-pub mod Part
 pub mod Writes
 pub mod Decimal
 pub mod Written

@@ -11,7 +11,7 @@ use Rattle.chart_lists.proofs.Put.{put-nil, length-put, put-last}
 use Rattle.listing.specs.Text.{decimal, refusedWord, usedWord, floorWord, limitWord, space, lineFeed, atWord}
 use Rattle.listing.specs.Listing.{refusedText, firstLine, entryText}
 use Rattle.listing.specs.Cells.{Written, entriesIn, lineIn}
-use Rattle.listing.proofs.Part.{put-part, mid-room}
+use Rattle.writer.proofs.Part.{put-part, mid-room}
 
 module _ {xs l out : List ℕ} {a : ℕ} (w : Written xs l out a) where
   -- a call writes after it
