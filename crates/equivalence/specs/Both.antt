@@ -6,7 +6,7 @@ use Rattle.model.specs.Answer.{Answer, result, refused, then}
 use Rattle.model.specs.Chart.{Chart}
 use Rattle.model.specs.Player.{Arrival}
 use Rattle.model.specs.Judge.{Rewriting}
-use Rattle.model.proofs.PlayerLaws.{CountsAllowed}
+use Rattle.model.specs.PlayerTerms.{CountsAllowed}
 use Rattle.file_format.specs.File.{chartIn, fileOf}
 use Rattle.chart_lists.specs.Numbers.{refusedAs}
 use Rattle.rewriting.specs.Rewriting.{rewriteInto}

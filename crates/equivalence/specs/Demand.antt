@@ -8,8 +8,8 @@ use Rattle.model.specs.Valid.{Valid}
 use Rattle.model.specs.Run.{Counts, Step}
 use Rattle.model.specs.Equivalence.{Alike}
 use Rattle.model.specs.Judge.{judged}
-use Rattle.model.proofs.PlayerLaws.{CountsAllowed}
-use Rattle.model.proofs.PlayerAnswer.{PlayerAnswer}
+use Rattle.model.specs.PlayerTerms.{CountsAllowed}
+use Rattle.model.specs.PlayerTerms.{PlayerAnswer}
 use Rattle.file_format.specs.File.{fileOf}
 use Rattle.player.specs.Playing.{playAnswer}
 

@@ -19,19 +19,7 @@ use Rattle.model.specs.Flow.{settled}
 use Rattle.model.specs.Family.{Pairs, isPair, Linked, Joined, Family, familyNumber, linkFlow, familyOf, meets}
 use Rattle.model.proofs.Joined.{WellFormed, joined-refl, joined-trans, joined-sym, joined-carries, joined-pair}
 use Rattle.model.proofs.LinkFlow.{link-flow-iff}
-
--- n is the number of the family of (q, j): the smallest 64 times location plus timer among its pairs
-pub record NumberOfFamily (p : Pairs) (q j n : ℕ) : Type 0 where
-  pub location : ℕ
-  pub joined : Joined p j q location
-  pub is-its : n ≡ 64 * location + j
-  pub smallest : (s : ℕ) → Joined p j q s → n ≤ 64 * s + j
-
--- the families of (q, j) and (s, k) contain a common location
-pub record Meet (p : Pairs) (q j s k : ℕ) : Type 0 where
-  pub location : ℕ
-  pub left : Joined p j q location
-  pub right : Joined p k s location
+pub use Rattle.model.specs.SharingRule.{NumberOfFamily, Meet}
 
 same-family : (f g : Family) → f .timer ≡ g .timer → f .first ≡ g .first → f .locations ≡ g .locations → f ≡ g
 same-family f g t a l = λ i. record { timer = t i; first = a i; locations = l i }

@@ -15,6 +15,7 @@ use Rattle.lists.proofs.Membership.{memb-cases, memb-head, memb-tail, memb-nil,
 use Rattle.lists.proofs.Lowest.{lowest-passes, lowest-before, lowest-is}
 use Rattle.model.specs.Family.{Family, meets}
 use Rattle.model.specs.FirstFit.{Placed, held, free, place, usedBy, allHeld, blocked}
+pub use Rattle.model.specs.SharingRule.{HeldBy, FirstFitRule}
 
 -- ---- the smallest number that is not in a list
 
@@ -31,14 +32,6 @@ unfolding free
 free-least l k h = not-false _ (lowest-before (λ k. not (memb k l)) (top l) k h)
 
 -- ---- the numbers held by the families that f meets
-
--- a family of the list that f meets holds k
-pub record HeldBy (f : Family) (k : ℕ) (ps : List Placed) : Type 0 where
-  pub place : ℕ
-  pub holder : Placed
-  pub is-nth : getElem? ps place ≡ some holder
-  pub met : meets f (holder .family) ≡ true
-  pub number : holder .number ≡ k
 
 module _ (f : Family) where
   pub held-in : (ps : List Placed) (i : ℕ) (g : Placed) → getElem? ps i ≡ some g → meets f (g .family) ≡ true → memb (g .number) (held f ps) ≡ true
@@ -84,13 +77,6 @@ place-fitted (f ∷ fs) ps a = place-fitted fs (record { family = f; number = fr
 fitted-at : (later : List Placed) (g : Placed) (earlier : List Placed) → Fitted (later ++ (g ∷ earlier)) → g .number ≡ free (held (g .family) earlier)
 fitted-at [] g earlier a = a .0
 fitted-at (h ∷ later) g earlier a = fitted-at later g earlier (a .1)
-
--- the rule in the document's words; the last one placed stands first
-pub record FirstFitRule (ps : List Placed) : Type 0 where
-  pub apart : (later : List Placed) (g : Placed) (earlier : List Placed) → ps ≡ later ++ (g ∷ earlier)
-      → (i : ℕ) (h : Placed) → getElem? earlier i ≡ some h → meets (g .family) (h .family) ≡ true → h .number ≡ g .number → ⊥
-  pub smallest : (later : List Placed) (g : Placed) (earlier : List Placed) → ps ≡ later ++ (g ∷ earlier)
-      → (k : ℕ) → k < g .number → HeldBy (g .family) k earlier
 
 pub first-fit-rule : (fs : List Family) → FirstFitRule (place fs [])
 first-fit-rule fs = record {

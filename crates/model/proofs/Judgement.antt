@@ -23,28 +23,9 @@ use Rattle.model.proofs.Transitions.{nth-valid, tested-below, below-nth
 use Rattle.model.proofs.TransitionSets.{member-tests, tests-word}
 use Rattle.model.proofs.Paths.{UnstartedAt}
 use Rattle.model.proofs.Forward.{member-filled, filled-member, unstarted-iff, reached-iff}
+pub use Rattle.model.specs.Places.{AllReached, LowestUnreached, LowestUnstarted, Accepted}
 
 -- ---- what the three answers say
-
--- q is the lowest location that no path reaches
-pub record LowestUnreached (c : Chart) (q : ℕ) : Type 0 where
-  pub below : q < c .locations
-  pub unreached : Reached c q → ⊥
-  pub lower-reached : (p : ℕ) → p < q → Reached c p
-
-abbrev pub AllReached : Chart → Type 0
-AllReached c = (q : ℕ) → q < c .locations → Reached c q
-
--- every location is reached, and i is the lowest transition with an unstarted test
-pub record LowestUnstarted (c : Chart) (i : ℕ) : Type 0 where
-  pub all-reached : AllReached c
-  pub unstarted-test : UnstartedAt c i
-  pub none-lower : (k : ℕ) → k < i → UnstartedAt c k → ⊥
-
--- every location is reached, and no transition has an unstarted test
-pub record Accepted (c : Chart) : Type 0 where
-  pub all-reached : AllReached c
-  pub no-unstarted-test : (i : ℕ) → UnstartedAt c i → ⊥
 
 -- the answer, with what it says
 pub data Judgement (c : Chart) : Type 0 where

@@ -9,6 +9,7 @@ use Rattle.model.specs.Chart.{Transition, Chart, Nth, tested}
 use Rattle.model.specs.Valid.{Valid}
 use Rattle.model.specs.Path.{Path, StartsNowhere, ReadAt, Live, Reached, Unstarted, UnstartedTest}
 use Rattle.model.proofs.Transitions.{nth-same, nth-valid, tested-below}
+pub use Rattle.model.specs.Places.{UnstartedAt}
 
 module _ (c : Chart) where
   pub path-append : (p p′ : List ℕ) (q s t : ℕ) → Path c q p s → Path c s p′ t → Path c q (p ++ p′) t
@@ -128,12 +129,6 @@ module _ {c : Chart} where
   unstarted-reached x = record { path = x .path; leads = x .leads }
 
 -- ---- a timer that is live at the initial location is one that a test finds unstarted, and the other way round
-
--- transition number i has an unstarted test
-pub record UnstartedAt (c : Chart) (i : ℕ) : Type 0 where
-  pub transition : Transition
-  pub is-nth : Nth c i transition
-  pub test : UnstartedTest c transition
 
 module _ {c : Chart} where
   pub live-unstarted : {j : ℕ} (l : Live c (c .initial) j) → UnstartedAt c (l .read .number)

@@ -20,20 +20,7 @@ use Rattle.model.specs.Equivalence.{IsRun}
 use Rattle.model.proofs.Answers.{not-result, refused-same, number-is}
 use Rattle.model.proofs.Steps.{judgedStep, attempt-none, attempt-some}
 use Rattle.model.proofs.PlayerNumbers.{list-numbers}
-
--- step n of the list names a transition, and is the first whose time is over 16,777,215
-pub record TooLate (c : Chart) (es : List Step) (n : ℕ) : Type 0 where
-  pub step : Step
-  pub is-step : getElem? es n ≡ some step
-  pub transition : Transition
-  pub names : Nth c (step .transition) transition
-  pub over : 16777215 < step .time
-  pub first : (i : ℕ) (e : Step) → i < n → getElem? es i ≡ some e → e .time ≤ 16777215
-
--- and the steps before it are taken
-pub record LateStep (c : Chart) (v : Counts) (es : List Step) (n : ℕ) : Type 0 where
-  pub too-late : TooLate c es n
-  pub taken : IsRun c v (take n es)
+pub use Rattle.model.specs.PlayerTerms.{TooLate, LateStep, PlayerAnswer}
 
 module _ {c : Chart} where
   late-here : (e : Step) (es : List Step) {r : Transition} → Nth c (e .transition) r → 16777215 < e .time → TooLate c (e ∷ es) 0
@@ -125,12 +112,6 @@ module _ (c : Chart) where
       named (some r) h (inr l) ih = allowed l (attempt everyTime c n s e) refl ih
 
 -- ---- the player's answer
-
-pub record PlayerAnswer (c : Chart) (v : Counts) (es : List Step) : Type 0 where
-  -- 15 at step n exactly where step n is late
-  pub late : (n : ℕ) → (answerOf playerTime c v es ≡ refused 15 n) ↔ LateStep c v es n
-  -- in every other case the list's own answer
-  pub other : ((n : ℕ) → LateStep c v es n → ⊥) → answerOf playerTime c v es ≡ answerOf everyTime c v es
 
 pub player-answer : (c : Chart) (v : Counts) (es : List Step) → PlayerAnswer c v es
 unfolding answerOf outcome

@@ -20,11 +20,7 @@ use Rattle.model.specs.Equivalence.{Alike}
 use Rattle.model.proofs.Answers.{unless-passed}
 use Rattle.model.proofs.EqualRuns.{plan-alike}
 use Rattle.model.proofs.PlayerNumbers.{played-judged}
-
--- one count for each timer, none over 16,777,215
-pub record CountsAllowed (c : Chart) (counts : List ℕ) : Type 0 where
-  pub one-each : length counts ≡ c .timers
-  pub small : (j : ℕ) → j < c .timers → getD counts j 0 ≤ 16777215
+pub use Rattle.model.specs.PlayerTerms.{CountsAllowed}
 
 module _ (c : Chart) (counts : List ℕ) where
   -- 12 lets them pass, and no others

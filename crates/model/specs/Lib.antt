@@ -13,3 +13,6 @@ pub mod Player
 pub mod Cases
 pub mod Plan
 pub mod Equivalence
+pub mod Places
+pub mod SharingRule
+pub mod PlayerTerms
