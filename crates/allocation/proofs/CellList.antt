@@ -1,42 +1,19 @@
 -- The list of cells of placed families, how many numbers these use, and families placed one list after another. Assumes nothing.
 use mathlib.Core.Path.{_≡_, refl, sym, ap, _∙_, subst}
 use mathlib.Core.Logic.{_⊎_, inl, inr}
-use mathlib.Core.Bool.{Bool, true, _||_, true≢false}
 use mathlib.Core.Option.{Option, none, some}
 use mathlib.Core.List.{List, [], _∷_, _++_}
-use Prim.Native.Nat.{ℕ, zero, suc, _+_, _*_, _/_, _%_, _≤_, _<_, max}
-use native.Mathlib.Decide.{ℕ-discrete}
+use Prim.Native.Nat.{ℕ, suc, _+_, _*_, _/_, _%_, _≤_, _<_, max}
 use native.Mathlib.Omega.{arith}
 use lib.ListN.{length, getD}
 use lib.Seq.{ext-getD}
 use Rattle.lists.specs.Lists.{top}
-use Rattle.lists.proofs.Bools.{or-cases, or-left, or-right, lt-or-le}
+use Rattle.lists.proofs.Bools.{lt-or-le}
 use Rattle.lists.proofs.Gather.{length-upTo, getD-upTo}
 use Rattle.model.specs.Family.{Family}
 use Rattle.model.specs.FirstFit.{Placed, held, free, place, usedBy, numberAt}
 use Rattle.model.proofs.FirstFit.{free-least, held-out, used-above}
 use Rattle.allocation.specs.Cells.{noNumber, cell, cells}
-use Rattle.allocation.specs.Numbering.{anyBelow}
-
--- ---- some number below n passes
-
-pub below-in : (f : ℕ → Bool) (n k : ℕ) → k < n → f k ≡ true → anyBelow f n ≡ true
-unfolding anyBelow
-below-in f zero k h t = absurd (omega arith)
-below-in f (suc n) k h t = go (ℕ-discrete k n) (below-in f n k)
-  where
-    go : Dec (k ≡ n) → (k < n → f k ≡ true → anyBelow f n ≡ true) → (anyBelow f n || f n) ≡ true
-    go (yes e) ih = or-right (anyBelow f n) (ap f (sym e) ∙ t)
-    go (no ne) ih = or-left (f n) (ih (omega arith) t)
-
-pub below-out : (f : ℕ → Bool) (n : ℕ) → anyBelow f n ≡ true → (k : ℕ) × (k < n) × (f k ≡ true)
-unfolding anyBelow
-below-out f zero h = absurd (true≢false (sym h))
-below-out f (suc n) h = go (or-cases (anyBelow f n) h) (below-out f n)
-  where
-    go : (anyBelow f n ≡ true) ⊎ (f n ≡ true) → (anyBelow f n ≡ true → (k : ℕ) × (k < n) × (f k ≡ true)) → (k : ℕ) × (k < suc n) × (f k ≡ true)
-    go (inl a) ih = let r = ih a in (r .0, omega (arith, r .1), r .2)
-    go (inr b) ih = (n, omega arith, b)
 
 -- ---- cells
 

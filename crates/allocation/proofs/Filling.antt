@@ -1,6 +1,6 @@
--- Lists that a loop writes from the front, one cell or one row of 64 cells a turn. Assumes nothing.
-use mathlib.Core.Path.{_≡_, refl, sym, _∙_}
-use mathlib.Core.Logic.{_≢_}
+-- Lists that a loop writes from the front, one entry a turn or one entry of a row. Assumes nothing.
+use mathlib.Core.Path.{_≡_, refl, sym, ap, _∙_}
+use mathlib.Core.Logic.{_⊎_, inl, inr, _≢_}
 use mathlib.Core.Bool.{Bool, true, false, _&&_}
 use mathlib.Core.List.{List}
 use Prim.Native.Nat.{ℕ, _+_, _*_, _≤_, _<_}
@@ -10,10 +10,10 @@ use lib.Dec.{eqb}
 use lib.ListN.{length, getD, set}
 use lib.Seq.{getD-set-same, getD-set-other}
 use borrow.Author.Tests.{ne-eqb}
-use Rattle.lists.proofs.Bools.{eqb-self}
-use Rattle.allocation.specs.Numbering.{inFamily, given}
+use Rattle.lists.proofs.Bools.{is-no, eqb-self, lt-or-le}
+use Rattle.allocation.specs.Numbering.{inFamily, changed, Within}
 
--- a cell more
+-- an entry more
 pub filled-more : (f : ℕ → ℕ) (l : List ℕ) (x : ℕ) → x < length l → ((k : ℕ) → k < x → getD l k 0 ≡ f k) → (k : ℕ) → k < x + 1 → getD (set l x (f x)) k 0 ≡ f k
 filled-more f l x h below k lt = go (ℕ-discrete k x)
   where
@@ -21,48 +21,80 @@ filled-more f l x h below k lt = go (ℕ-discrete k x)
     go (yes e) = rw e (getD-set-same l x (f x) 0 h)
     go (no ne) = getD-set-other l x k (f x) 0 ne ∙ below k (omega arith)
 
--- the rows below s are done, and the others are as they were
-pub record Rows (new : ℕ → ℕ → ℕ) (before : List ℕ) (s : ℕ) (now : List ℕ) : Type 0 where
-  pub done : (q i : ℕ) → q < s → i < 64 → getD now (64 * q + i) 0 ≡ new q i
-  pub left : (q i : ℕ) → s ≤ q → i < 64 → getD now (64 * q + i) 0 ≡ getD before (64 * q + i) 0
+-- ---- one column of the rows of a family's locations
 
--- a row more, if its cells are done and the others are kept
-rows-more : (new : ℕ → ℕ → ℕ) (before l m : List ℕ) (s : ℕ) → Rows new before s l → ((i : ℕ) → i < 64 → getD m (64 * s + i) 0 ≡ new s i)
-    → ((q i : ℕ) → q ≢ s → i < 64 → getD m (64 * q + i) 0 ≡ getD l (64 * q + i) 0) → Rows new before (s + 1) m
-rows-more new before l m s r row other = record {
-  done = λ q i h k. go q i k (ℕ-discrete q s) (λ n. r .done q i (omega arith) k);
-  left = λ q i h k. other q i (λ e. omega arith) k ∙ r .left q i (omega arith) k;
-}
-  where
-    go : (q i : ℕ) → i < 64 → Dec (q ≡ s) → (q ≢ s → getD l (64 * q + i) 0 ≡ new q i) → getD m (64 * q + i) 0 ≡ new q i
-    go q i k (yes e) f = rw e (row i k)
-    go q i k (no ne) f = other q i ne k ∙ f ne
+module _ (place : ℕ → ℕ → ℕ) (sets : List ℕ) (j column : ℕ) (value : ℕ → ℕ) (before : List ℕ) (s : ℕ) where
+  pub changed-no : inFamily sets j s ≡ false → (i : ℕ) → changed place sets j column value before s i ≡ getD before (place s i) 0
+  unfolding changed
+  changed-no e i = go (eqb column i)
+    where
+      go : (b : Bool) → elim (b && inFamily sets j s) [ true ↦ value (getD before (place s i) 0) | false ↦ getD before (place s i) 0 ] ≡ getD before (place s i) 0
+      go true = rw e refl
+      go false = refl
 
-module _ (labels live : List ℕ) (q j number : ℕ) (before l : List ℕ) (s : ℕ) (r : Rows (given labels live q j number before) before s l) where
+  pub changed-other : (i : ℕ) → (column ≡ i → ⊥) → changed place sets j column value before s i ≡ getD before (place s i) 0
+  unfolding changed
+  changed-other i n = rw (ne-eqb column i n, changed) refl
+
+  pub changed-here : inFamily sets j s ≡ true → changed place sets j column value before s column ≡ value (getD before (place s column) 0)
+  unfolding changed
+  changed-here e = rw (eqb-self column, e, changed) refl
+
+module _ (place : ℕ → ℕ → ℕ) (columns : ℕ) (sets : List ℕ) (j column : ℕ) (value : ℕ → ℕ) (before : List ℕ) where
   abbrev new : ℕ → ℕ → ℕ
-  new = given labels live q j number before
+  new = changed place sets j column value before
 
-  pub give-no : inFamily labels live q j s ≡ false → Rows new before (s + 1) l
-  unfolding given
-  give-no e = rows-more new before l l s r (λ i h. r .left s i (omega arith) h ∙ kept i (eqb j i)) (λ x i n h. refl)
-    where
-      kept : (i : ℕ) (b : Bool) → getD before (64 * s + i) 0 ≡ elim (b && inFamily labels live q j s) [ true ↦ number | false ↦ getD before (64 * s + i) 0 ]
-      kept i true = rw e refl
-      kept i false = refl
+  -- the rows below s are done, and the others are as they were
+  pub record Rows (s : ℕ) (now : List ℕ) : Type 0 where
+    pub done : (q i : ℕ) → q < s → i < columns → getD now (place q i) 0 ≡ new q i
+    pub left : (q i : ℕ) → s ≤ q → q < 256 → i < columns → getD now (place q i) 0 ≡ getD before (place q i) 0
 
-  pub give-yes : inFamily labels live q j s ≡ true → j < 64 → 64 * s + 64 ≤ length l → Rows new before (s + 1) (set l (64 * s + j) number)
-  unfolding given
-  give-yes e hj long =
-      rows-more new before l (set l (64 * s + j) number) s r (λ i h. row i h (ℕ-discrete i j))
-      (λ x i n h. getD-set-other l (64 * s + j) (64 * x + i) number 0 (λ p. n (omega arith)))
-    where
-      here : getD (set l (64 * s + j) number) (64 * s + j) 0 ≡ elim (eqb j j && inFamily labels live q j s) [ true ↦ number | false ↦ getD before (64 * s + j) 0 ]
-      here = rw (eqb-self j) (rw e (getD-set-same l (64 * s + j) number 0 (omega arith)))
+  -- a row that is not of the family stays
+  kept : (s i : ℕ) → inFamily sets j s ≡ false → getD before (place s i) 0 ≡ new s i
+  kept s i e = sym (changed-no place sets j column value before s e i)
 
-      other : (i : ℕ) → i < 64 → (i ≡ j → ⊥) → getD (set l (64 * s + j) number) (64 * s + i) 0
-          ≡ elim (eqb j i && inFamily labels live q j s) [ true ↦ number | false ↦ getD before (64 * s + i) 0 ]
-      other i h n = rw (ne-eqb j i (λ p. n (sym p))) (getD-set-other l (64 * s + j) (64 * s + i) number 0 (λ p. n (omega arith)) ∙ r .left s i (omega arith) h)
+  module _ {from end : ℕ} (w : Within sets j from end) where
+    pub rows-none : Rows from before
+    rows-none = record { done = λ q i h k. kept q i (is-no _ (λ t. omega (arith, w .low q t))); left = λ q i h b k. refl }
 
-      row : (i : ℕ) → i < 64 → Dec (i ≡ j) → getD (set l (64 * s + j) number) (64 * s + i) 0 ≡ new s i
-      row i h (yes p) = rw p here
-      row i h (no n) = other i h n
+    pub rows-all : (l : List ℕ) → Rows end l → (q i : ℕ) → q < 256 → i < columns → getD l (place q i) 0 ≡ new q i
+    rows-all l r q i b k = go (lt-or-le q end)
+      where
+        go : (q < end) ⊎ (end ≤ q) → getD l (place q i) 0 ≡ new q i
+        go (inl h) = r .done q i h k
+        go (inr h) = r .left q i h b k ∙ kept q i (is-no _ (λ t. omega (arith, w .high q t)))
+
+  module _ (s : ℕ) (few : s < 256) (l : List ℕ) (r : Rows s l) where
+    -- a row more, if its entries are done and the others are kept
+    rows-more : (m : List ℕ) → ((i : ℕ) → i < columns → getD m (place s i) 0 ≡ new s i)
+        → ((q i : ℕ) → q ≢ s → q < 256 → i < columns → getD m (place q i) 0 ≡ getD l (place q i) 0) → Rows (s + 1) m
+    rows-more m row other = record {
+      done = λ q i h k. go q i k (omega arith) (ℕ-discrete q s) (λ n. r .done q i (omega arith) k);
+      left = λ q i h b k. other q i (λ e. omega arith) b k ∙ r .left q i (omega arith) b k;
+    }
+      where
+        go : (q i : ℕ) → i < columns → q < 256 → Dec (q ≡ s) → (q ≢ s → getD l (place q i) 0 ≡ new q i) → getD m (place q i) 0 ≡ new q i
+        go q i k b (yes e) f = rw e (row i k)
+        go q i k b (no ne) f = other q i ne b k ∙ f ne
+
+    pub rows-no : inFamily sets j s ≡ false → Rows (s + 1) l
+    rows-no e = rows-more l (λ i h. r .left s i (omega arith) few h ∙ kept s i e) (λ q i n b h. refl)
+
+    pub rows-yes : inFamily sets j s ≡ true → column < columns → place s column < length l
+        → ((q i : ℕ) → q < 256 → i < columns → place q i ≡ place s column → (q ≡ s) × (i ≡ column))
+        → Rows (s + 1) (set l (place s column) (value (getD l (place s column) 0)))
+    rows-yes e c long apart = rows-more m (λ i h. row i h (ℕ-discrete i column)) (λ q i n b h. getD-set-other l _ (place q i) _ 0 (λ p. n (apart q i b h p .0)))
+      where
+        m : List ℕ
+        m = set l (place s column) (value (getD l (place s column) 0))
+
+        here : getD m (place s column) 0 ≡ new s column
+        here =
+            getD-set-same l (place s column) _ 0 long ∙ ap value (r .left s column (omega arith) few c)
+            ∙ sym (changed-here place sets j column value before s e)
+
+        row : (i : ℕ) → i < columns → Dec (i ≡ column) → getD m (place s i) 0 ≡ new s i
+        row i h (yes p) = rw p here
+        row i h (no n) =
+            getD-set-other l (place s column) (place s i) _ 0 (λ p. n (apart s i few h p .1)) ∙ r .left s i (omega arith) few h
+            ∙ sym (changed-other place sets j column value before s i (λ p. n (sym p)))

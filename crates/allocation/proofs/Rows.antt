@@ -13,12 +13,9 @@ use Rattle.lists.specs.Lists.{lowest}
 use Rattle.lists.proofs.Bools.{same-bool, same-number, not-false, lt-or-le}
 use Rattle.lists.proofs.Lowest.{lowest-passes, lowest-before, lowest-is}
 use Rattle.timer_set.specs.Members.{member, added, lowestMissing}
-use Rattle.timer_set.proofs.Members.{member-added, member-empty}
-use Rattle.allocation.specs.Numbering.{anyBelow, inFamily, inRow, taken}
-
-or-false : (b : Bool) → b ≡ (b || false)
-or-false true = refl
-or-false false = refl
+use Rattle.timer_set.proofs.Members.{member-added}
+use Rattle.allocation.specs.Numbering.{anyBelow, inRow}
+use Rattle.allocation.proofs.Below.{or-false}
 
 or-assoc : (a b c : Bool) → ((a || b) || c) ≡ (a || (b || c))
 or-assoc true b c = refl
@@ -49,22 +46,6 @@ module _ (numbers : List ℕ) (s w : ℕ) where
 
     pub row-no : (y / 64 ≡ w → ⊥) → member set x ≡ (member before x || inRow numbers s (64 * w + x) (i + 1))
     row-no d = or-false (member set x) ∙ ap (λ (b : Bool). member set x || b) (sym (ne-eqb y (64 * w + x) (λ n. d (omega arith)))) ∙ row-more
-
--- ---- the rows of a family
-
-module _ (labels live numbers : List ℕ) (q j : ℕ) where
-  pub taken-none : (k x : ℕ) → member 0 x ≡ taken labels live numbers q j k 0
-  unfolding taken anyBelow
-  taken-none k x = member-empty x
-
-  module _ (s k : ℕ) where
-    pub taken-yes : inFamily labels live q j s ≡ true → (taken labels live numbers q j k s || inRow numbers s k 64) ≡ taken labels live numbers q j k (s + 1)
-    unfolding taken anyBelow
-    taken-yes e = rw (add-one, e)
-
-    pub taken-no : inFamily labels live q j s ≡ false → taken labels live numbers q j k s ≡ taken labels live numbers q j k (s + 1)
-    unfolding taken anyBelow
-    taken-no e = rw (add-one, e) (or-false _)
 
 -- ---- the lowest number that does not pass, 64 at a time
 

@@ -74,16 +74,33 @@ pub fn analyse(file: &[u8], live: &mut [u64]) -> Analysis
     ensures answer { λ r. ⌜ meantAnalysis r ≡ analyseAnswer (length (now (live .entry))) (now (file .entry)) ⌝ }
     ensures lent { λ _. ⌜ now (live .exit) ≡ listAfter (analysedIn (length (now (live .entry))) (now (file .entry))) (now (live .entry)) ⌝ }
 {
-    let h = judgement::judge(file);
-    let a = h.answer;
+    let mut accepting = [0u16; 256];
+    let mut sources = [0u16; 512];
+    let mut targets = [0u16; 512];
+    let mut events = [0u8; 512];
+    let mut starts = [0u64; 512];
+    let mut counts = [0u8; 512];
+    let mut timers = [0u8; 4096];
+    let mut codes = [0u8; 4096];
+    let mut constants = [0u16; 4096];
+    let mut tested = [0u64; 512];
+    let a = judgement::judge(
+        file,
+        &mut accepting,
+        &mut sources,
+        &mut targets,
+        &mut events,
+        &mut starts,
+        &mut counts,
+        &mut timers,
+        &mut codes,
+        &mut constants,
+        &mut tested,
+    );
     match a {
         Read::Refused(f) => Analysis::Refused(f),
         Read::Chart(numbers) => {
             let n = numbers.transitions as usize;
-            let sources = h.sources;
-            let targets = h.targets;
-            let starts = h.starts;
-            let tested = h.tested;
             analyse_chart(
                 &sources[..n],
                 &targets[..n],

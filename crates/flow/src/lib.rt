@@ -1,7 +1,7 @@
 // Sets of timers that pass along edges, by rounds: each round makes every location's set from the sets of the round before, the first from empty
 // ones, to the first round that changes no set.
 ghost use mathlib.Core.Path.{_≡_};
-ghost use lib.ListN.{length};
+ghost use lib.ListN.{length, replicate};
 ghost use Rattle.timer_set.specs.Members.{joined, minus};
 ghost use Rattle.model.specs.Flow.{round as Flow·round, sameSets, settled, rounds};
 ghost use Rattle.flow.specs.Edges.{flowOf, Matching};
@@ -68,6 +68,52 @@ fn round<'a>(
     }
 }
 
+// One round, and whether it changed no set.
+fn step<'a>(
+    into: &'a [u16],
+    from: &'a [u16],
+    cut: &'a [u64],
+    gain: &'a [u64],
+    own: &'a [u64],
+    before: &'a [u64],
+    after: &mut [u64],
+) -> bool
+    requires { ⌜ Matching (now into) (now from) (now cut) (now gain) (now own) ⌝ }
+    requires { ⌜ (length (now before) ≡ length (now own)) × (length (now after) ≡ length (now own)) ⌝ }
+    ensures after { λ _. ⌜ now (after .exit) ≡ Flow·round (flowOf (now (into .entry)) (now (from .entry)) (now (cut .entry)) (now (gain .entry)) (now (own .entry))) (now (before .entry)) ⌝ }
+    ensures same { λ r. ⌜ r ≡ sameSets (now (before .entry)) (now (after .exit)) ⌝ }
+{
+    round(into, from, cut, gain, own, before, after);
+    same(before, after)
+}
+
+// Round after round, from `sets` into `next` and from `next` into `sets`, to the first that changes nothing: then both hold the same.
+fn alternate<'a>(
+    into: &'a [u16],
+    from: &'a [u16],
+    cut: &'a [u64],
+    gain: &'a [u64],
+    own: &'a [u64],
+    sets: &mut [u64],
+    next: &mut [u64],
+) -> u32
+    requires { ⌜ Matching (now into) (now from) (now cut) (now gain) (now own) ⌝ }
+    requires { ⌜ (now sets ≡ replicate (length (now own)) 0) × (length (now next) ≡ length (now own)) ⌝ }
+    ensures sets { λ _. ⌜ now (sets .exit) ≡ settled (flowOf (now (into .entry)) (now (from .entry)) (now (cut .entry)) (now (gain .entry)) (now (own .entry))) ⌝ }
+    ensures count { λ r. ⌜ r ≡ rounds (flowOf (now (into .entry)) (now (from .entry)) (now (cut .entry)) (now (gain .entry)) (now (own .entry))) ⌝ }
+{
+    let mut count: u32 = 0;
+    loop {
+        if step(into, from, cut, gain, own, sets, next) {
+            return count + 1;
+        }
+        count += 2;
+        if step(into, from, cut, gain, own, next, sets) {
+            return count;
+        }
+    }
+}
+
 // The sets that the rounds leave go into `sets`, whatever it held; the number of rounds, the last one counted, is the result.
 pub fn settle<'a>(
     into: &'a [u16],
@@ -84,13 +130,6 @@ pub fn settle<'a>(
 {
     let n = own.len();
     let mut next = [0u64; 256];
-    let mut count: u32 = 0;
-    loop {
-        copy(&next[..n], sets);
-        round(into, from, cut, gain, own, sets, &mut next[..n]);
-        count += 1;
-        if same(sets, &next[..n]) {
-            return count;
-        }
-    }
+    copy(&next[..n], sets);
+    alternate(into, from, cut, gain, own, sets, &mut next[..n])
 }

@@ -1,15 +1,15 @@
 -- The arrays of the largest size after a chart is read: its lists stand in front, and what the code asks of them holds. Assumes nothing.
 use mathlib.Core.Path.{_≡_, refl, sym, ap, _∙_}
 use mathlib.Core.List.{List, [], _∷_, map, _++_, map-append}
-use Prim.Native.Nat.{ℕ, zero, suc, _+_, _≤_, _<_}
+use Prim.Native.Nat.{ℕ, zero, suc, _≤_, _<_}
 use native.Mathlib.Omega.{arith}
 use lib.ListN.{length, getD, take, drop, replicate, length-append, length-map, length-replicate}
 use lib.Seq.{getD-drop}
 use Rattle.lists.specs.Rising.{All}
 use Rattle.model.specs.Answer.{Answer, result, refused}
 use Rattle.model.specs.Chart.{Test, Transition, Chart}
-use Rattle.model.specs.Valid.{Valid, ValidTest, ValidTransition}
-use Rattle.model.specs.Live.{startsSet, testsSet}
+use Rattle.model.specs.Valid.{ValidTest, ValidTransition}
+use Rattle.model.specs.Live.{testsSet}
 use Rattle.model.proofs.Rounds.{getD-empty}
 use Rattle.file_format.specs.File.{chartIn}
 use Rattle.file_format.proofs.RoundTrip.{Bytes}
@@ -23,6 +23,7 @@ use Rattle.flow.proofs.ChartFlows.{unstarted-matching}
 use Rattle.reader.specs.Reading.{listsAfter}
 use Rattle.judgement.specs.Judging.{largest, numbersRead, numbersJudged, judgedNumbers, judgedIn, testedAfter}
 use Rattle.judgement.specs.Drawn.{Drawable, Drawn}
+use Rattle.judgement.specs.Holds.{Holds}
 use Rattle.judgement.specs.Tested.{total, TimersFor, TestsOf}
 use Rattle.judgement.proofs.Largest.{all-tests}
 use Rattle.judgement.proofs.Judging.{listed}
@@ -65,18 +66,6 @@ total-tests [] = refl
 total-tests (r ∷ rs) = rw (total-tests rs, length-append)
 
 -- ---- the arrays that hold a chart's lists
-
--- the file's chart with its numbers, and of its lists those that the judgement looks at, over the front of zeros
-pub record Holds (bs : List ℕ) (m : Numbers) (sources targets starts counts timers : List ℕ) : Type 0 where
-  pub chart : Chart
-  pub reads : chartIn bs ≡ result chart
-  pub valid : Valid 2 chart
-  pub numbers-are : m ≡ numbersOf chart
-  pub sources-are : sources ≡ put (map (λ (r : Transition). r .source) (chart .transitions)) (replicate 512 0)
-  pub targets-are : targets ≡ put (map (λ (r : Transition). r .target) (chart .transitions)) (replicate 512 0)
-  pub starts-are : starts ≡ put (map startsSet (chart .transitions)) (replicate 512 0)
-  pub counts-are : counts ≡ put (map (λ (r : Transition). length (r .tests)) (chart .transitions)) (replicate 512 0)
-  pub timers-are : timers ≡ put (map (λ (t : Test). t .timer) (allTests (chart .transitions))) (replicate 4096 0)
 
 pub holds : (bs : List ℕ) → Bytes bs → {m : Numbers} (a s t e w g j x k : List ℕ) → result m ≡ numbersRead bs
     → lists a s t e w g j x k ≡ listsAfter (chartIn bs) largest → Holds bs m s t w g j

@@ -17,7 +17,8 @@ use Rattle.chart_lists.specs.Numbers.{numbersOf}
 use Rattle.chart_lists.specs.declared.Numbers.{Numbers}
 use Rattle.reader.specs.Reading.{listsAfter}
 use Rattle.judgement.specs.Judging.{judgedIn, judgedNumbers, numbersRead, largest, testedAfter}
-use Rattle.judgement.proofs.Fronts.{Holds, holds}
+use Rattle.judgement.specs.Holds.{Holds}
+use Rattle.judgement.proofs.Fronts.{holds}
 
 pub judged-refused : (bs : List ℕ) {n p : ℕ} → refused n p ≡ judgedNumbers bs → judgedIn bs ≡ refused n p
 unfolding judgedNumbers

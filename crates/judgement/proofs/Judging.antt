@@ -39,11 +39,11 @@ module _ {c : Chart} {initial locations : ℕ} {sources targets starts tested : 
   unfolding reachedSets reachedFlow
   length-reached = length-settled (reachedFlow c)
 
-  pub unreached-is : (sets : List ℕ) {r : ℕ}
-      → sets ≡ settled (flowOf targets sources (replicate (length sources) 0) (replicate (length sources) 0) (ownSets initial locations))
+  pub unreached-is : (sets : List ℕ) {none : List ℕ} {r : ℕ} → none ≡ replicate (length sources) 0
+      → sets ≡ settled (flowOf targets sources none (replicate (length sources) 0) (ownSets initial locations))
       → r ≡ lowest (λ q. isEmpty (getD sets q 0)) (length sets) → r ≡ firstUnreached c
   unfolding firstUnreached
-  unreached-is sets e f = rw (e ∙ reached-are, length-reached) at f
+  unreached-is sets z e f = let g = rw z at e in rw (g ∙ reached-are, length-reached) at f
 
   -- 10
   unstarted-are : settled (flowOf targets sources starts (replicate (length sources) 0) (ownSets initial locations)) ≡ unstartedSets c

@@ -3,6 +3,7 @@ use mathlib.Core.Path.{_≡_, ap, _∙_}
 use mathlib.Core.List.{List, _++_}
 use Prim.Native.Nat.{ℕ, _≤_, _<_}
 use native.Mathlib.Omega.{arith}
+use borrow.Author.Needs.{needs}
 use lib.ListN.{length, getD, take, replicate, length-append}
 use lib.Seq.{take-at}
 use Rattle.model.specs.Flow.{settled}
@@ -13,17 +14,17 @@ use Rattle.flow.proofs.Turns.{take-empty}
 use Rattle.judgement.specs.Drawn.{ownSets, Drawable}
 use Rattle.judgement.proofs.OwnSets.{length-own, length-empty, few-locations}
 
--- where nothing is cut, what is cut is lent too
-module _ {initial locations : ℕ} {sources targets : List ℕ} (d : Drawable initial locations sources targets (replicate (length sources) 0)) where
-  pub none-cut : Drawable initial locations sources targets (take (length sources) (replicate 512 0))
-  none-cut = rw (take-empty (length sources) 512 (d .few)) d
-
-  pub none-flow : {sets : List ℕ}
-      → sets ≡ settled (flowOf targets sources (take (length sources) (replicate 512 0)) (replicate (length sources) 0) (ownSets initial locations))
-      → sets ≡ settled (flowOf targets sources (replicate (length sources) 0) (replicate (length sources) 0) (ownSets initial locations))
-  none-flow e = rw (take-empty (length sources) 512 (d .few)) at e
-
 module _ {initial locations : ℕ} {sources targets cut : List ℕ} (d : Drawable initial locations sources targets cut) where
+  -- nothing is cut and nothing gained: the front of an array of zeros
+  pub none-front : _≡_ {A = List ℕ} (take (length sources) (replicate 512 0)) (replicate (length sources) 0)
+  none-front = take-empty (length sources) 512 (d .few)
+
+  pub none-length : _≡_ (length {A = ℕ} (take (length sources) (replicate 512 0))) (length sources)
+  none-length = length-empty (length sources) 512 (d .few)
+
+  pub none-cut : Drawable initial locations sources targets (take (length sources) (replicate 512 0))
+  none-cut = let e = none-length ∙ d .matching .froms in search needs
+
   pub lent-length : _≡_ (length {A = ℕ} (take locations (replicate 256 0))) locations
   lent-length = length-empty locations 256 (few-locations d)
 

@@ -11,7 +11,7 @@ use Rattle.file_format.proofs.File.{reads-valid}
 use Rattle.chart_lists.specs.Lists.{Lists}
 use Rattle.chart_lists.specs.declared.Numbers.{Numbers}
 use Rattle.reader.specs.Reading.{readInto, readAnswer, listsAfter}
-use Rattle.judgement.specs.Judging.{largest, numbersRead}
+use Rattle.judgement.specs.Judging.{largest, numbersRead, Cleared}
 use Rattle.judgement.proofs.Largest.{largest-fits}
 
 -- a slice of bytes holds bytes
@@ -19,19 +19,19 @@ pub bytes-are : (bs : List ℕ) → ((i : ℕ) → getD bs i 0 < 256) → Bytes 
 bytes-are [] h = tt
 bytes-are (b ∷ bs) h = (h 0, bytes-are bs (λ i. h (suc i)))
 
-module _ (bs : List ℕ) (bytes : Bytes bs) where
+module _ {l : Lists} {tested : List ℕ} (cleared : Cleared l tested) (bs : List ℕ) (bytes : Bytes bs) where
   -- there is always room
-  pub read-largest : readInto largest bs ≡ chartIn bs
+  read-largest : readInto l bs ≡ chartIn bs
   unfolding readInto
   read-largest = go (chartIn bs) refl
     where
-      go : (x : Answer Chart) → chartIn bs ≡ x → readInto largest bs ≡ x
-      go (result c) e = rw (e, largest-fits (reads-valid bs c bytes e))
+      go : (x : Answer Chart) → chartIn bs ≡ x → readInto l bs ≡ x
+      go (result c) e = rw (e, cleared .lists-are, largest-fits (reads-valid bs c bytes e))
       go (refused n p) e = rw e
 
-  pub loaded-answer : {a : Answer Numbers} → a ≡ readAnswer largest bs → a ≡ numbersRead bs
+  pub loaded-answer : {a : Answer Numbers} → a ≡ readAnswer l bs → a ≡ numbersRead bs
   unfolding readAnswer numbersRead
   loaded-answer e = rw read-largest at e
 
-  pub loaded-lists : {l : Lists} → l ≡ listsAfter (readInto largest bs) largest → l ≡ listsAfter (chartIn bs) largest
-  loaded-lists e = rw read-largest at e
+  pub loaded-lists : {after : Lists} → after ≡ listsAfter (readInto l bs) l → after ≡ listsAfter (chartIn bs) largest
+  loaded-lists e = rw (read-largest, cleared .lists-are) at e

@@ -37,9 +37,11 @@ module _ {initial locations : ℕ} {sources targets cut : List ℕ} (d : Drawabl
   pub own-length : length (take locations (ownArray initial)) ≡ locations
   own-length = ap length own-front ∙ length-own initial locations
 
-  pub front-matching : Matching targets sources cut (take (length sources) (replicate 512 0)) (take locations (ownArray initial))
-  front-matching = rw (take-empty (length sources) 512 (d .few), own-front) (d .matching)
+  -- nothing is gained
+  module _ {gain : List ℕ} (none : gain ≡ replicate (length sources) 0) where
+    pub front-matching : Matching targets sources cut gain (take locations (ownArray initial))
+    front-matching = rw (none, own-front) (d .matching)
 
-  pub front-flow : {sets : List ℕ} → sets ≡ settled (flowOf targets sources cut (take (length sources) (replicate 512 0)) (take locations (ownArray initial)))
-      → sets ≡ settled (flowOf targets sources cut (replicate (length sources) 0) (ownSets initial locations))
-  front-flow e = rw (take-empty (length sources) 512 (d .few), own-front) at e
+    pub front-flow : {sets : List ℕ} → sets ≡ settled (flowOf targets sources cut gain (take locations (ownArray initial)))
+        → sets ≡ settled (flowOf targets sources cut (replicate (length sources) 0) (ownSets initial locations))
+    front-flow e = rw (none, own-front) at e

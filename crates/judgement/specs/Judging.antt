@@ -1,5 +1,6 @@
 -- The judgement that all calls share: a file's refusals 1 to 8, then 9, then 10; and what it hands on: the chart in lists of the largest size, with
 -- the set of the timers that each transition tests. Assumes nothing.
+use mathlib.Core.Path.{_≡_}
 use mathlib.Core.List.{List, map}
 use Prim.Native.Nat.{ℕ}
 use lib.ListN.{replicate}
@@ -30,6 +31,11 @@ numbersJudged c = then (judged c) (λ d. result (numbersOf d))
 unfoldable pub largest : Lists
 largest = lists (replicate 256 0) (replicate 512 0) (replicate 512 0) (replicate 512 0) (replicate 512 0) (replicate 512 0) (replicate 4096 0)
     (replicate 4096 0) (replicate 4096 0)
+
+-- what is asked of the lists that are lent: the largest size, with zeros
+pub record Cleared (l : Lists) (tested : List ℕ) : Type 0 where
+  pub lists-are : l ≡ largest
+  pub tested-are : tested ≡ replicate 512 0
 
 -- the tested sets over the front of zeros
 abbrev pub testedAfter : Answer Chart → List ℕ

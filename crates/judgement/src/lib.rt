@@ -1,4 +1,4 @@
-// The judgement that all calls share: reads a file into arrays of the largest size and judges 1 to 10.
+// The judgement that all calls share: reads a file into lent lists of the largest size and judges 1 to 10.
 ghost use mathlib.Core.Path.{_≡_};
 ghost use mathlib.Core.List.{List, map};
 ghost use Prim.Native.Nat.{ℕ, _+_, _≤_, _<_};
@@ -13,71 +13,14 @@ ghost use Rattle.chart_lists.specs.Lists.{lists, put};
 ghost use Rattle.chart_lists.specs.Numbers.{numbersOf};
 ghost use Rattle.file_format.specs.File.{chartIn};
 ghost use Rattle.reader.specs.Reading.{listsAfter, meantRead};
-ghost use Rattle.judgement.specs.Judging.{judgedNumbers, numbersRead, numbersJudged, largest, testedAfter};
+ghost use Rattle.judgement.specs.Judging.{judgedNumbers, numbersJudged, largest, testedAfter, Cleared};
 ghost use Rattle.judgement.specs.Drawn.{Drawable, Drawn, ownSets};
+ghost use Rattle.judgement.specs.Holds.{Holds};
 ghost use Rattle.judgement.specs.Tested.{TimersFor, TestsOf, testsIn};
 use chart_lists::Numbers;
 use chart_lists::Refusal;
 use reader::Read;
 use timer_set::TimerSet;
-
-// A file's chart in arrays of the largest size, with the answer: its numbers, or a refusal.
-pub struct Judged {
-    pub answer: Read,
-    pub accepting: [u16; 256],
-    pub sources: [u16; 512],
-    pub targets: [u16; 512],
-    pub events: [u8; 512],
-    pub starts: [u64; 512],
-    pub counts: [u8; 512],
-    pub timers: [u8; 4096],
-    pub codes: [u8; 4096],
-    pub constants: [u16; 4096],
-    pub tested: [u64; 512],
-}
-
-// Reads a file's chart, or finds a refusal, 1 to 8. No set is made yet.
-fn load(file: &[u8]) -> Judged
-    ensures answer { λ r. ⌜ meantRead (r .answer) ≡ numbersRead (now (file .entry)) ⌝ }
-    ensures lists { λ r. ⌜ lists (r .accepting) (r .sources) (r .targets) (r .events) (r .starts) (r .counts) (r .timers) (r .codes) (r .constants) ≡ listsAfter (chartIn (now (file .entry))) largest ⌝ }
-    ensures tested { λ r. ⌜ r .tested ≡ replicate 512 0 ⌝ }
-{
-    let mut accepting = [0u16; 256];
-    let mut sources = [0u16; 512];
-    let mut targets = [0u16; 512];
-    let mut events = [0u8; 512];
-    let mut starts = [0u64; 512];
-    let mut counts = [0u8; 512];
-    let mut timers = [0u8; 4096];
-    let mut codes = [0u8; 4096];
-    let mut constants = [0u16; 4096];
-    let answer = reader::read_chart(
-        file,
-        &mut accepting,
-        &mut sources,
-        &mut targets,
-        &mut events,
-        &mut starts,
-        &mut counts,
-        &mut timers,
-        &mut codes,
-        &mut constants,
-    );
-    let tested = [0u64; 512];
-    Judged {
-        answer,
-        accepting,
-        sources,
-        targets,
-        events,
-        starts,
-        counts,
-        timers,
-        codes,
-        constants,
-        tested,
-    }
-}
 
 // The set of so many timers from the entry base on.
 fn set_of(timers: &[u8], base: usize, count: u8) -> u64
@@ -149,37 +92,36 @@ fn forward<'a>(
     sources: &'a [u16],
     targets: &'a [u16],
     cut: &'a [u64],
+    gain: &'a [u64],
     initial: usize,
     sets: &mut [u64],
 )
-    requires { ⌜ Drawable initial (length (now sets)) (now sources) (now targets) (now cut) ⌝ }
+    requires { ⌜ Drawable initial (length (now sets)) (now sources) (now targets) (now cut) × (now gain ≡ replicate (length (now sources)) 0) ⌝ }
     ensures { λ _. ⌜ now (sets .exit) ≡ settled (flowOf (now (targets .entry)) (now (sources .entry)) (now (cut .entry)) (replicate (length (now (sources .entry))) 0) (ownSets initial (length (now (sets .entry))))) ⌝ }
 {
-    let gain = [0u64; 512];
-    let n = sources.len();
     let mut own = [0u64; 256];
     own[initial] = TimerSet::EVERY.bits;
     let m = sets.len();
-    flow::settle(targets, sources, cut, &gain[..n], &own[..m], sets);
+    flow::settle(targets, sources, cut, gain, &own[..m], sets);
 }
 
 // 9: the lowest location that no path reaches, or the number of locations.
 fn first_unreached<'a>(
     sources: &'a [u16],
     targets: &'a [u16],
+    zeros: &'a [u64],
     initial: usize,
     locations: usize,
 ) -> usize
-    requires { ⌜ Drawable initial locations (now sources) (now targets) (replicate (length (now sources)) 0) ⌝ }
+    requires { ⌜ Drawable initial locations (now sources) (now targets) (now zeros) × (now zeros ≡ replicate (length (now sources)) 0) ⌝ }
     ensures { λ r. ⌜ ((c : Chart) (starts tested : List ℕ) → Drawn c initial locations (now (sources .entry)) (now (targets .entry)) starts tested → r ≡ firstUnreached c) ⌝ }
 {
-    let none = [0u64; 512];
-    let n = sources.len();
     let mut sets = [0u64; 256];
     forward(
         sources,
         targets,
-        &none[..n],
+        zeros,
+        zeros,
         initial,
         &mut sets[..locations],
     );
@@ -192,14 +134,22 @@ fn first_unstarted<'a>(
     targets: &'a [u16],
     starts: &'a [u64],
     tested: &'a [u64],
+    zeros: &'a [u64],
     initial: usize,
     locations: usize,
 ) -> usize
-    requires { ⌜ Drawable initial locations (now sources) (now targets) (now starts) × (length (now tested) ≡ length (now sources)) ⌝ }
+    requires { ⌜ Drawable initial locations (now sources) (now targets) (now starts) × (length (now tested) ≡ length (now sources)) × (now zeros ≡ replicate (length (now sources)) 0) ⌝ }
     ensures { λ r. ⌜ ((c : Chart) → Drawn c initial locations (now (sources .entry)) (now (targets .entry)) (now (starts .entry)) (now (tested .entry)) → r ≡ firstUnstarted c) ⌝ }
 {
     let mut sets = [0u64; 256];
-    forward(sources, targets, starts, initial, &mut sets[..locations]);
+    forward(
+        sources,
+        targets,
+        starts,
+        zeros,
+        initial,
+        &mut sets[..locations],
+    );
     first_testing(sources, tested, &sets[..locations])
 }
 
@@ -216,15 +166,25 @@ fn judge_lists<'a>(
 {
     let initial = numbers.initial as usize;
     let locations = numbers.locations as usize;
-    let lost = first_unreached(sources, targets, initial, locations);
+    let n = sources.len();
+    let zeros = [0u64; 512];
+    let lost = first_unreached(sources, targets, &zeros[..n], initial, locations);
     if lost < locations {
         return Read::Refused(Refusal {
             number: 9,
             place: lost as u64,
         });
     }
-    let early = first_unstarted(sources, targets, starts, tested, initial, locations);
-    if early < sources.len() {
+    let early = first_unstarted(
+        sources,
+        targets,
+        starts,
+        tested,
+        &zeros[..n],
+        initial,
+        locations,
+    );
+    if early < n {
         return Read::Refused(Refusal {
             number: 10,
             place: early as u64,
@@ -233,38 +193,52 @@ fn judge_lists<'a>(
     Read::Chart(numbers)
 }
 
-// The judgement that all calls share: 1 to 8, then 9, then 10. A file that holds a chart leaves its lists and its tested sets, whatever the answer.
-pub fn judge(file: &[u8]) -> Judged
-    ensures answer { λ r. ⌜ meantRead (r .answer) ≡ judgedNumbers (now (file .entry)) ⌝ }
-    ensures lists { λ r. ⌜ lists (r .accepting) (r .sources) (r .targets) (r .events) (r .starts) (r .counts) (r .timers) (r .codes) (r .constants) ≡ listsAfter (chartIn (now (file .entry))) largest ⌝ }
-    ensures tested { λ r. ⌜ r .tested ≡ testedAfter (chartIn (now (file .entry))) ⌝ }
+// The tested sets of a chart that was read, then 9 and 10.
+fn judge_chart<'a>(
+    sources: &'a [u16],
+    targets: &'a [u16],
+    starts: &'a [u64],
+    counts: &'a [u8],
+    timers: &'a [u8],
+    numbers: Numbers,
+    tested: &mut [u64],
+) -> Read
+    requires { ⌜ ((bs : List ℕ) × Holds bs numbers (now sources) (now targets) (now starts) (now counts) (now timers)) × (now tested ≡ replicate 512 0) ⌝ }
+    ensures answer { λ r. ⌜ ((bs : List ℕ) → Holds bs numbers (now (sources .entry)) (now (targets .entry)) (now (starts .entry)) (now (counts .entry)) (now (timers .entry)) → meantRead r ≡ judgedNumbers bs) ⌝ }
+    ensures tested { λ _. ⌜ ((bs : List ℕ) → Holds bs numbers (now (sources .entry)) (now (targets .entry)) (now (starts .entry)) (now (counts .entry)) (now (timers .entry)) → now (tested .exit) ≡ testedAfter (chartIn bs)) ⌝ }
 {
-    let h = load(file);
-    let a = h.answer;
-    let Read::Chart(numbers) = a else {
-        return h;
-    };
     let n = numbers.transitions as usize;
-    let accepting = h.accepting;
-    let sources = h.sources;
-    let targets = h.targets;
-    let events = h.events;
-    let starts = h.starts;
-    let counts = h.counts;
-    let timers = h.timers;
-    let codes = h.codes;
-    let constants = h.constants;
-    let mut tested = [0u64; 512];
-    tested_sets(&counts[..n], &timers, &mut tested);
-    let answer = judge_lists(
+    tested_sets(&counts[..n], timers, tested);
+    judge_lists(
         &sources[..n],
         &targets[..n],
         &starts[..n],
         &tested[..n],
         numbers,
-    );
-    Judged {
-        answer,
+    )
+}
+
+// The judgement that all calls share: 1 to 8, then 9, then 10. A file that holds a chart leaves its lists and its tested sets, whatever the answer.
+pub fn judge(
+    file: &[u8],
+    accepting: &mut [u16],
+    sources: &mut [u16],
+    targets: &mut [u16],
+    events: &mut [u8],
+    starts: &mut [u64],
+    counts: &mut [u8],
+    timers: &mut [u8],
+    codes: &mut [u8],
+    constants: &mut [u16],
+    tested: &mut [u64],
+) -> Read
+    requires { ⌜ Cleared (lists (now accepting) (now sources) (now targets) (now events) (now starts) (now counts) (now timers) (now codes) (now constants)) (now tested) ⌝ }
+    ensures answer { λ r. ⌜ meantRead r ≡ judgedNumbers (now (file .entry)) ⌝ }
+    ensures lists { λ _. ⌜ lists (now (accepting .exit)) (now (sources .exit)) (now (targets .exit)) (now (events .exit)) (now (starts .exit)) (now (counts .exit)) (now (timers .exit)) (now (codes .exit)) (now (constants .exit)) ≡ listsAfter (chartIn (now (file .entry))) largest ⌝ }
+    ensures tested { λ _. ⌜ now (tested .exit) ≡ testedAfter (chartIn (now (file .entry))) ⌝ }
+{
+    let answer = reader::read_chart(
+        file,
         accepting,
         sources,
         targets,
@@ -274,6 +248,9 @@ pub fn judge(file: &[u8]) -> Judged
         timers,
         codes,
         constants,
-        tested,
-    }
+    );
+    let Read::Chart(numbers) = answer else {
+        return answer;
+    };
+    judge_chart(sources, targets, starts, counts, timers, numbers, tested)
 }

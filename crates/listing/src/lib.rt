@@ -205,16 +205,33 @@ fn put_file(out: &mut [u8], limit: u8, file: &[u8]) -> usize
     requires { ⌜ 131072 ≤ length (now out) ⌝ }
     ensures { λ r. ⌜ Written (answerText limit (accepted limit (now (file .entry)))) (now (out .entry)) (now (out .exit)) r ⌝ }
 {
-    let h = judgement::judge(file);
-    let a = h.answer;
+    let mut accepting = [0u16; 256];
+    let mut sources = [0u16; 512];
+    let mut targets = [0u16; 512];
+    let mut events = [0u8; 512];
+    let mut starts = [0u64; 512];
+    let mut counts = [0u8; 512];
+    let mut timers = [0u8; 4096];
+    let mut codes = [0u8; 4096];
+    let mut constants = [0u16; 4096];
+    let mut tested = [0u64; 512];
+    let a = judgement::judge(
+        file,
+        &mut accepting,
+        &mut sources,
+        &mut targets,
+        &mut events,
+        &mut starts,
+        &mut counts,
+        &mut timers,
+        &mut codes,
+        &mut constants,
+        &mut tested,
+    );
     match a {
         Read::Refused(f) => put_refusal(out, f.number, f.place),
         Read::Chart(numbers) => {
             let n = numbers.transitions as usize;
-            let sources = h.sources;
-            let targets = h.targets;
-            let starts = h.starts;
-            let tested = h.tested;
             put_judged(
                 out,
                 limit,

@@ -12,10 +12,11 @@ use Rattle.model.proofs.Settled.{length-settled}
 use Rattle.flow.specs.Edges.{flowOf, Matching}
 use Rattle.flow.proofs.ChartFlows.{live-flow, live-matching}
 use Rattle.flow.proofs.Turns.{take-empty}
-use Rattle.allocation.specs.Cells.{pairsOf, cells}
-use Rattle.allocation.specs.Cells.{Matching as Allocatable}
-use Rattle.allocation.proofs.ChartPairs.{chart-pairs, chart-matching}
-use Rattle.allocation.proofs.ChartPairs.{Listed as WithLive}
+use Rattle.families.specs.Pairs.{pairsOf}
+use Rattle.allocation.specs.Cells.{cells}
+use Rattle.families.specs.Pairs.{Matching as Allocatable}
+use Rattle.families.proofs.ChartPairs.{chart-pairs, chart-matching}
+use Rattle.families.proofs.ChartPairs.{Listed as WithLive}
 use Rattle.numbering.specs.Numbered.{ListsFor, NumberedChart}
 
 module _ {c : Chart} {sources targets starts tested : List ℕ} {timers locations : ℕ} (l : ListsFor c sources targets starts tested timers locations) where

@@ -25,7 +25,7 @@ use Rattle.reader.specs.declared.Read.the-variants as read
 use Rattle.reader.specs.Reading.{listsAfter, meantRead}
 use Rattle.judgement.specs.Judging.{judgedIn, judgedNumbers, largest}
 use Rattle.judgement.proofs.Largest.{all-tests}
-use Rattle.judgement.proofs.Fronts.{front, front-length}
+use Rattle.judgement.proofs.Fronts.{front}
 use Rattle.player.specs.Playing.{playAnswer, readRefusal}
 use Rattle.player.specs.Lent.{Lent}
 
@@ -81,19 +81,11 @@ module _ (bs : List ℕ) (bytes : Bytes bs) {m : Numbers} (h : Accepted bs m) {a
   few = omega (arith, number, valid .few-transitions)
 
   -- a list with an entry for each transition, and one with an entry for each test
-  module _ (f : Transition → ℕ) {l : List ℕ} (p : l ≡ put (map f ts) (replicate 512 0)) where
-    each : take (m .transitions) l ≡ map f ts
-    each = front (map f ts) 512 (length-map ts f ∙ number) few p
+  each : (f : Transition → ℕ) {l : List ℕ} → l ≡ put (map f ts) (replicate 512 0) → take (m .transitions) l ≡ map f ts
+  each f p = front (map f ts) 512 (length-map ts f ∙ number) few p
 
-    each-size : 512 ≡ length l
-    each-size = sym (front-length (map f ts) 512 (length-map ts f ∙ number) few p)
-
-  module _ (f : Test → ℕ) {l : List ℕ} (p : l ≡ put (map f (allTests ts)) (replicate 4096 0)) where
-    test : take (length (allTests ts)) l ≡ map f (allTests ts)
-    test = front (map f (allTests ts)) 4096 (length-map (allTests ts) f) (all-tests valid) p
-
-    test-size : 4096 ≡ length l
-    test-size = sym (front-length (map f (allTests ts)) 4096 (length-map (allTests ts) f) (all-tests valid) p)
+  test : (f : Test → ℕ) {l : List ℕ} → l ≡ put (map f (allTests ts)) (replicate 4096 0) → take (length (allTests ts)) l ≡ map f (allTests ts)
+  test f p = front (map f (allTests ts)) 4096 (length-map (allTests ts) f) (all-tests valid) p
 
   few-accepting : length (h .chart .accepting) ≤ 256
   few-accepting = omega (arith, rising-length (h .chart .locations) 0 (h .chart .accepting) (valid .accepting) (omega arith), valid .few-locations)
@@ -116,17 +108,6 @@ module _ (bs : List ℕ) (bytes : Bytes bs) {m : Numbers} (h : Accepted bs m) {a
       constants-are = test _ (ap (λ (y : Lists). y .constants) laid-out);
     };
   }
-
-  -- the sizes of the arrays
-  pub sizes : (512 ≡ length w) × (512 ≡ length g) × (4096 ≡ length j) × (4096 ≡ length x) × (4096 ≡ length k)
-  unfolding laid listsOf largest
-  sizes = (
-    each-size _ (ap (λ (y : Lists). y .starts) laid-out),
-    each-size _ (ap (λ (y : Lists). y .counts) laid-out),
-    test-size _ (ap (λ (y : Lists). y .timers) laid-out),
-    test-size _ (ap (λ (y : Lists). y .codes) laid-out),
-    test-size _ (ap (λ (y : Lists). y .constants) laid-out),
-  )
 
 -- ---- the answer
 

@@ -117,19 +117,32 @@ fn play_chart<'a>(
 pub fn play(file: &[u8], counts: &[u32], transitions: &[u32], times: &[u64]) -> Played
     ensures { λ r. ⌜ meantPlayed r ≡ playAnswer (now (file .entry)) (now (counts .entry)) (now (transitions .entry)) (now (times .entry)) ⌝ }
 {
-    let h = judgement::judge(file);
-    let answer = h.answer;
+    let mut accepting = [0u16; 256];
+    let mut sources = [0u16; 512];
+    let mut targets = [0u16; 512];
+    let mut events = [0u8; 512];
+    let mut starts = [0u64; 512];
+    let mut tests = [0u8; 512];
+    let mut timers = [0u8; 4096];
+    let mut codes = [0u8; 4096];
+    let mut constants = [0u16; 4096];
+    let mut tested = [0u64; 512];
+    let answer = judgement::judge(
+        file,
+        &mut accepting,
+        &mut sources,
+        &mut targets,
+        &mut events,
+        &mut starts,
+        &mut tests,
+        &mut timers,
+        &mut codes,
+        &mut constants,
+        &mut tested,
+    );
     let Read::Chart(numbers) = answer else {
         return Played::Refused(read_refusal(answer));
     };
-    let accepting = h.accepting;
-    let sources = h.sources;
-    let targets = h.targets;
-    let starts = h.starts;
-    let tests = h.counts;
-    let timers = h.timers;
-    let codes = h.codes;
-    let constants = h.constants;
     play_chart(
         &accepting,
         &sources,

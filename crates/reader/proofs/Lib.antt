@@ -5,7 +5,7 @@ pub mod Filling
 pub mod Lengths
 pub mod Store
 pub mod FillingTests
-pub mod RecordParts
+pub mod FillingRecords
 pub mod JudgeParts
 pub mod ReadParts
 pub mod Refusals

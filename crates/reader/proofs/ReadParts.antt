@@ -63,16 +63,14 @@ module _ (s : List ℕ) (l : Lists) where
       pub read-done : {o₁ o₂ o₃ o₄ o₅ o₆ o₇ o₈ o₉ : List ℕ}
           → ((xs t : List ℕ) → rising 2 (m .locations) 5 nowhere (m .accepting) (drop entries s) ≡ value xs t → o₁ ≡ put xs (l .accepting))
           → ((rs : List Transition) (t : List ℕ) → readTransitions 2 (m .locations) (m .timers) (m .transitions) (drop transitions s) ≡ value rs t
-          → HeadsStored rs (l .sources) (l .targets) (l .events) (l .starts) (l .counts) o₂ o₃ o₄ o₅ o₆)
-          → ((rs : List Transition) (t : List ℕ) → readTransitions 2 (m .locations) (m .timers) (m .transitions) (drop transitions s) ≡ value rs t
-          → TestsStored (allTests rs) 0 (l .timers) (l .codes) (l .constants) o₇ o₈ o₉)
+          → HeadsStored rs (l .sources) (l .targets) (l .events) (l .starts) (l .counts) o₂ o₃ o₄ o₅ o₆
+          × TestsStored (allTests rs) 0 (l .timers) (l .codes) (l .constants) o₇ o₈ o₉)
           → Outcome (result m) (lists o₁ o₂ o₃ o₄ o₅ o₆ o₇ o₈ o₉)
       unfolding readAnswer readInto laid listsOf putAt
-      read-done f g k =
+      read-done f g =
           let r = sym same-room ∙ e in
           let a = f (h .chart .accepting) (h .accepting-end) (h .accepting-are) in
-          let b = g (h .chart .transitions) (h .transitions-end) (h .transitions-are) in
-          let c = k (h .chart .transitions) (h .transitions-end) (h .transitions-are) in (
+          let b = g (h .chart .transitions) (h .transitions-end) (h .transitions-are) in (
             rw (h .is, r) (ap result (h .numbers)),
-            rw (h .is, r, a, b .sources, b .targets, b .events, b .starts, b .counts, c .timers, c .codes, c .constants),
+            rw (h .is, r, a, b .0 .sources, b .0 .targets, b .0 .events, b .0 .starts, b .0 .counts, b .1 .timers, b .1 .codes, b .1 .constants),
           )

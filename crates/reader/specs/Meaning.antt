@@ -4,24 +4,23 @@ use mathlib.Core.List.{List}
 use Prim.Native.Nat.{ℕ, _≤_}
 use lib.ListN.{length, drop}
 use Rattle.model.specs.Answer.{Answer, result, nowhere}
-use Rattle.model.specs.Chart.{Transition, Chart}
+use Rattle.model.specs.Chart.{Chart}
 use Rattle.chart_lists.specs.declared.Numbers.{Numbers}
 use Rattle.chart_lists.specs.declared.Refusal.{Refusal}
 use Rattle.chart_lists.specs.Numbers.{numbersOf, refusedAs}
 use Rattle.chart_lists.specs.Lists.{allTests}
 use Rattle.file_format.specs.Parse.{Parsed, value, rising}
-use Rattle.file_format.specs.Body.{Header, readHeader, readTests, readTransition, readTransitions}
+use Rattle.file_format.specs.Body.{Header, readHeader, readTransitions}
 use Rattle.file_format.specs.File.{chartIn}
 use Rattle.fields.specs.declared.Field.{Field}
 use Rattle.fields.specs.declared.Field.the-variants as field
-use Rattle.fields.specs.Parts.{Head, headOf}
+use Rattle.fields.specs.Parts.{Head}
 use Rattle.fields.specs.Meaning.{refusalAs}
 use Rattle.reader.specs.declared.LimitsField.{LimitsField}
 use Rattle.reader.specs.declared.LimitsField.the-variants as limits
 use Rattle.reader.specs.declared.HeaderField.{HeaderField}
 use Rattle.reader.specs.declared.HeaderField.the-variants as header
-use Rattle.reader.specs.declared.RecordField.{RecordField}
-use Rattle.reader.specs.declared.RecordField.the-variants as records
+use Rattle.reader.specs.declared.RecordHead.{RecordHead}
 use Rattle.reader.specs.declared.Judged.{Judged}
 use Rattle.reader.specs.declared.Judged.the-variants as judged
 use Rattle.reader.specs.Parts.{Limits}
@@ -70,17 +69,9 @@ headerRefusal (header.Found m entries transitions) = record { number = 0; place 
 
 -- ---- one transition's record
 
--- the record that begins with bs: what stands before its tests, the place where they begin, and the place after the record
-pub record RecordIs (locations timers i : ℕ) (s bs : List ℕ) (h : Head) (inside next : ℕ) : Type 0 where
-  pub transition : Transition
-  pub is : readTransition 2 locations timers i bs ≡ value transition (drop next s)
-  pub head : headOf transition ≡ h
-  pub tests : readTests 2 timers i (h .tests) (drop inside s) ≡ value (transition .tests) (drop next s)
-
-abbrev pub RecordAt : (locations timers i : ℕ) → (s bs : List ℕ) → RecordField → Type 0
-RecordAt locations timers i s bs (records.Found p q e w g inside next) =
-    RecordIs locations timers i s bs (record { source = p; target = q; event = e; starts = w; tests = g }) inside next
-RecordAt locations timers i s bs (records.Refused f) = readTransition 2 locations timers i bs ≡ refusalAs f
+-- the head of a record that was found, and the bytes from its tests on
+abbrev pub meantRecord : List ℕ → RecordHead → Parsed Head
+meantRecord s h = value (record { source = h .source; target = h .target; event = h .event; starts = h .starts; tests = h .tests }) (drop (h .next) s)
 
 -- ---- the whole file
 

@@ -9,10 +9,11 @@ ghost use Rattle.chart_lists.specs.Lists.{lists, put, allTests};
 ghost use Rattle.file_format.specs.Parse.{value, entry, rising};
 ghost use Rattle.file_format.specs.Body.{readTests, readTransitions};
 ghost use Rattle.file_format.specs.File.{readFrame, judgeFrame};
+ghost use Rattle.fields.specs.Parts.{Head, readHead};
 ghost use Rattle.fields.specs.Meaning.{meant};
 ghost use Rattle.reader.specs.Reading.{readInto, readAnswer, listsAfter, meantRead};
 ghost use Rattle.reader.specs.Parts.{readLimits, passAccepting, passTransitions, enough};
-ghost use Rattle.reader.specs.Meaning.{meantFrame, meantLimits, limitsRefusal, HeaderAt, headerRefusal, RecordAt, FileJudged, judgedRefusal};
+ghost use Rattle.reader.specs.Meaning.{meantFrame, meantLimits, limitsRefusal, HeaderAt, headerRefusal, meantRecord, FileJudged, judgedRefusal};
 ghost use Rattle.reader.specs.Stored.{HeadsStored, TestsStored, TestsFit};
 use chart_lists::Numbers;
 use chart_lists::Refusal;
@@ -367,23 +368,20 @@ fn fill_accepting(s: &[u8], at: usize, n: u16, locations: u16, accepting: &mut [
     }
 }
 
-// A transition's record up to its tests, with the place where they begin and the place after the record.
-pub enum RecordField {
-    Found {
-        source: u16,
-        target: u16,
-        event: u8,
-        starts: u64,
-        tests: u8,
-        inside: usize,
-        next: usize,
-    },
-    Refused(Refusal),
+// What stands before the tests of a transition's record, with the place where they begin.
+pub struct RecordHead {
+    pub source: u16,
+    pub target: u16,
+    pub event: u8,
+    pub starts: u64,
+    pub tests: u8,
+    pub next: usize,
 }
 
-fn record_at(s: &[u8], at: usize, locations: u16, timers: u8, place: u64) -> RecordField
+// The head of a record, of a file that was judged.
+fn judged_head(s: &[u8], at: usize, locations: u16, timers: u8, place: u64) -> RecordHead
     requires { ⌜ timers ≤ 64 ⌝ }
-    ensures { λ r. ⌜ RecordAt locations timers place (now (s .entry)) (drop at (now (s .entry))) r ⌝ }
+    ensures { λ r. ⌜ ((h : Head) (t : List ℕ) → readHead 2 locations timers place (drop at (now (s .entry))) ≡ value h t → meantRecord (now (s .entry)) r ≡ value h t) ⌝ }
 {
     let a = fields::head_at(s, at, locations, timers, place);
     let HeadField::Found {
@@ -392,71 +390,29 @@ fn record_at(s: &[u8], at: usize, locations: u16, timers: u8, place: u64) -> Rec
         event,
         starts,
         tests,
-        next: inside,
+        next,
     } = a
     else {
-        return RecordField::Refused(fields::head_refusal(a));
+        return RecordHead {
+            source: 0,
+            target: 0,
+            event: 0,
+            starts: 0,
+            tests: 0,
+            next: at,
+        };
     };
-    let b = fields::pass_tests(s, inside, tests, timers, place);
-    let Field::Value(_, next) = b else {
-        return RecordField::Refused(fields::refusal_of(b));
-    };
-    RecordField::Found {
+    RecordHead {
         source,
         target,
         event,
         starts,
         tests,
-        inside,
         next,
     }
 }
 
-// Of each transition its source, target, event, set of starts and number of tests.
-fn fill_heads(
-    s: &[u8],
-    at: usize,
-    n: u16,
-    locations: u16,
-    timers: u8,
-    sources: &mut [u16],
-    targets: &mut [u16],
-    events: &mut [u8],
-    starts: &mut [u64],
-    counts: &mut [u8],
-)
-    requires { ⌜ (timers ≤ 64) × (n ≤ length (now sources)) × (n ≤ length (now targets)) × (n ≤ length (now events)) × (n ≤ length (now starts)) × (n ≤ length (now counts)) ⌝ }
-    ensures { λ _. ⌜ ((rs : List Transition) (t : List ℕ) → readTransitions 2 locations timers n (drop at (now (s .entry))) ≡ value rs t
-        → HeadsStored rs (now (sources .entry)) (now (targets .entry)) (now (events .entry)) (now (starts .entry)) (now (counts .entry))
-        (now (sources .exit)) (now (targets .exit)) (now (events .exit)) (now (starts .exit)) (now (counts .exit))) ⌝ }
-{
-    let mut here = at;
-    let mut k: usize = 0;
-    while k < n as usize {
-        let a = record_at(s, here, locations, timers, k as u64);
-        let RecordField::Found {
-            source,
-            target,
-            event,
-            starts: started,
-            tests,
-            inside: _,
-            next,
-        } = a
-        else {
-            return;
-        };
-        sources[k] = source;
-        targets[k] = target;
-        events[k] = event;
-        starts[k] = started;
-        counts[k] = tests;
-        here = next;
-        k += 1;
-    }
-}
-
-// The tests of one transition, from the entry base of the lists on.
+// The tests of one transition, from the entry base of the lists on: the place after them.
 fn fill_record_tests(
     s: &[u8],
     at: usize,
@@ -467,10 +423,11 @@ fn fill_record_tests(
     tested: &mut [u8],
     codes: &mut [u8],
     constants: &mut [u16],
-)
+) -> usize
     requires { ⌜ (base + g ≤ length (now tested)) × (base + g ≤ length (now codes)) × (base + g ≤ length (now constants)) ⌝ }
-    ensures { λ _. ⌜ ((ts : List Test) (t : List ℕ) → readTests 2 timers place g (drop at (now (s .entry))) ≡ value ts t
-        → TestsStored ts base (now (tested .entry)) (now (codes .entry)) (now (constants .entry)) (now (tested .exit)) (now (codes .exit)) (now (constants .exit))) ⌝ }
+    ensures { λ r. ⌜ ((ts : List Test) (t : List ℕ) → readTests 2 timers place g (drop at (now (s .entry))) ≡ value ts t
+        → TestsStored ts base (now (tested .entry)) (now (codes .entry)) (now (constants .entry)) (now (tested .exit)) (now (codes .exit)) (now (constants .exit))
+        × (drop r (now (s .entry)) ≡ t)) ⌝ }
 {
     let mut here = at;
     let mut k: u8 = 0;
@@ -483,7 +440,7 @@ fn fill_record_tests(
             next,
         } = a
         else {
-            return;
+            return here;
         };
         let to = base + k as usize;
         tested[to] = timer;
@@ -492,54 +449,56 @@ fn fill_record_tests(
         here = next;
         k += 1;
     }
+    here
 }
 
-// The tests of all transitions, one transition's after another's.
-fn fill_tests(
+// All transitions, of a file that was judged: of each its source, target, event, set of starts and number of tests, and its tests behind those of the
+// transitions before it.
+fn fill_records(
     s: &[u8],
     at: usize,
     n: u16,
     locations: u16,
     timers: u8,
+    sources: &mut [u16],
+    targets: &mut [u16],
+    events: &mut [u8],
+    starts: &mut [u64],
+    counts: &mut [u8],
     tested: &mut [u8],
     codes: &mut [u8],
     constants: &mut [u16],
 )
-    requires { ⌜ (timers ≤ 64) × TestsFit locations timers n (drop at (now s)) (length (now tested)) (length (now codes)) (length (now constants)) ⌝ }
+    requires { ⌜ (timers ≤ 64) × (n ≤ length (now sources)) × (n ≤ length (now targets)) × (n ≤ length (now events)) × (n ≤ length (now starts)) × (n ≤ length (now counts)) ⌝ }
+    requires { ⌜ TestsFit locations timers n (drop at (now s)) (length (now tested)) (length (now codes)) (length (now constants)) ⌝ }
     ensures { λ _. ⌜ ((rs : List Transition) (t : List ℕ) → readTransitions 2 locations timers n (drop at (now (s .entry))) ≡ value rs t
-        → TestsStored (allTests rs) 0 (now (tested .entry)) (now (codes .entry)) (now (constants .entry)) (now (tested .exit)) (now (codes .exit)) (now (constants .exit))) ⌝ }
+        → HeadsStored rs (now (sources .entry)) (now (targets .entry)) (now (events .entry)) (now (starts .entry)) (now (counts .entry))
+        (now (sources .exit)) (now (targets .exit)) (now (events .exit)) (now (starts .exit)) (now (counts .exit))
+        × TestsStored (allTests rs) 0 (now (tested .entry)) (now (codes .entry)) (now (constants .entry)) (now (tested .exit)) (now (codes .exit)) (now (constants .exit))) ⌝ }
 {
     let mut here = at;
     let mut base: usize = 0;
-    let mut i: u16 = 0;
-    while i < n {
-        let a = record_at(s, here, locations, timers, i as u64);
-        let RecordField::Found {
-            source: _,
-            target: _,
-            event: _,
-            starts: _,
-            tests,
-            inside,
-            next,
-        } = a
-        else {
-            return;
-        };
-        fill_record_tests(
+    let mut k: usize = 0;
+    while k < n as usize {
+        let h = judged_head(s, here, locations, timers, k as u64);
+        sources[k] = h.source;
+        targets[k] = h.target;
+        events[k] = h.event;
+        starts[k] = h.starts;
+        counts[k] = h.tests;
+        here = fill_record_tests(
             s,
-            inside,
-            tests,
+            h.next,
+            h.tests,
             timers,
-            i as u64,
+            k as u64,
             base,
             tested,
             codes,
             constants,
         );
-        base += tests as usize;
-        here = next;
-        i += 1;
+        base += h.tests as usize;
+        k += 1;
     }
 }
 
@@ -598,7 +557,7 @@ pub fn read_chart(
         });
     }
     fill_accepting(file, entries, numbers.accepting, locations, accepting);
-    fill_heads(
+    fill_records(
         file,
         transitions,
         n,
@@ -609,13 +568,6 @@ pub fn read_chart(
         events,
         starts,
         counts,
-    );
-    fill_tests(
-        file,
-        transitions,
-        n,
-        locations,
-        numbers.timers,
         timers,
         codes,
         constants,

@@ -31,7 +31,7 @@ use Rattle.chart_lists.specs.Lists.{put}
 use Rattle.chart_lists.proofs.Put.{put-last}
 use Rattle.flow.proofs.EdgeLists.{getD-nth}
 use Rattle.allocation.specs.Cells.{cell}
-use Rattle.allocation.proofs.ChartPairs.{upTo-map}
+use Rattle.families.proofs.ChartPairs.{upTo-map}
 use Rattle.allocation.proofs.CellList.{cells-at, cell-some}
 use Rattle.renaming.specs.Renaming.{cellAt, withNumber, renamedSet, renamedSets, CellsOf}
 

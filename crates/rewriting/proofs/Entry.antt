@@ -6,117 +6,55 @@ use native.Mathlib.Omega.{arith}
 use lib.ListN.{length, take, replicate, length-map}
 use lib.Seq.{take-length}
 use Rattle.model.specs.Answer.{Answer, result, refused, then}
-use Rattle.model.specs.Chart.{Test, Transition, Chart}
+use Rattle.model.specs.Chart.{Transition, Chart}
 use Rattle.model.specs.Judge.{Rewriting, judged}
-use Rattle.model.specs.Live.{testsSet}
-use Rattle.model.proofs.Answers.{result-same}
-use Rattle.model.proofs.PlayerNumbers.{judged-is}
-use Rattle.file_format.specs.File.{chartIn}
-use Rattle.file_format.proofs.Answers.{result-refused}
-use Rattle.file_format.proofs.RoundTrip.{Bytes}
 use Rattle.chart_lists.specs.Lists.{Lists, lists, allTests, listsOf, laid, put}
 use Rattle.chart_lists.specs.declared.Numbers.{Numbers}
-use Rattle.chart_lists.specs.Numbers.{numbersOf}
 use Rattle.chart_lists.proofs.Put.{take-put}
-use Rattle.reader.specs.Reading.{listsAfter}
-use Rattle.judgement.specs.declared.Judged.{Judged}
-use Rattle.judgement.specs.Judging.{judgedIn, judgedNumbers, numbersRead, largest, testedAfter}
-use Rattle.judgement.proofs.Fronts.{Holds, holds, of-all, front-length, tests-of, timers-for}
+use Rattle.reader.specs.declared.Read.{Read}
+use Rattle.reader.specs.declared.Read.the-variants as read
+use Rattle.reader.specs.Reading.{meantRead}
+use Rattle.judgement.specs.Judging.{judgedIn, judgedNumbers, largest}
+use Rattle.judgement.specs.Holds.{Holds}
+use Rattle.judgement.proofs.Fronts.{of-all, front-length, tests-of, timers-for}
+use Rattle.judgement.proofs.Handed.{HandedOn, handed-on, judged-refused}
 use Rattle.judgement.proofs.Largest.{all-tests}
 use Rattle.writer.specs.Begins.{Begins, ListsBegin}
 use Rattle.rewriting.specs.Rewriting.{Figures, figuresOf, rewriteInto, rewriteAnswer, bufferAfter}
-use Rattle.rewriting.specs.Parts.{fittedInto, ListsOfChart}
+use Rattle.rewriting.specs.Parts.{fittedInto, JudgedLists, ListsOfChart}
 use Rattle.rewriting.proofs.Order.{into-refused, into-accepted}
 
 -- ---- a refusal of the judgement
 
 module _ (K room : ℕ) (bs : List ℕ) {n p : ℕ} (e : refused n p ≡ judgedNumbers bs) where
-  judged-refused : judgedIn bs ≡ refused n p
-  unfolding judgedNumbers
-  judged-refused = go (judgedIn bs) e
-    where
-      go : (y : Answer Chart) → refused n p ≡ then y (λ c. result (numbersOf c)) → y ≡ refused n p
-      go (result c) q = absurd (result-refused refl (sym q))
-      go (refused k i) q = cc
-
   pub entry-refused : refused n p ≡ rewriteAnswer K room bs
   unfolding rewriteAnswer
-  entry-refused = sym (ap (λ (y : Answer Rewriting). then y (λ x. result (figuresOf x))) (into-refused K room bs judged-refused))
+  entry-refused = sym (ap (λ (y : Answer Rewriting). then y (λ x. result (figuresOf x))) (into-refused K room bs (judged-refused bs e)))
 
   pub buffer-refused : (out : List ℕ) → out ≡ bufferAfter (rewriteInto K room bs) out
-  buffer-refused out = sym (ap (λ (y : Answer Rewriting). bufferAfter y out) (into-refused K room bs judged-refused))
+  buffer-refused out = sym (ap (λ (y : Answer Rewriting). bufferAfter y out) (into-refused K room bs (judged-refused bs e)))
 
 -- ---- a chart
 
--- the file's chart, which is judged, and its numbers
-pub record JudgedChart (bs : List ℕ) (m : Numbers) : Type 0 where
-  pub chart : Chart
-  pub reads : chartIn bs ≡ result chart
-  pub accepted : judged chart ≡ result chart
-  pub numbers-are : m ≡ numbersOf chart
-
-pub judged-chart : (bs : List ℕ) {m : Numbers} → result m ≡ judgedNumbers bs → JudgedChart bs m
-unfolding judgedNumbers judgedIn
-judged-chart bs {m} e = go (chartIn bs) refl
-  where
-    of : (c : Chart) → chartIn bs ≡ result c → (y : Answer Chart) → judged c ≡ y → result m ≡ then y (λ d. result (numbersOf d)) → JudgedChart bs m
-    of c f (result d) g h =
-        let same : judged c ≡ result c = judged-is c g in
-        let k : d ≡ c = cc in
-        let q : m ≡ numbersOf d = cc in
-        record { chart = c; reads = f; accepted = same; numbers-are = q ∙ ap numbersOf k }
-    of c f (refused n p) g h = absurd (result-refused refl h)
-
-    go : (y : Answer Chart) → chartIn bs ≡ y → JudgedChart bs m
-    go (result c) f = of c f (judged c) refl (rw f at e)
-    go (refused n p) f = let z : result m ≡ refused n p = rw f at e in absurd (result-refused refl z)
-
-module _ (K room : ℕ) (bs : List ℕ) {m : Numbers} (x : JudgedChart bs m) where
-  accepted-in : judgedIn bs ≡ result (x .chart)
-  unfolding judgedIn
-  accepted-in = rw (x .reads) (x .accepted)
-
-  pub entry-answer : {y : Answer Figures} → y ≡ then (fittedInto K room (x .chart)) (λ z. result (figuresOf z)) → y ≡ rewriteAnswer K room bs
+module _ (K room : ℕ) (bs : List ℕ) {c : Chart} (accepted : judgedIn bs ≡ result c) where
+  pub entry-answer : {y : Answer Figures} → y ≡ then (fittedInto K room c) (λ z. result (figuresOf z)) → y ≡ rewriteAnswer K room bs
   unfolding rewriteAnswer
-  entry-answer e = rw (into-accepted K room bs accepted-in) e
+  entry-answer e = rw (into-accepted K room bs accepted) e
 
-  pub entry-buffer : (out : List ℕ) {after : List ℕ} → after ≡ bufferAfter (fittedInto K room (x .chart)) out → after ≡ bufferAfter (rewriteInto K room bs) out
-  entry-buffer out e = rw (into-accepted K room bs accepted-in) e
+  pub entry-buffer : (out : List ℕ) {after : List ℕ} → after ≡ bufferAfter (fittedInto K room c) out → after ≡ bufferAfter (rewriteInto K room bs) out
+  entry-buffer out e = rw (into-accepted K room bs accepted) e
 
--- ---- the arrays that the judgement leaves
+-- ---- the lists that the judgement leaves
 
--- the nine lists as one record
-abbrev pub arrays : Judged → Lists
-arrays h = lists (h .accepting) (h .sources) (h .targets) (h .events) (h .starts) (h .counts) (h .timers) (h .codes) (h .constants)
+module _ {bs : List ℕ} {a : Read} {m : Numbers} {l : Lists} {tested : List ℕ} (x : JudgedLists bs a l tested) (e : a ≡ read.Chart m) where
+  pub handed : HandedOn bs m (l .sources) (l .targets) (l .starts) (l .counts) (l .timers) tested
+  handed = handed-on bs (x .bytes) _ _ _ _ _ _ _ _ _ tested (sym (ap meantRead e) ∙ x .answer) (x .lists-are) (x .tested-are)
 
--- what the judgement says of a file that it accepts, with these numbers
-pub record AcceptedFile (bs : List ℕ) (m : Numbers) (h : Judged) : Type 0 where
-  pub bytes : Bytes bs
-  pub answer : result m ≡ judgedNumbers bs
-  pub lists-are : arrays h ≡ listsAfter (chartIn bs) largest
-  pub tested-are : h .tested ≡ testedAfter (chartIn bs)
+  abbrev held : Holds bs m (l .sources) (l .targets) (l .starts) (l .counts) (l .timers)
+  held = handed .held
 
-module _ {bs : List ℕ} {m : Numbers} {h : Judged} (x : AcceptedFile bs m h) where
-  file-read : result m ≡ numbersRead bs
-  unfolding numbersRead
-  file-read = let y = judged-chart bs (x .answer) in rw (y .reads) (ap result (y .numbers-are))
-
-  pub held : Holds bs m (h .sources) (h .targets) (h .starts) (h .counts) (h .timers)
-  held =
-      holds bs (x .bytes) (h .accepting) (h .sources) (h .targets) (h .events) (h .starts) (h .counts) (h .timers) (h .codes) (h .constants) file-read (x .lists-are)
-
-  -- it is the chart that is judged
-  pub judged-held : JudgedChart bs m
-  judged-held =
-      let y = judged-chart bs (x .answer) in
-      let same : y .chart ≡ held .chart = result-same (sym (y .reads) ∙ held .reads) in
-      record { chart = held .chart; reads = held .reads; accepted = rw same at (y .accepted); numbers-are = held .numbers-are }
-
-  all-laid : arrays h ≡ laid (listsOf (held .chart)) largest
+  all-laid : l ≡ laid (listsOf (held .chart)) largest
   all-laid = rw (held .reads) at (x .lists-are)
-
-  pub tested-held : h .tested ≡ put (map testsSet (held .chart .transitions)) (replicate 512 0)
-  tested-held = rw (held .reads) at (x .tested-are)
 
   -- a list of which only so many entries are lent
   cut-begins : (f : Transition → ℕ) {l : List ℕ} → l ≡ put (map f (held .chart .transitions)) (replicate 512 0)
@@ -128,8 +66,8 @@ module _ {bs : List ℕ} {m : Numbers} {h : Judged} (x : AcceptedFile bs m h) wh
 
   abbrev lent : Lists
   lent =
-      lists (h .accepting) (take (m .transitions) (h .sources)) (take (m .transitions) (h .targets)) (h .events) (take (m .transitions) (h .starts))
-      (take (m .transitions) (h .counts)) (h .timers) (h .codes) (h .constants)
+      lists (l .accepting) (take (m .transitions) (l .sources)) (take (m .transitions) (l .targets)) (l .events) (take (m .transitions) (l .starts))
+      (take (m .transitions) (l .counts)) (l .timers) (l .codes) (l .constants)
 
   lists-begin : ListsBegin (listsOf (held .chart)) lent
   unfolding listsOf laid largest
@@ -145,32 +83,17 @@ module _ {bs : List ℕ} {m : Numbers} {h : Judged} (x : AcceptedFile bs m h) wh
     constants = whole-begins _ (replicate 4096 0) (ap (λ (y : Lists). y .constants) all-laid);
   }
 
-  -- the lengths of the whole arrays
-  tests-length : (f : Test → ℕ) {l : List ℕ} → l ≡ put (map f (allTests (held .chart .transitions))) (replicate 4096 0) → length l ≡ 4096
-  tests-length f p = front-length (map f (allTests (held .chart .transitions))) 4096 (length-map (allTests (held .chart .transitions)) f) (all-tests (held .valid)) p
+  timers-length : length (l .timers) ≡ 4096
+  timers-length = front-length _ 4096 (length-map (allTests (held .chart .transitions)) _) (all-tests (held .valid)) (held .timers-are)
 
-  pub events-length : length (h .events) ≡ 512
-  unfolding laid listsOf largest
-  events-length =
-      front-length (map (λ (r : Transition). r .event) (held .chart .transitions)) 512 (length-map (held .chart .transitions) _) (held .valid .few-transitions)
-      (ap (λ (y : Lists). y .events) all-laid)
+  accepted : judged (held .chart) ≡ result (held .chart)
+  unfolding judgedIn
+  accepted = rw (held .reads) at (handed .accepted)
 
-  pub timers-length : length (h .timers) ≡ 4096
-  timers-length = tests-length _ (held .timers-are)
-
-  pub codes-length : length (h .codes) ≡ 4096
-  unfolding laid listsOf largest
-  codes-length = tests-length _ (ap (λ (y : Lists). y .codes) all-laid)
-
-  pub constants-length : length (h .constants) ≡ 4096
-  unfolding laid listsOf largest
-  constants-length = tests-length _ (ap (λ (y : Lists). y .constants) all-laid)
-
-  pub lists-held : ListsOfChart (judged-held .chart) m lent (take (m .transitions) (h .tested))
-  unfolding judged-held
+  pub lists-held : ListsOfChart (held .chart) m lent (take (m .transitions) tested)
   lists-held = record {
     valid = held .valid;
-    accepted = judged-held .accepted;
+    accepted = accepted;
     numbers-are = held .numbers-are;
     begins = lists-begin;
     sources-are = of-all held _ (held .sources-are);
@@ -179,5 +102,5 @@ module _ {bs : List ℕ} {m : Numbers} {h : Judged} (x : AcceptedFile bs m h) wh
     tests-are = tests-of held;
     timers-for = timers-for held;
     few-timers = omega (arith, timers-length);
-    tested-are = of-all held _ tested-held;
+    tested-are = of-all held _ (handed .tested-are);
   }

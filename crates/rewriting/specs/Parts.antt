@@ -10,11 +10,15 @@ use Rattle.model.specs.Valid.{Valid}
 use Rattle.model.specs.Live.{startsSet, testsSet}
 use Rattle.model.specs.FirstFit.{board, used}
 use Rattle.model.specs.Judge.{Rewriting, judged, fitted}
-use Rattle.file_format.specs.File.{fileOf}
+use Rattle.file_format.specs.File.{chartIn, fileOf}
+use Rattle.file_format.proofs.RoundTrip.{Bytes}
 use Rattle.chart_lists.specs.Lists.{Lists, listsOf}
 use Rattle.chart_lists.specs.declared.Numbers.{Numbers}
 use Rattle.chart_lists.specs.Numbers.{numbersOf}
 use Rattle.allocation.specs.Cells.{cells}
+use Rattle.reader.specs.declared.Read.{Read}
+use Rattle.reader.specs.Reading.{listsAfter, meantRead}
+use Rattle.judgement.specs.Judging.{judgedNumbers, largest, testedAfter}
 use Rattle.judgement.specs.Tested.{TimersFor, TestsOf}
 use Rattle.writer.specs.Begins.{ListsBegin}
 
@@ -25,6 +29,13 @@ intoRoom room c = unless (leb (length (fileOf c)) room) 21 nowhere (result c)
 -- 11, then 20, then 21, else the rewritten chart of one that is judged
 unfoldable pub fittedInto : (K room : ℕ) → Chart → Answer Rewriting
 fittedInto K room c = then (fitted K c) (λ x. unless (leb (length (fileOf (x .chart))) room) 21 nowhere (result x))
+
+-- what the judgement of a file leaves: its answer, the nine lists and the tested sets
+pub record JudgedLists (bs : List ℕ) (a : Read) (l : Lists) (tested : List ℕ) : Type 0 where
+  pub bytes : Bytes bs
+  pub answer : meantRead a ≡ judgedNumbers bs
+  pub lists-are : l ≡ listsAfter (chartIn bs) largest
+  pub tested-are : tested ≡ testedAfter (chartIn bs)
 
 -- the lists are those of the chart, which is judged: of transitions exactly so many, of accepting locations, events and tests at least
 pub record ListsOfChart (c : Chart) (m : Numbers) (l : Lists) (tested : List ℕ) : Type 0 where

@@ -10,7 +10,7 @@ ghost use Rattle.file_format.specs.File.{fileOf};
 ghost use Rattle.chart_lists.specs.Lists.{lists};
 ghost use Rattle.writer.specs.Handing.{bufferAfter as writtenAfter, meantWritten};
 ghost use Rattle.rewriting.specs.Rewriting.{figuresOf, rewriteInto, rewriteAnswer, bufferAfter, meantRewritten};
-ghost use Rattle.rewriting.specs.Parts.{intoRoom, fittedInto, ListsOfChart, OfJudgedChart, FittingNumbers, Renamable};
+ghost use Rattle.rewriting.specs.Parts.{intoRoom, fittedInto, JudgedLists, ListsOfChart, OfJudgedChart, FittingNumbers, Renamable};
 use chart_lists::Numbers;
 use chart_lists::Refusal;
 use reader::Read;
@@ -137,42 +137,92 @@ fn fit<'a>(
     }
 }
 
-// Judges 1 to 10, then 11 and 20, then 21, and only then writes the rewritten file over the front of the buffer.
-pub fn rewrite(file: &[u8], k: u32, out: &mut [u8]) -> Rewritten
-    ensures answer { λ r. ⌜ meantRewritten r ≡ rewriteAnswer k (length (now (out .entry))) (now (file .entry)) ⌝ }
-    ensures lent { λ _. ⌜ now (out .exit) ≡ bufferAfter (rewriteInto k (length (now (out .entry))) (now (file .entry))) (now (out .entry)) ⌝ }
+// Of a file that was judged: its refusal stands; a chart is fitted to the board.
+fn rewrite_judged<'a>(
+    a: Read,
+    accepting: &'a [u16],
+    sources: &'a [u16],
+    targets: &'a [u16],
+    events: &'a [u8],
+    starts: &'a [u64],
+    counts: &'a [u8],
+    timers: &'a [u8],
+    codes: &'a [u8],
+    constants: &'a [u16],
+    tested: &'a [u64],
+    k: u32,
+    out: &mut [u8],
+) -> Rewritten
+    requires { ⌜ ((bs : List ℕ) × JudgedLists bs a (lists (now accepting) (now sources) (now targets) (now events) (now starts) (now counts) (now timers) (now codes) (now constants)) (now tested)) ⌝ }
+    ensures answer { λ r. ⌜ ((bs : List ℕ) → JudgedLists bs a (lists (now (accepting .entry)) (now (sources .entry)) (now (targets .entry)) (now (events .entry)) (now (starts .entry)) (now (counts .entry)) (now (timers .entry)) (now (codes .entry)) (now (constants .entry))) (now (tested .entry))
+        → meantRewritten r ≡ rewriteAnswer k (length (now (out .entry))) bs) ⌝ }
+    ensures lent { λ _. ⌜ ((bs : List ℕ) → JudgedLists bs a (lists (now (accepting .entry)) (now (sources .entry)) (now (targets .entry)) (now (events .entry)) (now (starts .entry)) (now (counts .entry)) (now (timers .entry)) (now (codes .entry)) (now (constants .entry))) (now (tested .entry))
+        → now (out .exit) ≡ bufferAfter (rewriteInto k (length (now (out .entry))) bs) (now (out .entry))) ⌝ }
 {
-    let h = judgement::judge(file);
-    let a = h.answer;
     match a {
         Read::Refused(f) => Rewritten::Refused(f),
         Read::Chart(m) => {
             let t = m.transitions as usize;
-            let accepting = h.accepting;
-            let sources = h.sources;
-            let targets = h.targets;
-            let events = h.events;
-            let starts = h.starts;
-            let counts = h.counts;
-            let timers = h.timers;
-            let codes = h.codes;
-            let constants = h.constants;
-            let tested = h.tested;
             fit(
                 m,
-                &accepting,
+                accepting,
                 &sources[..t],
                 &targets[..t],
-                &events,
+                events,
                 &starts[..t],
                 &counts[..t],
-                &timers,
-                &codes,
-                &constants,
+                timers,
+                codes,
+                constants,
                 &tested[..t],
                 k,
                 out,
             )
         }
     }
+}
+
+// Judges 1 to 10, then 11 and 20, then 21, and only then writes the rewritten file over the front of the buffer.
+pub fn rewrite(file: &[u8], k: u32, out: &mut [u8]) -> Rewritten
+    ensures answer { λ r. ⌜ meantRewritten r ≡ rewriteAnswer k (length (now (out .entry))) (now (file .entry)) ⌝ }
+    ensures lent { λ _. ⌜ now (out .exit) ≡ bufferAfter (rewriteInto k (length (now (out .entry))) (now (file .entry))) (now (out .entry)) ⌝ }
+{
+    let mut accepting = [0u16; 256];
+    let mut sources = [0u16; 512];
+    let mut targets = [0u16; 512];
+    let mut events = [0u8; 512];
+    let mut starts = [0u64; 512];
+    let mut counts = [0u8; 512];
+    let mut timers = [0u8; 4096];
+    let mut codes = [0u8; 4096];
+    let mut constants = [0u16; 4096];
+    let mut tested = [0u64; 512];
+    let a = judgement::judge(
+        file,
+        &mut accepting,
+        &mut sources,
+        &mut targets,
+        &mut events,
+        &mut starts,
+        &mut counts,
+        &mut timers,
+        &mut codes,
+        &mut constants,
+        &mut tested,
+    );
+    rewrite_judged(
+        a,
+        &accepting,
+        &sources,
+        &targets,
+        &events,
+        &starts,
+        &counts,
+        &timers,
+        &codes,
+        &constants,
+        &tested,
+        k,
+        out,
+    )
 }

@@ -1,5 +1,6 @@
 -- Each way out of a step answers as the run's definition does. Assumes nothing.
 use mathlib.Core.Path.{_≡_, refl, sym, ap, ap₂, subst, _∙_}
+use mathlib.Core.Logic.{_⊎_, inl, inr}
 use mathlib.Core.Bool.{Bool, true, false}
 use mathlib.Core.List.{List}
 use Prim.Native.Nat.{ℕ, _+_, _-_, _≤_, _<_}
@@ -8,6 +9,7 @@ use lib.Dec.{leb, eqb}
 use lib.ListN.{length, getD}
 use borrow.Author.Tests.{le-leb, lt-leb, eq-eqb, ne-eqb}
 use Rattle.lists.specs.Lists.{memb}
+use Rattle.lists.proofs.Bools.{yes-or-no}
 use Rattle.timer_set.specs.Members.{member, setOf}
 use Rattle.timer_set.proofs.Members.{member-setOf}
 use Rattle.model.specs.Answer.{Answer, refused, unless}
@@ -20,6 +22,7 @@ use Rattle.steps.specs.declared.Verdict.the-variants as verdict
 use Rattle.steps.specs.InLists.{TestsFrom, InLists}
 use Rattle.steps.specs.Stepping.{Agree, Shows, Small, Room, countAfter, MovedOn, stepAt, refusedAt, Answered}
 use Rattle.steps.proofs.Charts.{TransitionAt, no-transition, transition-at}
+use Rattle.steps.proofs.Counts.{count-started, count-grown, grown-agrees}
 
 -- a small state's counts can grow up to any time that is taken
 pub room : (x : State) (t : ℕ) → Small x → x .time ≤ t → t ≤ 16777215 → Room (x .counts) (t - x .time)
@@ -30,30 +33,24 @@ abbrev pub nextState : (target time : ℕ) → List ℕ → State
 nextState q t v = record { location = q; time = t; counts = v }
 
 pub next-small : (x : State) (q t starts : ℕ) (v : List ℕ) → Small x → x .time ≤ t → MovedOn starts (t - x .time) (x .counts) v → Small (nextState q t v)
-unfolding countAfter
-next-small x q t starts v w h m = record {
-  number = m .number;
-  bound = λ j b. go j b (member starts j) refl;
-}
+next-small x q t starts v w h m = record { number = m .number; bound = λ j l. go j l (yes-or-no (member starts j)) }
   where
-    go : (j : ℕ) → j < 64 → (b : Bool) → member starts j ≡ b → getD v j 0 ≤ 16777215 + t
-    go j l true e = let p : getD v j 0 ≡ 0 = m .count j l ∙ rw (e, countAfter) refl in omega arith
-    go j l false e =
-        let p : getD v j 0 ≡ getD (x .counts) j 0 + (t - x .time) = m .count j l ∙ rw (e, countAfter) refl in
-        omega (arith, w .bound j l)
+    go : (j : ℕ) → j < 64 → (member starts j ≡ true) ⊎ (member starts j ≡ false) → getD v j 0 ≤ 16777215 + t
+    go j l (inl e) = omega (arith, m .count j l ∙ count-started starts _ j _ e)
+    go j l (inr e) = omega (arith, m .count j l ∙ count-grown starts _ j _ e, w .bound j l)
 
 -- counts that have moved on agree with those of the run
 moved-agrees : (l : List ℕ) (d d′ starts : ℕ) (before after : List ℕ) (v : Counts) → starts ≡ setOf l → d ≡ d′ → Agree before v → MovedOn starts d before after
     → Agree after (restarted l (grown d′ v))
-unfolding countAfter restarted grown
+unfolding restarted grown
 moved-agrees l d d′ starts before after v e f a m = record { same = λ j h. m .count j h ∙ go j h (memb j l) refl }
   where
     started : (j : ℕ) → member starts j ≡ memb j l
     started j = ap (λ (x : ℕ). member x j) e ∙ member-setOf l j
 
     go : (j : ℕ) → j < 64 → (b : Bool) → memb j l ≡ b → countAfter starts d j (getD before j 0) ≡ restarted l (grown d′ v) j
-    go j h true p = rw (started j ∙ p, countAfter, p, restarted) refl
-    go j h false p = rw (started j ∙ p, countAfter, p, restarted) (ap₂ _+_ (a .same j h) f)
+    go j h true p = rw (p, restarted) (count-started starts d j _ (started j ∙ p))
+    go j h false p = rw (p, restarted) (count-grown starts d j _ (started j ∙ p) ∙ ap₂ _+_ (a .same j h) f)
 
 -- a refusal of the code for one of the run
 pub refused-as : (k n : ℕ) (x : State) (z : Stepped) (y : Answer Run·State) → z ≡ refusedAt k n x → y ≡ refused k n → Answered z y
@@ -99,14 +96,14 @@ module _ {c : Chart} {sources targets starts tests firsts timers codes constants
         pub attempt-23 : t < x .time → told ≡ refused 23 n
         attempt-23 b = allowed ∙ rw (leaves, lt-leb (s .time) t (omega (arith, w .time))) refl
 
-        module _ (b : x .time ≤ t) (m : Bool)
-            (decided : (ts : List Test) → TestsFrom ts (getD firsts i 0) timers codes constants → length ts ≡ getD tests i 0 → (v : Counts) → Agree (x .counts) v
-            → m ≡ allMet ts (grown (t - x .time) v)) where
+        module _ (b : x .time ≤ t) (g : List ℕ) (growing : MovedOn 0 (t - x .time) (x .counts) g) (m : Bool)
+            (decided : (ts : List Test) → TestsFrom ts (getD firsts i 0) timers codes constants → length ts ≡ getD tests i 0 → (v : Counts) → Agree g v → m ≡ allMet ts v) where
           later : leb (s .time) t ≡ true
           later = le-leb (s .time) t (omega (arith, w .time))
 
           passed : allMet (r .tests) (grown (t - s .time) (s .counts)) ≡ m
-          passed = sym (decided (r .tests) (at .from) (at .number) (s .counts) (w .counts) ∙ ap (λ (k : ℕ). allMet (r .tests) (grown (t - k) (s .counts))) (w .time))
+          passed = sym (decided (r .tests) (at .from) (at .number) (grown (t - x .time) (s .counts)) (grown-agrees (t - x .time) (x .counts) g (s .counts) (w .counts) growing)
+              ∙ ap (λ (k : ℕ). allMet (r .tests) (grown (t - k) (s .counts))) (w .time))
 
           pub attempt-24 : m ≡ false → told ≡ refused 24 n
           attempt-24 f = allowed ∙ rw (leaves, later, passed, f) refl

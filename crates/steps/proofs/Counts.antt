@@ -1,38 +1,128 @@
--- The counts after a step, one count a turn. Assumes nothing.
-use mathlib.Core.Path.{_≡_, refl, ap, _∙_}
+-- The counts of a step: each is grown, one a turn, then those of the started timers become 0, one a turn. Assumes nothing.
+use mathlib.Core.Path.{_≡_, refl, sym, ap, _∙_}
 use mathlib.Core.Logic.{_⊎_, inl, inr}
+use mathlib.Core.Bool.{Bool, true, false, _&&_, not, Bool·not-not, and-true, and-false}
 use mathlib.Core.List.{List}
-use Prim.Native.Nat.{ℕ, _+_, _≤_, _<_}
+use Prim.Native.Nat.{ℕ, _+_, _^_, _≤_, _<_}
 use native.Mathlib.Omega.{arith}
+use lib.Dec.{eqb}
+use lib.Count.{ones}
 use lib.ListN.{length, getD, set, length-set}
 use lib.Seq.{getD-set-same, getD-set-other}
-use Rattle.lists.proofs.Bools.{lt-or-le}
-use Rattle.steps.specs.Stepping.{countAfter, MovedOn}
+use borrow.Author.Count.{below-more}
+use borrow.Author.Tests.{eq-eqb}
+use Rattle.lists.specs.Lists.{lowest}
+use Rattle.lists.proofs.Bools.{yes-or-no, not-both, and-left, eqb-self, same-number}
+use Rattle.lists.proofs.Lowest.{lowest-same, lowest-most, lowest-passes}
+use Rattle.timer_set.specs.Members.{member, minus, removed, everyTimer, lowestMissing}
+use Rattle.timer_set.proofs.Members.{member-empty, member-minus, member-removed, member-every, some-member, removed-lt}
+use Rattle.timer_set.proofs.Counts.{ones-grow}
+use Rattle.model.specs.Run.{Counts, grown}
+use Rattle.steps.specs.Stepping.{Agree, countAfter, MovedOn}
 
--- of the 64 counts the first i have moved on, the others are as before
-pub record MovedTo (i starts d : ℕ) (before after : List ℕ) : Type 0 where
+-- ---- one count
+
+module _ (w d j x : ℕ) where
+  pub count-started : member w j ≡ true → countAfter w d j x ≡ 0
+  unfolding countAfter
+  count-started m = rw (m, countAfter)
+
+  pub count-grown : member w j ≡ false → countAfter w d j x ≡ x + d
+  unfolding countAfter
+  count-grown m = rw (m, countAfter)
+
+  count-same : (u : ℕ) → member w j ≡ member u j → countAfter w d j x ≡ countAfter u d j x
+  unfolding countAfter
+  count-same u e = ap (λ (b : Bool). elim b [ true ↦ 0 | false ↦ x + d ]) e
+
+none-started : (d j x : ℕ) → countAfter 0 d j x ≡ x + d
+none-started d j x = count-grown 0 d j x (member-empty j)
+
+-- ---- grown counts
+
+-- of the 64 counts the first i have grown by d, the others are as before
+pub record GrownTo (i d : ℕ) (before after : List ℕ) : Type 0 where
   pub number : length after ≡ 64
-  pub moved : (j : ℕ) → j < i → getD after j 0 ≡ countAfter starts d j (getD before j 0)
+  pub more : (j : ℕ) → j < i → getD after j 0 ≡ getD before j 0 + d
   pub kept : (j : ℕ) → i ≤ j → getD after j 0 ≡ getD before j 0
 
-module _ (starts d : ℕ) (before : List ℕ) where
-  pub moved-none : length before ≡ 64 → MovedTo 0 starts d before before
-  moved-none e = record { number = e; moved = λ j h. absurd (omega arith); kept = λ j h. refl }
+module _ (d : ℕ) (before : List ℕ) where
+  pub grown-none : length before ≡ 64 → GrownTo 0 d before before
+  grown-none e = record { number = e; more = λ j h. absurd (omega arith); kept = λ j h. refl }
 
-  pub moved-more : (i x : ℕ) (after : List ℕ) → i < 64 → MovedTo i starts d before after → x ≡ countAfter starts d i (getD after i 0)
-      → MovedTo (i + 1) starts d before (set after i x)
-  moved-more i x after h m e =
-      record {
-        number = rw length-set (m .number);
-        moved = λ j l. at j l (lt-or-le j i);
-        kept = λ j l. getD-set-other after i j x 0 (λ p. omega arith) ∙ m .kept j (omega arith);
-      }
+  pub grown-more : (i : ℕ) (after : List ℕ) → i < 64 → GrownTo i d before after → GrownTo (i + 1) d before (set after i (getD after i 0 + d))
+  grown-more i after h g = record {
+    number = rw length-set (g .number);
+    more = below-more (λ (j : ℕ). getD (set after i (getD after i 0 + d)) j 0 ≡ getD before j 0 + d) i
+        (λ j l. getD-set-other after i j _ 0 (λ p. omega arith) ∙ g .more j l)
+        (getD-set-same after i _ 0 (omega (arith, g .number)) ∙ ap (λ (x : ℕ). x + d) (g .kept i (omega arith)));
+    kept = λ j l. getD-set-other after i j _ 0 (λ p. omega arith) ∙ g .kept j (omega arith);
+  }
+
+  pub grown-all : (i : ℕ) (after : List ℕ) → 64 ≤ i → GrownTo i d before after → MovedOn 0 d before after
+  grown-all i after h g = record { number = g .number; count = λ j l. g .more j (omega arith) ∙ sym (none-started d j _) }
+
+  -- the tests are tried on these
+  pub grown-agrees : (after : List ℕ) (v : Counts) → Agree before v → MovedOn 0 d before after → Agree after (grown d v)
+  unfolding grown
+  grown-agrees after v a m = record { same = λ j h. m .count j h ∙ none-started d j _ ∙ ap (λ (x : ℕ). x + d) (a .same j h) }
+
+-- ---- started timers
+
+-- the timer i that is started next: the lowest that is left
+module _ (left i : ℕ) (h : left < 2 ^ 64) (some : left ≡ 0 → ⊥) (e : i ≡ lowestMissing (minus everyTimer left)) where
+  lowest-left : i ≡ lowest (member left) 64
+  unfolding lowestMissing
+  lowest-left = e ∙ lowest-same (λ j. not (member (minus everyTimer left) j)) (member left) 64
+      (λ j l. ap not (member-minus everyTimer left j ∙ ap (λ (b : Bool). b && not (member left j)) (member-every j l)) ∙ Bool·not-not (member left j))
+
+  pub next-below : i < 64
+  next-below = let m = some-member 64 left h some in omega (arith, lowest-left, lowest-most (member left) 64 (m .0) (m .2), m .1)
+
+  pub next-member : member left i ≡ true
+  next-member = rw lowest-left (lowest-passes (member left) 64 (omega (arith, lowest-left, next-below)))
+
+-- it is then no longer left, so fewer are
+removed-gone : (w i : ℕ) → member (removed w i) i ≡ false
+removed-gone w i = member-removed w i i ∙ ap (λ (b : Bool). member w i && not b) (eqb-self i) ∙ and-false (member w i)
+
+pub removed-fewer : (w i : ℕ) → w < 2 ^ 64 → member w i ≡ true → ones (removed w i) < ones w
+removed-fewer w i h m = go (ones-grow 64 (removed w i) w (removed-lt 64 w i h) h (λ j l q. and-left _ _ (sym (member-removed w i j) ∙ q)))
+  where
+    go : (removed w i ≡ w) ⊎ (ones (removed w i) < ones w) → ones (removed w i) < ones w
+    go (inl e) = absurd (not-both m (ap (λ (x : ℕ). member x i) (sym e) ∙ removed-gone w i))
+    go (inr l) = l
+
+-- starting the timers that are left comes to starting all of them
+pub record StartedTo (left starts : ℕ) (before after : List ℕ) : Type 0 where
+  pub number : length after ≡ 64
+  pub same : (j : ℕ) → j < 64 → countAfter left 0 j (getD after j 0) ≡ countAfter starts 0 j (getD before j 0)
+
+module _ (starts : ℕ) (before : List ℕ) where
+  pub started-none : length before ≡ 64 → StartedTo starts starts before before
+  started-none e = record { number = e; same = λ j h. refl }
+
+  pub started-more : (left i : ℕ) (after : List ℕ) → i < 64 → member left i ≡ true → StartedTo left starts before after → StartedTo (removed left i) starts before (set after i 0)
+  started-more left i after h m s = record { number = rw length-set (s .number); same = λ j l. at j (yes-or-no (eqb j i)) ∙ s .same j l }
     where
-      at : (j : ℕ) → j < i + 1 → (j < i) ⊎ (i ≤ j) → getD (set after i x) j 0 ≡ countAfter starts d j (getD before j 0)
-      at j q (inl l) = getD-set-other after i j x 0 (λ p. omega arith) ∙ m .moved j l
-      at j q (inr l) =
-          let p : j ≡ i = omega arith in
-          rw p (getD-set-same after i x 0 (omega (arith, m .number)) ∙ e ∙ ap (countAfter starts d i) (m .kept i (omega arith)))
+      at : (j : ℕ) → (eqb j i ≡ true) ⊎ (eqb j i ≡ false) → countAfter (removed left i) 0 j (getD (set after i 0) j 0) ≡ countAfter left 0 j (getD after j 0)
+      at j (inl e) =
+          let p : j ≡ i = same-number e in
+          rw p (count-grown (removed left i) 0 i _ (removed-gone left i) ∙ ap (λ (x : ℕ). x + 0) (getD-set-same after i 0 0 (omega (arith, s .number))) ∙ sym (count-started left 0 i _ m))
+      at j (inr e) =
+          count-same (removed left i) 0 j _ left (member-removed left i j ∙ ap (λ (b : Bool). member left j && not b) e ∙ and-true (member left j))
+          ∙ ap (countAfter left 0 j) (getD-set-other after i j 0 0 (λ p. not-both (eq-eqb j i p) e))
 
-  pub moved-all : (i : ℕ) (after : List ℕ) → 64 ≤ i → MovedTo i starts d before after → MovedOn starts d before after
-  moved-all i after h m = record { number = m .number; count = λ j l. m .moved j (omega arith) }
+  pub started-all : (left : ℕ) (after : List ℕ) → left ≡ 0 → StartedTo left starts before after → MovedOn starts 0 before after
+  started-all left after e s = record {
+    number = s .number;
+    count = λ j h. let x = getD after j 0 in let p = ap (λ (w : ℕ). countAfter w 0 j x) e ∙ none-started 0 j x in let q = s .same j h in omega arith;
+  }
+
+-- grown, then started
+pub moved-both : (starts d : ℕ) (before between after : List ℕ) → MovedOn 0 d before between → MovedOn starts 0 between after → MovedOn starts d before after
+moved-both starts d before between after g m = record { number = m .number; count = λ j h. m .count j h ∙ at j _ _ (g .count j h ∙ none-started d j _) (yes-or-no (member starts j)) }
+  where
+    at : (j x y : ℕ) → x ≡ y + d → (member starts j ≡ true) ⊎ (member starts j ≡ false) → countAfter starts 0 j x ≡ countAfter starts d j y
+    at j x y e (inl m) = count-started starts 0 j _ m ∙ sym (count-started starts d j _ m)
+    at j x y e (inr m) = let p = count-grown starts 0 j x m in let q = count-grown starts d j y m in omega arith

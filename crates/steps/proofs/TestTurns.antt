@@ -13,7 +13,7 @@ use Rattle.comparison.specs.Comparison.{met, comparisonOf, codeOf}
 use Rattle.comparison.specs.Decoding.{decodedOf}
 use Rattle.comparison.proofs.Comparisons.{comparison-code}
 use Rattle.model.specs.Chart.{Test}
-use Rattle.model.specs.Run.{Counts, grown, allMet}
+use Rattle.model.specs.Run.{Counts, allMet}
 use Rattle.steps.specs.InLists.{TestAt, TestsFrom, SomeTests}
 use Rattle.steps.specs.Stepping.{Agree}
 
@@ -46,39 +46,39 @@ module _ (first : ℕ) (timers codes constants : List ℕ) where
       let p : first + (k - first) ≡ k = omega arith in
       (e .0, subst (λ (i : ℕ). TestAt (e .0) i timers codes constants) p (s .from .at (k - first) (e .0) (e .1)))
 
-  module _ (counts : List ℕ) (passed : ℕ) (ts : List Test) (from : TestsFrom ts first timers codes constants) (v : Counts) (agree : Agree counts v) where
+  module _ (counts : List ℕ) (ts : List Test) (from : TestsFrom ts first timers codes constants) (v : Counts) (agree : Agree counts v) where
     -- what the code decides at the place k is the test there
     abbrev Decides : ℕ → Bool → Type 0
-    Decides k b = (x : Comparison) → getD codes k 0 ≡ codeOf x → b ≡ met x (getD counts (getD timers k 0) 0 + passed) (getD constants k 0)
+    Decides k b = (x : Comparison) → getD codes k 0 ≡ codeOf x → b ≡ met x (getD counts (getD timers k 0) 0) (getD constants k 0)
 
     turn : (m : ℕ) (b : Bool) → m < length ts → Decides (first + m) b
-        → allMet (drop m ts) (grown passed v) ≡ (b && allMet (drop (suc m) ts) (grown passed v))
-    unfolding allMet grown
+        → allMet (drop m ts) v ≡ (b && allMet (drop (suc m) ts) v)
+    unfolding allMet
     turn m b h f =
         let e = nth-drop ts m h in
         let t = e .0 in
         let a : TestAt t (first + m) timers codes constants = from .at m t (e .1) in
         let same : getD counts (getD timers (first + m) 0) 0 ≡ v (t .timer) = ap (λ (j : ℕ). getD counts j 0) (a .timer) ∙ agree .same (t .timer) (a .below) in
-        let q : b ≡ met (t .comparison) (v (t .timer) + passed) (t .constant) =
-        f (t .comparison) (a .code) ∙ ap₂ (λ (x k : ℕ). met (t .comparison) (x + passed) k) same (a .constant) in
+        let q : b ≡ met (t .comparison) (v (t .timer)) (t .constant) =
+        f (t .comparison) (a .code) ∙ ap₂ (λ (x k : ℕ). met (t .comparison) x k) same (a .constant) in
         rw (e .2, q) refl
 
     -- the tests of which k - first are done: the next one is met, and the rest decide
     pub test-passed : (k : ℕ) → first ≤ k → k < first + length ts → Decides k true
-        → allMet (drop (k - first) ts) (grown passed v) ≡ allMet (drop (k + 1 - first) ts) (grown passed v)
+        → allMet (drop (k - first) ts) v ≡ allMet (drop (k + 1 - first) ts) v
     test-passed k l h f =
         let p : first + (k - first) ≡ k = omega arith in
         let q : k + 1 - first ≡ suc (k - first) = omega arith in
         rw q (turn (k - first) true (omega arith) (subst (λ (i : ℕ). Decides i true) (sym p) f))
 
     -- or it is not met
-    pub test-failed : (k : ℕ) → first ≤ k → k < first + length ts → Decides k false → allMet (drop (k - first) ts) (grown passed v) ≡ false
+    pub test-failed : (k : ℕ) → first ≤ k → k < first + length ts → Decides k false → allMet (drop (k - first) ts) v ≡ false
     test-failed k l h f =
         let p : first + (k - first) ≡ k = omega arith in
         turn (k - first) false (omega arith) (subst (λ (i : ℕ). Decides i false) (sym p) f)
 
     -- none is left
-    pub tests-done : (k : ℕ) → first + length ts ≤ k → allMet (drop (k - first) ts) (grown passed v) ≡ true
+    pub tests-done : (k : ℕ) → first + length ts ≤ k → allMet (drop (k - first) ts) v ≡ true
     unfolding allMet
     tests-done k h = rw (past ts (k - first) (omega arith)) refl
       where

@@ -26,10 +26,10 @@ pub record Small (x : State) : Type 0 where
   pub number : length (x .counts) ≡ 64
   pub bound : (j : ℕ) → j < 64 → getD (x .counts) j 0 ≤ 16777215 + x .time
 
--- 64 counts, none of which passes 64 binary digits when it grows by d
+-- 64 counts, none of which passes 32 binary digits when it grows by d
 pub record Room (counts : List ℕ) (d : ℕ) : Type 0 where
   pub number : length counts ≡ 64
-  pub fits : (j : ℕ) → j < 64 → getD counts j 0 + d < 18446744073709551616
+  pub fits : (j : ℕ) → j < 64 → getD counts j 0 + d < 4294967296
 
 -- the count of timer j after a step: 0 if it is started, else grown by d
 unfoldable pub countAfter : (starts d j count : ℕ) → ℕ

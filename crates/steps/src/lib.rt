@@ -1,16 +1,16 @@
 // One step of the player on values, and a list of steps.
 ghost use mathlib.Core.Path.{_≡_};
 ghost use mathlib.Core.List.{List};
-ghost use Prim.Native.Nat.{ℕ, _+_, _≤_, _<_, _^_};
+ghost use Prim.Native.Nat.{ℕ, _≤_, _<_};
 ghost use lib.ListN.{length, getD, take};
 ghost use Rattle.lists.specs.Lists.{memb, lowest};
 ghost use Rattle.comparison.specs.declared.Comparison.{Comparison};
 ghost use Rattle.comparison.specs.Comparison.{met, codeOf};
 ghost use Rattle.model.specs.Chart.{Test, Chart};
-ghost use Rattle.model.specs.Run.{Counts, State as Run·State, grown, allMet, attempt, steps, outcome, playerTime};
+ghost use Rattle.model.specs.Run.{Counts, State as Run·State, allMet, attempt, steps, outcome, playerTime};
 ghost use Rattle.model.specs.Player.{tooLarge, stepsOf};
 ghost use Rattle.steps.specs.InLists.{InLists, SomeChart, TestsFrom, SomeTests, sumOf};
-ghost use Rattle.steps.specs.Stepping.{Shows, Agree, Small, Room, MovedOn, countAfter, Answered, stepAt, refusedAt};
+ghost use Rattle.steps.specs.Stepping.{Shows, Agree, Small, Room, MovedOn, Answered, stepAt, refusedAt};
 ghost use Rattle.steps.specs.Fronts.{Fronts, SomeFronts, Allowed, Starting};
 use chart_lists::Refusal;
 use comparison::Decoded;
@@ -20,7 +20,7 @@ use timer_set::TimerSet;
 pub struct State {
     pub location: u16,
     pub time: u64,
-    pub counts: [u64; 64],
+    pub counts: [u32; 64],
 }
 
 pub enum Verdict {
@@ -52,36 +52,35 @@ pub fn find_firsts(tests: &[u8], firsts: &mut [u16]) -> u16
 }
 
 // One test, decided by the table of the comparisons.
-fn test_met(code: u8, count: u64, constant: u16) -> bool
+fn test_met(code: u8, count: u32, constant: u16) -> bool
     ensures { λ r. ⌜ ((x : Comparison) → code ≡ codeOf x → r ≡ met x count constant) ⌝ }
 {
     let a = comparison::decode(code);
     let Decoded::Known(x) = a else {
         return false;
     };
-    comparison::holds(x, count, constant as u64)
+    comparison::holds(x, count as u64, constant as u64)
 }
 
-// The tests of one transition, each on its timer's count after the time that passed.
+// The tests of one transition, each on its timer's count.
 fn tests_met<'a>(
     timers: &'a [u8],
     codes: &'a [u8],
     constants: &'a [u16],
     first: u16,
     many: u8,
-    counts: &'a [u64],
-    passed: u64,
+    counts: &'a [u32],
 ) -> bool
     requires { ⌜ SomeTests first many (now timers) (now codes) (now constants) ⌝ }
-    requires { ⌜ Room (now counts) passed ⌝ }
+    requires { ⌜ length (now counts) ≡ 64 ⌝ }
     ensures { λ r. ⌜ ((ts : List Test) → TestsFrom ts first (now (timers .entry)) (now (codes .entry)) (now (constants .entry)) → length ts ≡ many
-        → (v : Counts) → Agree (now (counts .entry)) v → r ≡ allMet ts (grown passed v)) ⌝ }
+        → (v : Counts) → Agree (now (counts .entry)) v → r ≡ allMet ts v) ⌝ }
 {
     let end = first as usize + many as usize;
     let mut k = first as usize;
     while k < end {
         let j = timers[k] as usize;
-        if !test_met(codes[k], counts[j] + passed, constants[k]) {
+        if !test_met(codes[k], counts[j], constants[k]) {
             return false;
         }
         k += 1;
@@ -89,26 +88,30 @@ fn tests_met<'a>(
     true
 }
 
-// A count after a step: 0 for a started timer, else grown by the time that passed.
-fn count_after(count: u64, passed: u64, starts: u64, j: u8) -> u64
-    requires { ⌜ count + passed < 2 ^ 64 ⌝ }
-    ensures { λ r. ⌜ r ≡ countAfter starts passed j count ⌝ }
-{
-    let started = TimerSet { bits: starts };
-    if started.has(j) { 0 } else { count + passed }
-}
-
-// All 64 counts after a step.
-fn counts_after(counts: [u64; 64], passed: u64, starts: u64) -> [u64; 64]
+// All 64 counts, grown by the time that passed: as a step that starts no timer moves them on.
+fn grown(counts: [u32; 64], passed: u32) -> [u32; 64]
     requires { ⌜ Room counts passed ⌝ }
-    ensures { λ r. ⌜ MovedOn starts passed counts r ⌝ }
+    ensures { λ r. ⌜ MovedOn 0 passed counts r ⌝ }
 {
     let mut next = counts;
-    let mut j: u8 = 0;
+    let mut j: usize = 0;
     while j < 64 {
-        let i = j as usize;
-        next[i] = count_after(next[i], passed, starts, j);
+        next[j] = next[j] + passed;
         j += 1;
+    }
+    next
+}
+
+// All 64 counts, 0 for the started timers: as a step without a wait moves them on. Only the set's own timers are gone over.
+fn started(counts: [u32; 64], starts: u64) -> [u32; 64]
+    ensures { λ r. ⌜ MovedOn starts 0 counts r ⌝ }
+{
+    let mut next = counts;
+    let mut left = TimerSet { bits: starts };
+    while !left.is_empty() {
+        let j = TimerSet::EVERY.minus(left).lowest_missing() as u8;
+        next[j as usize] = 0;
+        left = left.without(j);
     }
     next
 }
@@ -156,23 +159,16 @@ pub fn step<'a>(
     if time < state.time {
         return refused(23, n, state);
     }
-    let passed = time - state.time;
-    let counts = state.counts;
-    if !tests_met(
-        timers,
-        codes,
-        constants,
-        firsts[i],
-        tests[i],
-        &counts,
-        passed,
-    ) {
+    let passed = (time - state.time) as u32;
+    let before = state.counts;
+    let counts = grown(before, passed);
+    if !tests_met(timers, codes, constants, firsts[i], tests[i], &counts) {
         return refused(24, n, state);
     }
     let next = State {
         location: targets[i],
         time,
-        counts: counts_after(counts, passed, starts[i]),
+        counts: started(counts, starts[i]),
     };
     Stepped {
         verdict: Verdict::Taken,
@@ -262,15 +258,15 @@ pub fn first_too_large(counts: &[u32]) -> usize
 }
 
 // The starting counts of all 64 timers, 0 for those that the chart does not have.
-fn starting_counts(counts: &[u32]) -> [u64; 64]
+fn starting_counts(counts: &[u32]) -> [u32; 64]
     requires { ⌜ length (now counts) ≤ 64 ⌝ }
     ensures { λ r. ⌜ Starting (now (counts .entry)) r ⌝ }
 {
     let n = counts.len();
-    let mut all = [0u64; 64];
+    let mut all = [0u32; 64];
     let mut j: usize = 0;
     while j < n {
-        all[j] = counts[j] as u64;
+        all[j] = counts[j];
         j += 1;
     }
     all

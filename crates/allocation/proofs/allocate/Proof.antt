@@ -1,95 +1,132 @@
--- `allocate` meets its contract: labels in the front of a local array, and then numbers by them. Assumes nothing.
+-- `allocate` meets its contract: the links, cleared arrays, and then the locations in turn. Assumes nothing.
 use borrow.Author.Needs.{needs}
-use mathlib.Core.Path.{_≡_, sym, ap, _∙_}
-use mathlib.Core.List.{List, _++_}
-use Prim.Native.Nat.{ℕ, _*_, _≤_}
+use mathlib.Core.Path.{_≡_, refl, sym, ap, _∙_}
+use mathlib.Core.List.{List}
+use Prim.Native.Nat.{_*_, _≤_}
 use native.Mathlib.Omega.{arith}
-use lib.ListN.{length, take, drop, length-append}
-use lib.Seq.{length-take-le, take-at}
+use lib.ListN.{length, take}
+use lib.Seq.{length-take-le}
+use Rattle.model.specs.Family.{Pairs}
 use Rattle.model.specs.FirstFit.{Placed, usedBy}
-use Rattle.allocation.specs.Cells.{pairsOf, cells}
-use Rattle.allocation.proofs.LabelFamilies.{first-fit-by}
+use Rattle.families.specs.Pairs.{pairsOf}
+use Rattle.families.proofs.CodePairs.{formed}
+use Rattle.allocation.specs.Cells.{cells}
+use Rattle.allocation.specs.Numbering.{Described}
+use Rattle.allocation.proofs.AllFamilies.{all-placed}
+use Rattle.allocation.proofs.Cleared.{front-length, fresh}
 use Rattle.allocation.proofs.allocate.Statement.{statement}
 use Rattle.allocation.proofs.allocate.Tie as tie
 
-front-fits : {k : ℕ} (ys zs : List ℕ) → length ys ≡ k → k ≤ length (ys ++ zs)
-front-fits ys zs e = simp length-append (omega arith)
+abbrev start : tie.After-find-links → tie.Start
+start c = c .before .before .before .before .before .before .before .before .before
 
--- the labels found, and what stands behind them in the array
-abbrev count : tie.After-label-families → ℕ
-count c = 64 * length (c .before .before .before .before .before .before .before .before .args .live .now)
+-- how many links have timers
+count-few : (c : tie.After-find-links) → c .find-links .result ≤ 512
+count-few c = omega (arith, c .find-links .ensures .0, start c .pre .0 .few-transitions)
 
-abbrev found : tie.After-label-families → List ℕ
-found c = c .label-families .last .1 .1 .1 .1 .1 .0
+abbrev pairs : tie.After-find-links → Pairs
+pairs c = let a = start c .args in pairsOf (a .sources .now) (a .targets .now) (a .starts .now) (a .live .now) (a .timers)
 
-abbrev rest : tie.After-label-families → List ℕ
-rest c = drop (count c) (c .before .before .room .result)
-
-found-long : (c : tie.After-label-families) → length (found c) ≡ count c
+described : (c : tie.After-find-links) → let f = c .find-links in
+    Described (pairs c) (start c .args .live .now) (take (f .result) (f .last .1 .1 .1 .1 .1 .0)) (take (f .result) (f .last .1 .1 .1 .1 .1 .1 .0))
+    (take (f .result) (f .last .1 .1 .1 .1 .1 .1 .1 .0))
 unfolding pairsOf
-found-long c = c .label-families .ensures .long
+described c = record { formed = formed (start c .pre .0); sets-are = refl; locations-are = refl; links-are = c .find-links .ensures .1 .0 }
 
-front-is : (c : tie.After-label-families) → take (count c) (found c ++ rest c) ≡ found c
-front-is c = take-at (found c) (rest c) (count c) (found-long c)
+slice-aggregate-find-links : tie.Need-slice-aggregate-find-links
+slice-aggregate-find-links c = search needs
 
-room-requires : tie.Need-room-requires
-room-requires c κs = search needs
+slice-aggregate-find-links-2 : tie.Need-slice-aggregate-find-links-2
+slice-aggregate-find-links-2 c = search needs
 
-mul-count : tie.Need-mul-count
-mul-count c = omega (arith, c .before .before .before .before .before .before .pre .0 .few-locations)
+slice-aggregate-find-links-3 : tie.Need-slice-aggregate-find-links-3
+slice-aggregate-find-links-3 c = search needs
 
-array-borrow-prefix-labels : tie.Need-array-borrow-prefix-labels
-array-borrow-prefix-labels c = omega (arith, c .before .before .before .before .before .before .pre .0 .few-locations)
+find-links-requires : tie.Need-find-links-requires
+find-links-requires c κs = search needs
 
-slice-aggregate-label-families : tie.Need-slice-aggregate-label-families
-slice-aggregate-label-families c =
-    let s = c .before .before .before .before .before .before .before in
-    sym
-    (length-take-le (64 * length (s .args .live .now)) (c .before .room .result) (omega (arith, s .pre .0 .few-locations, c .before .room .ensures)))
+clear-requires : tie.Need-clear-requires
+clear-requires c κs = search needs
 
-label-families-requires : tie.Need-label-families-requires
-label-families-requires c κs =
-    let s = c .before .before .before .before .before .before .before in (
-      s .pre .0,
-      length-take-le (64 * length (s .args .live .now)) (c .before .room .result) (omega (arith, s .pre .0 .few-locations, c .before .room .ensures)),
+array-share-prefix-ones : tie.Need-array-share-prefix-ones
+array-share-prefix-ones c = search needs
+
+slice-aggregate-number-locations : tie.Need-slice-aggregate-number-locations
+slice-aggregate-number-locations c = let x = c .before .before .before .before .before .before .before .before in let f = x .find-links in
+    sym (length-take-le (f .result) (f .last .1 .1 .1 .1 .1 .0) (omega (arith, count-few x, f .kept .1 .1 .1 .1 .1 .0)))
+
+array-share-prefix-others : tie.Need-array-share-prefix-others
+array-share-prefix-others c = search needs
+
+slice-aggregate-number-locations-2 : tie.Need-slice-aggregate-number-locations-2
+slice-aggregate-number-locations-2 c = let x = c .before .before .before .before .before .before .before .before .before in let f = x .find-links in
+    sym (length-take-le (f .result) (f .last .1 .1 .1 .1 .1 .1 .0) (omega (arith, count-few x, f .kept .1 .1 .1 .1 .1 .1 .0)))
+
+array-share-prefix-linked : tie.Need-array-share-prefix-linked
+array-share-prefix-linked c = search needs
+
+slice-aggregate-number-locations-3 : tie.Need-slice-aggregate-number-locations-3
+slice-aggregate-number-locations-3 c = let x = c .before .before .before .before .before .before .before .before .before .before in let f = x .find-links in
+    sym (length-take-le (f .result) (f .last .1 .1 .1 .1 .1 .1 .1 .0) (omega (arith, count-few x, f .kept .1 .1 .1 .1 .1 .1 .1 .0)))
+
+array-borrow-prefix-sets : tie.Need-array-borrow-prefix-sets
+array-borrow-prefix-sets c = search needs
+
+slice-aggregate-number-locations-4 : tie.Need-slice-aggregate-number-locations-4
+slice-aggregate-number-locations-4 c = let s = c .before .before .before .before .before .before .before .before .before .before .before .before .before .before .before .before .before .before .before .before in sym (front-length _ (s .pre .0 .few-locations))
+
+array-borrow-prefix-placed : tie.Need-array-borrow-prefix-placed
+array-borrow-prefix-placed c = search needs
+
+slice-aggregate-number-locations-5 : tie.Need-slice-aggregate-number-locations-5
+slice-aggregate-number-locations-5 c = let s = c .before .before .before .before .before .before .before .before .before .before .before .before .before .before .before .before .before .before .before .before .before in sym (front-length _ (s .pre .0 .few-locations))
+
+slice-aggregate-number-locations-6 : tie.Need-slice-aggregate-number-locations-6
+slice-aggregate-number-locations-6 c = search needs
+
+number-locations-requires : tie.Need-number-locations-requires
+number-locations-requires c κs =
+    let x = c .before .before .before .before .before .before .before .before .before .before .before .before .before .before in
+    let s = start x in
+    let k = c .before .before .before .before .before .before .before .before .before .clear in (
+      record { pairs = pairs x; are = described x },
+      x .find-links .ensures .1 .1,
+      fresh (s .args .live .now) (k .last .0) (s .pre .0 .few-locations) (k .kept .0 ∙ s .pre .1) (λ y h. k .ensures y (omega (arith, s .pre .1))),
     )
-
-array-share-prefix-labels : tie.Need-array-share-prefix-labels
-array-share-prefix-labels c = let x = c .before in front-fits (found x) (rest x) (found-long x)
-
-slice-aggregate-number-families : tie.Need-slice-aggregate-number-families
-slice-aggregate-number-families c = let x = c .before .before in sym (ap length (front-is x) ∙ found-long x)
-
-number-families-requires : tie.Need-number-families-requires
-number-families-requires c κs =
-    let x = c .before .before .before in
-    let s = c .before .before .before .before .before .before .before .before .before .before .before in
-    record { few-locations = s .pre .0 .few-locations; labels-long = ap length (front-is x) ∙ found-long x; numbers-long = s .pre .1 }
 
 same-length : tie.Need-same-length
 same-length c = search needs
 
 returns : tie.Need-returns
+unfolding pairsOf
 returns c =
-    let s = c .before .before .before .before .before .before .before .before .before .before .before .before .before .before in
-    let x = c .before .before .before .before .before .before in
-    let e = first-fit-by (s .pre .0) (found x) (x .label-families .ensures) _ (front-is x) in
-    let n = c .before .before .number-families .ensures in (
-      n .0 ∙ ap (λ (ps : List Placed). cells ps (length (s .args .live .now))) e,
-      n .1 ∙ ap usedBy e,
+    let x = c .before .before .before .before .before .before .before .before .before .before .before .before .before .before .before .before .before .before .before .before in
+    let n = c .before .before .before .before .before .number-locations .ensures (pairs x) (described x) in
+    let e = all-placed (formed (start x .pre .0)) in (
+      n .cells-are ∙ ap (λ (ps : List Placed). cells ps (length (start x .args .live .now))) e,
+      n .used-is ∙ ap usedBy e,
     )
 
 pub allocate-spec : {M : Type 1} → statement M
 allocate-spec =
     tie.close
     (tie.spec
-    room-requires
-    mul-count
-    array-borrow-prefix-labels
-    slice-aggregate-label-families
-    label-families-requires
-    array-share-prefix-labels
-    slice-aggregate-number-families
-    number-families-requires
+    slice-aggregate-find-links
+    slice-aggregate-find-links-2
+    slice-aggregate-find-links-3
+    find-links-requires
+    clear-requires
+    array-share-prefix-ones
+    slice-aggregate-number-locations
+    array-share-prefix-others
+    slice-aggregate-number-locations-2
+    array-share-prefix-linked
+    slice-aggregate-number-locations-3
+    array-borrow-prefix-sets
+    slice-aggregate-number-locations-4
+    array-borrow-prefix-placed
+    slice-aggregate-number-locations-5
+    slice-aggregate-number-locations-6
+    number-locations-requires
     same-length
     returns)

@@ -5,21 +5,22 @@ use mathlib.Core.Bool.{Bool, true}
 use Prim.Native.Nat.{ℕ, _*_, _-_, _≤_, _<_}
 use native.Mathlib.Omega.{arith}
 use lib.ListN.{length}
-use Rattle.allocation.specs.Numbering.{Lengths, taken}
+use Rattle.allocation.specs.Numbering.{Lengths, Mirrors, Within, taken}
 use Rattle.allocation.proofs.Rows.{word-found, word-full, all-full}
 use Rattle.allocation.proofs.lowest_free.Statement.{statement}
 use Rattle.allocation.proofs.lowest_free.Tie as tie
 
 abbrev Inv-loop : tie.InvT-loop
-Inv-loop labels live numbers q j w₀ w =
-    (w ≤ 256) × ((j < 64) × Lengths labels live numbers) × ((k : ℕ) → k < 64 * w → taken labels live numbers q j k (length live) ≡ true)
+Inv-loop sets numbers held from end j w₀ w =
+    (w ≤ 256) × (Lengths sets numbers held × Mirrors numbers held (length sets) × Within sets j from end)
+    × ((k : ℕ) → k < 64 * w → taken sets numbers j k ≡ true)
 
 abbrev μ-loop : tie.MeasureT-loop
-μ-loop labels live numbers q j w₀ w = 256 - w
+μ-loop sets numbers held from end j w₀ w = 256 - w
 
 -- the numbers in the rows of the family
-abbrev held : tie.At-loop Inv-loop μ-loop → ℕ → Bool
-held l k = let a = l .before .before .before .before .args in taken (a .labels .now) (a .live .now) (a .numbers .now) (a .q) (a .j) k (length (a .live .now))
+abbrev rows : tie.At-loop Inv-loop μ-loop → ℕ → Bool
+rows l k = let a = l .before .before .before .before .args in taken (a .sets .now) (a .numbers .now) (a .j) k
 
 loop-holds : tie.Need-loop-holds Inv-loop μ-loop
 loop-holds c = (omega arith, c .before .before .before .pre, λ k h. absurd (omega arith))
@@ -46,7 +47,7 @@ returns c =
     let t = c .before .before .taken-word in
     let e = c .before .lowest-missing .ensures in
     rw e
-    (word-found (held at) (t .result .bits) (l .w) (t .ensures) (l .inv .2) (omega (arith, e, c .if1 .taken)) (omega (arith, c .before .before .before .loop-test .taken)))
+    (word-found (rows at) (t .result .bits) (l .w) (t .ensures) (l .inv .2) (omega (arith, e, c .if1 .taken)) (omega (arith, c .before .before .before .loop-test .taken)))
 
 add-w : tie.Need-add-w Inv-loop μ-loop
 add-w c = search needs
@@ -59,12 +60,12 @@ loop-again c =
     let l = c .before .before .before .before .loop in (
       omega arith,
       l .inv .1,
-      word-full (held (c .before .before .before .before)) (c .before .before .taken-word .result .bits) (l .w)
+      word-full (rows (c .before .before .before .before)) (c .before .before .taken-word .result .bits) (l .w)
           (c .before .before .taken-word .ensures) (l .inv .2) (omega (arith, c .before .lowest-missing .ensures)),
     )
 
 returns-2 : tie.Need-returns-2 Inv-loop μ-loop
-returns-2 c = let l = c .before .loop in all-full (held (c .before)) (λ k h. l .inv .2 k (omega arith))
+returns-2 c = let l = c .before .loop in all-full (rows (c .before)) (λ k h. l .inv .2 k (omega arith))
 
 pub lowest-free-spec : {M : Type 1} → statement M
 lowest-free-spec =

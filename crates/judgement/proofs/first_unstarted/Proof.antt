@@ -7,25 +7,25 @@ use Rattle.judgement.proofs.first_unstarted.Statement.{statement}
 use Rattle.judgement.proofs.first_unstarted.Tie as tie
 
 array-borrow-prefix-sets : tie.Need-array-borrow-prefix-sets
-array-borrow-prefix-sets c = few-locations (c .before .before .before .before .pre .0)
+array-borrow-prefix-sets c = few-locations (c .before .before .before .before .before .pre .0)
 
 slice-aggregate-forward : tie.Need-slice-aggregate-forward
-slice-aggregate-forward c = sym (lent-length (c .before .before .before .before .before .pre .0))
+slice-aggregate-forward c = sym (lent-length (c .before .before .before .before .before .before .pre .0))
 
 forward-requires : tie.Need-forward-requires
-forward-requires c κs = lent-drawable (c .before .before .before .before .before .pre .0)
+forward-requires c κs = let p = c .before .before .before .before .before .before .pre in (lent-drawable (p .0), p .2)
 
 array-share-prefix-sets : tie.Need-array-share-prefix-sets
-array-share-prefix-sets c = made-room (c .before .before .before .before .before .before .before .pre .0) (c .before .forward .ensures) _
+array-share-prefix-sets c = made-room (c .before .before .before .before .before .before .before .before .pre .0) (c .before .forward .ensures) _
 
 slice-aggregate-first-testing : tie.Need-slice-aggregate-first-testing
-slice-aggregate-first-testing c = sym (seen-length (c .before .before .before .before .before .before .before .before .pre .0) (c .before .before .forward .ensures) _)
+slice-aggregate-first-testing c = sym (seen-length (c .before .before .before .before .before .before .before .before .before .pre .0) (c .before .before .forward .ensures) _)
 
 first-testing-requires : tie.Need-first-testing-requires
-first-testing-requires c κs = (c .before .before .before .before .before .before .before .before .pre .1, sources-seen (c .before .before .before .before .before .before .before .before .pre .0) (c .before .before .forward .ensures) _)
+first-testing-requires c κs = let p = c .before .before .before .before .before .before .before .before .before .pre in (p .1, sources-seen (p .0) (c .before .before .forward .ensures) _)
 
 returns : tie.Need-returns
-returns c chart d = unstarted-is d _ (seen-sets (c .before .before .before .before .before .before .before .before .before .pre .0) (c .before .before .before .forward .ensures) _) (c .first-testing .ensures)
+returns c chart d = unstarted-is d _ (seen-sets (c .before .before .before .before .before .before .before .before .before .before .pre .0) (c .before .before .before .forward .ensures) _) (c .first-testing .ensures)
 
 pub first-unstarted-spec : {M : Type 1} → statement M
 first-unstarted-spec =

@@ -1,7 +1,7 @@
--- `forward` lends the rounds the fronts of its arrays: nothing gained, and all timers at the initial location. Assumes nothing.
+-- `forward` lends the rounds nothing gained, and all timers at the initial location. Assumes nothing.
 use mathlib.Core.Path.{sym}
 use native.Mathlib.Omega.{arith}
-use Rattle.judgement.proofs.OwnSets.{length-empty, own-room, few-locations, own-length, front-matching, front-flow}
+use Rattle.judgement.proofs.OwnSets.{own-room, few-locations, own-length, front-matching, front-flow}
 use borrow.Author.Needs.{needs}
 use Rattle.judgement.proofs.forward.Statement.{statement}
 use Rattle.judgement.proofs.forward.Tie as tie
@@ -10,28 +10,22 @@ mul-own : tie.Need-mul-own
 mul-own c = search needs
 
 array-write-own : tie.Need-array-write-own
-array-write-own c = omega (arith, few-locations (c .before .before .before .before .pre))
-
-array-share-prefix-gain : tie.Need-array-share-prefix-gain
-array-share-prefix-gain c = search needs
-
-slice-aggregate-settle : tie.Need-slice-aggregate-settle
-slice-aggregate-settle c = sym (length-empty _ 512 (c .before .before .before .before .before .pre .few))
+array-write-own c = omega (arith, few-locations (c .before .before .before .before .before .pre .0))
 
 array-share-prefix-own : tie.Need-array-share-prefix-own
-array-share-prefix-own c = own-room (c .before .before .before .before .before .pre)
+array-share-prefix-own c = own-room (c .before .before .before .before .before .pre .0)
 
-slice-aggregate-settle-2 : tie.Need-slice-aggregate-settle-2
-slice-aggregate-settle-2 c = sym (own-length (c .before .before .before .before .before .before .pre))
+slice-aggregate-settle : tie.Need-slice-aggregate-settle
+slice-aggregate-settle c = sym (own-length (c .before .before .before .before .before .before .pre .0))
 
 settle-requires : tie.Need-settle-requires
-settle-requires c κs = let d = c .before .before .before .before .before .before .before .pre in (front-matching d, sym (own-length d))
+settle-requires c κs = let p = c .before .before .before .before .before .before .before .pre in (front-matching (p .0) (p .1), sym (own-length (p .0)))
 
 same-length : tie.Need-same-length
 same-length c = search needs
 
 returns : tie.Need-returns
-returns c = front-flow (c .before .before .before .before .before .before .before .before .before .before .pre) (c .before .before .settle .ensures .0)
+returns c = let p = c .before .before .before .before .before .before .before .before .before .before .pre in front-flow (p .0) (p .1) (c .before .before .settle .ensures .0)
 
 pub forward-spec : {M : Type 1} → statement M
 forward-spec =
@@ -39,10 +33,8 @@ forward-spec =
     (tie.spec
     mul-own
     array-write-own
-    array-share-prefix-gain
-    slice-aggregate-settle
     array-share-prefix-own
-    slice-aggregate-settle-2
+    slice-aggregate-settle
     settle-requires
     same-length
     returns)

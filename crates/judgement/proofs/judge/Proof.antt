@@ -1,150 +1,157 @@
--- `judge`: a refusal of the file stands; a chart's lists stand in front of the arrays, its tested sets are made, and 9 and 10 are judged of it.
--- Assumes nothing.
+-- `judge`: a refusal of the file stands; of a chart that is read 9 and 10 are judged. Assumes nothing.
 use mathlib.Core.Path.{_≡_, sym, ap, _∙_}
-use mathlib.Core.List.{List, map}
+use mathlib.Core.List.{List}
 use Prim.Native.Nat.{ℕ}
-use native.Mathlib.Omega.{arith}
-use lib.ListN.{replicate}
-use Rattle.model.specs.Live.{testsSet}
-use Rattle.chart_lists.specs.Lists.{put}
-use Rattle.chart_lists.specs.declared.Numbers.{Numbers}
-use Rattle.reader.specs.Reading.{meantRead}
-use Rattle.judgement.proofs.Loading.{bytes-are}
-use Rattle.judgement.proofs.Fronts.{Holds, holds, few, lent-room, lent-part, tests-of, timers-for, drawn, drawable, same-parts, tested-after, judged-after, refused-answer, refused-tested}
+use denote.Ref.{now}
+use Rattle.file_format.specs.File.{chartIn}
+use Rattle.file_format.proofs.RoundTrip.{Bytes}
+use Rattle.chart_lists.specs.Lists.{lists}
+use Rattle.reader.specs.Reading.{meantRead, listsAfter}
+use Rattle.judgement.specs.Judging.{numbersRead, largest}
+use Rattle.judgement.specs.Holds.{Holds}
+use Rattle.judgement.proofs.Loading.{bytes-are, loaded-answer, loaded-lists}
+use Rattle.judgement.proofs.Fronts.{holds, refused-answer, refused-tested}
 use borrow.Author.Needs.{needs}
 use Rattle.judgement.proofs.judge.Statement.{statement}
 use Rattle.judgement.proofs.judge.Tie as tie
 
+-- where the file is read
+abbrev Loaded : Type 0
+Loaded = tie.After-read-chart
+
+abbrev start : Loaded → tie.Start
+start c = c .before .before .before .before .before .before .before .before .before .before .before .before .before .before .before .before .before .before .before .before .before
+
+abbrev file : Loaded → List ℕ
+file c = now (start c .args .file)
+
+bytes : (c : Loaded) → Bytes (file c)
+bytes c = bytes-are (file c) (λ i. c .before .before .before .before .before .before .before .before .before .before .before .before .before .before .before .before .before .before .before .before .shared-slice-known .given i .fits)
+
+answer-is : (c : Loaded) → meantRead (c .read-chart .result) ≡ numbersRead (file c)
+answer-is c = loaded-answer (start c .pre) (file c) (bytes c) (c .read-chart .ensures .0)
+
+lists-are : (c : Loaded) → let l = c .read-chart .last in
+    lists (l .1 .0) (l .1 .1 .0) (l .1 .1 .1 .0) (l .1 .1 .1 .1 .0) (l .1 .1 .1 .1 .1 .0) (l .1 .1 .1 .1 .1 .1 .0) (l .1 .1 .1 .1 .1 .1 .1 .0) (l .1 .1 .1 .1 .1 .1 .1 .1 .0) (l .1 .1 .1 .1 .1 .1 .1 .1 .1 .0) ≡ listsAfter (chartIn (file c)) largest
+lists-are c = loaded-lists (start c .pre) (file c) (bytes c) (c .read-chart .ensures .1)
+
 -- where the answer is known to be a chart
-abbrev Found : Type 0
-Found = tie.After-a
+abbrev loaded : tie.After-answer → Loaded
+loaded c = c .before .before .before .before .before .before .before .before .before .before .before .before .before .before .before .before .before .before .before .before
 
-abbrev file : Found → List ℕ
-file c = c .before .before .before .before .args .file .now
+held : (c : tie.After-answer) → let l = loaded c .read-chart .last in
+    Holds (file (loaded c)) (c .answer .given .0 .0) (l .1 .1 .0) (l .1 .1 .1 .0) (l .1 .1 .1 .1 .1 .0) (l .1 .1 .1 .1 .1 .1 .0) (l .1 .1 .1 .1 .1 .1 .1 .0)
+held c =
+    let r = loaded c in
+    holds (file r) (bytes r) _ _ _ _ _ _ _ _ _ (sym (ap meantRead (c .answer .given .1)) ∙ answer-is r) (lists-are r)
 
-abbrev numbers : Found → Numbers
-numbers c = c .a .given .0 .0
+read-chart-requires : tie.Need-read-chart-requires
+read-chart-requires c κs = search needs
 
-read : (c : Found) → let h = c .before .before .load .result in
-    Holds (file c) (numbers c) (h .sources) (h .targets) (h .starts) (h .counts) (h .timers)
-read c =
-    let l = c .before .before .load in
-    holds (file c) (bytes-are (file c) (λ i. c .before .before .before .shared-slice-known .given i .fits)) (l .result .accepting) (l .result .sources)
-    (l .result .targets) (l .result .events) (l .result .starts) (l .result .counts) (l .result .timers) (l .result .codes) (l .result .constants)
-    (sym (ap meantRead (c .a .given .1)) ∙ l .ensures .0) (l .ensures .1 .0)
-
--- where its lists are named
-abbrev Named : Type 0
-Named = tie.After-constants
-
-abbrev found : Named → Found
-found c = c .before .before .before .before .before .before .before .before .before .before .before
-
-held : (c : Named) → let h = found c .before .before .load .result in
-    Holds (file (found c)) (numbers (found c)) (h .sources) (h .targets) (h .starts) (h .counts) (h .timers)
-held c = read (found c)
-
-load-requires : tie.Need-load-requires
-load-requires c κs = search needs
-
-enum-known-a : tie.Need-enum-known-a
-enum-known-a c = search needs
+enum-known-answer : tie.Need-enum-known-answer
+enum-known-answer c = search needs
 
 enum-told : tie.Need-enum-told
 enum-told c = search needs
 
+same-length : tie.Need-same-length
+same-length c = search needs
+
+same-length-2 : tie.Need-same-length-2
+same-length-2 c = search needs
+
+same-length-3 : tie.Need-same-length-3
+same-length-3 c = search needs
+
+same-length-4 : tie.Need-same-length-4
+same-length-4 c = search needs
+
+same-length-5 : tie.Need-same-length-5
+same-length-5 c = search needs
+
+same-length-6 : tie.Need-same-length-6
+same-length-6 c = search needs
+
+same-length-7 : tie.Need-same-length-7
+same-length-7 c = search needs
+
+same-length-8 : tie.Need-same-length-8
+same-length-8 c = search needs
+
+same-length-9 : tie.Need-same-length-9
+same-length-9 c = search needs
+
 returns : tie.Need-returns
 returns c =
-    let l = c .before .before .load in
-    let e = sym (ap meantRead (c .enum-told .given .1)) ∙ l .ensures .0 in
-    (ap meantRead (c .enum-told .given .1) ∙ refused-answer _ e, (l .ensures .1 .0, refused-tested _ e (l .ensures .1 .1)))
+    let r = c .before .before .before .before .before .before .before .before .before .before .before .before .before .before .before .before .before .before .before .before in
+    let e = sym (ap meantRead (c .enum-told .given .1)) ∙ answer-is r in
+    (ap meantRead (c .enum-told .given .1) ∙ refused-answer _ e, (lists-are r, refused-tested _ e (start r .pre .tested-are)))
 
-cast-n : tie.Need-cast-n
-cast-n c = search needs
+judge-chart-requires : tie.Need-judge-chart-requires
+judge-chart-requires c κs = let f = c .before .before .before .before .before .before .before in ((file (loaded f), held f), start (loaded f) .pre .tested-are)
 
-array-share-prefix-counts : tie.Need-array-share-prefix-counts
-array-share-prefix-counts c = let h = held c in lent-room h _ (h .counts-are)
+same-length-10 : tie.Need-same-length-10
+same-length-10 c = search needs
 
-slice-aggregate-tested-sets : tie.Need-slice-aggregate-tested-sets
-slice-aggregate-tested-sets c = let h = held (c .before) in sym (lent-part h _ (h .counts-are))
+same-length-11 : tie.Need-same-length-11
+same-length-11 c = search needs
 
-slice-aggregate-tested-sets-2 : tie.Need-slice-aggregate-tested-sets-2
-slice-aggregate-tested-sets-2 c = search needs
+same-length-12 : tie.Need-same-length-12
+same-length-12 c = search needs
 
-slice-aggregate-tested-sets-3 : tie.Need-slice-aggregate-tested-sets-3
-slice-aggregate-tested-sets-3 c = search needs
+same-length-13 : tie.Need-same-length-13
+same-length-13 c = search needs
 
-tested-sets-requires : tie.Need-tested-sets-requires
-tested-sets-requires c κs =
-    let h = held (c .before .before .before) in
-    (timers-for h, omega (arith, few h, lent-part h _ (h .counts-are)))
+same-length-14 : tie.Need-same-length-14
+same-length-14 c = search needs
 
--- after the tested sets
-abbrev named : tie.After-tested2 → Named
-named c = c .before .before .before .before .before
+same-length-15 : tie.Need-same-length-15
+same-length-15 c = search needs
 
-tested-is : (c : tie.After-tested2) → let h = held (named c) in c .before .tested-sets .last .1 .1 .0 ≡ put (map testsSet (h .chart .transitions)) (replicate 512 0)
-tested-is c = let h = held (named c) in c .before .tested-sets .ensures (h .chart .transitions) (tests-of h)
+same-length-16 : tie.Need-same-length-16
+same-length-16 c = search needs
 
-array-share-prefix-sources : tie.Need-array-share-prefix-sources
-array-share-prefix-sources c = let h = held (named c) in lent-room h _ (h .sources-are)
+same-length-17 : tie.Need-same-length-17
+same-length-17 c = search needs
 
-slice-aggregate-judge-lists : tie.Need-slice-aggregate-judge-lists
-slice-aggregate-judge-lists c = let h = held (named (c .before)) in sym (lent-part h _ (h .sources-are))
+same-length-18 : tie.Need-same-length-18
+same-length-18 c = search needs
 
-array-share-prefix-targets : tie.Need-array-share-prefix-targets
-array-share-prefix-targets c = let h = held (named (c .before)) in lent-room h _ (h .targets-are)
-
-slice-aggregate-judge-lists-2 : tie.Need-slice-aggregate-judge-lists-2
-slice-aggregate-judge-lists-2 c = let h = held (named (c .before .before)) in sym (lent-part h _ (h .targets-are))
-
-array-share-prefix-starts : tie.Need-array-share-prefix-starts
-array-share-prefix-starts c = let h = held (named (c .before .before)) in lent-room h _ (h .starts-are)
-
-slice-aggregate-judge-lists-3 : tie.Need-slice-aggregate-judge-lists-3
-slice-aggregate-judge-lists-3 c = let h = held (named (c .before .before .before)) in sym (lent-part h _ (h .starts-are))
-
-array-share-prefix-tested : tie.Need-array-share-prefix-tested
-array-share-prefix-tested c = let h = held (named (c .before .before .before)) in lent-room h _ (tested-is (c .before .before .before))
-
-slice-aggregate-judge-lists-4 : tie.Need-slice-aggregate-judge-lists-4
-slice-aggregate-judge-lists-4 c = let h = held (named (c .before .before .before .before)) in sym (lent-part h _ (tested-is (c .before .before .before .before)))
-
-judge-lists-requires : tie.Need-judge-lists-requires
-judge-lists-requires c κs =
-    let t = c .before .before .before .before in
-    let h = held (named t) in
-    (drawable h (tested-is t), same-parts h (tested-is t))
+same-length-19 : tie.Need-same-length-19
+same-length-19 c = search needs
 
 returns-2 : tie.Need-returns-2
 returns-2 c =
-    let t = c .before .before .before .before .before in
-    let h = held (named t) in (
-      judged-after h (c .judge-lists .ensures (h .chart) (drawn h (tested-is t)) (h .numbers-are)),
-      (found (named t) .before .before .load .ensures .1 .0, tested-after h (tested-is t)),
-    )
+    let f = c .before .before .before .before .before .before .before .before .before .before in
+    let x = c .before .before .judge-chart .ensures in
+    (x .0 _ (held f), (lists-are (loaded f), x .1 _ (held f)))
 
 pub judge-spec : {M : Type 1} → statement M
 judge-spec =
     tie.close
     (tie.spec
-    load-requires
-    enum-known-a
+    read-chart-requires
+    enum-known-answer
     enum-told
+    same-length
+    same-length-2
+    same-length-3
+    same-length-4
+    same-length-5
+    same-length-6
+    same-length-7
+    same-length-8
+    same-length-9
     returns
-    cast-n
-    array-share-prefix-counts
-    slice-aggregate-tested-sets
-    slice-aggregate-tested-sets-2
-    slice-aggregate-tested-sets-3
-    tested-sets-requires
-    array-share-prefix-sources
-    slice-aggregate-judge-lists
-    array-share-prefix-targets
-    slice-aggregate-judge-lists-2
-    array-share-prefix-starts
-    slice-aggregate-judge-lists-3
-    array-share-prefix-tested
-    slice-aggregate-judge-lists-4
-    judge-lists-requires
+    judge-chart-requires
+    same-length-10
+    same-length-11
+    same-length-12
+    same-length-13
+    same-length-14
+    same-length-15
+    same-length-16
+    same-length-17
+    same-length-18
+    same-length-19
     returns-2)

@@ -61,14 +61,11 @@ returns-2 c =
 fill-accepting-requires : tie.Need-fill-accepting-requires
 fill-accepting-requires c κs = let d = c .before in room _ (lent d) (chart-is d) (has-room d) .accepting-fit
 
-fill-heads-requires : tie.Need-fill-heads-requires
-fill-heads-requires c κs =
-    let d = c .before .before .before .before .before .before .before .before .before in
+fill-records-requires : tie.Need-fill-records-requires
+fill-records-requires c κs =
+    let d = c .before .before .before .before .before .before .before .before .before .before .before .before in
     let r = room _ (lent d) (chart-is d) (has-room d) in
-    (chart-is d .few-timers, r .sources-fit, r .targets-fit, r .events-fit, r .starts-fit, r .counts-fit)
-
-fill-tests-requires : tie.Need-fill-tests-requires
-fill-tests-requires c κs = let d = c .before .before .before .before .before .before .before .before .before .before .before .before .before .before .before .before .before .before .before .before .before .before .before in (chart-is d .few-timers, tests-fit _ (lent d) (chart-is d) (has-room d))
+    ((chart-is d .few-timers, r .sources-fit, r .targets-fit, r .events-fit, r .starts-fit, r .counts-fit), tests-fit _ (lent d) (chart-is d) (has-room d))
 
 same-length : tie.Need-same-length
 same-length c = search needs
@@ -99,8 +96,9 @@ same-length-9 c = search needs
 
 returns-3 : tie.Need-returns-3
 returns-3 c =
-    let d = c .before .before .before .before .before .before .before .before .before .before .before .before .before .before .before .before .before .before .before .before .before .before .before .before .before .before .before .before .before .before in
-    read-done _ (lent d) (chart-is d) (has-room d) (c .before .before .before .before .before .before .before .before .before .before .before .before .before .before .before .before .before .before .before .before .before .before .before .before .before .before .before .before .fill-accepting .ensures) (c .before .before .before .before .before .before .before .before .before .before .before .before .before .before .before .before .before .before .before .before .fill-heads .ensures) (c .before .before .before .before .before .before .fill-tests .ensures)
+    let r = c .before .before .before .before .before .before .before .before .before .before .before .before .before .before .before .before in
+    let d = r .before .before .before .before .before .before .before .before .before .before .before .before .before in
+    read-done _ (lent d) (chart-is d) (has-room d) (r .before .before .before .before .before .before .before .before .before .before .before .fill-accepting .ensures) (r .fill-records .ensures)
 
 pub read-chart-spec : {M : Type 1} → statement M
 read-chart-spec =
@@ -116,8 +114,7 @@ read-chart-spec =
     room-requires
     returns-2
     fill-accepting-requires
-    fill-heads-requires
-    fill-tests-requires
+    fill-records-requires
     same-length
     same-length-2
     same-length-3

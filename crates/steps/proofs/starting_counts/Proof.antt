@@ -23,9 +23,6 @@ mul-all c = search needs
 shared-slice-read-all : tie.Need-shared-slice-read-all Inv-loop μ-loop
 shared-slice-read-all c = search needs
 
-cast-all : tie.Need-cast-all Inv-loop μ-loop
-cast-all c = omega (arith, c .shared-slice-known .given (c .before .before .loop .j))
-
 mul-all-2 : tie.Need-mul-all-2 Inv-loop μ-loop
 mul-all-2 c = search needs
 
@@ -53,7 +50,6 @@ starting-counts-spec =
     loop-holds
     mul-all
     shared-slice-read-all
-    cast-all
     mul-all-2
     array-write-all
     add-j

@@ -5,6 +5,7 @@ use borrow.Author.Tests.{not-true, not-false}
 use Rattle.model.specs.Chart.{Transition}
 use Rattle.steps.specs.Stepping.{Room}
 use Rattle.steps.proofs.Charts.{TransitionAt, transition-at}
+use Rattle.steps.proofs.Counts.{moved-both}
 use Rattle.steps.proofs.Attempts.{room, next-small, refused-as, refused-small, attempt-14, attempt-15, attempt-22, attempt-23, attempt-24, attempt-taken}
 use Rattle.steps.proofs.step.Statement.{statement}
 use Rattle.steps.proofs.step.Tie as tie
@@ -22,9 +23,12 @@ past-15 a = a .before .before .before
 abbrev past-22 : tie.Else4 → tie.Else3
 past-22 a = a .before .before
 
--- the call of tests_met, and the way past 23 before it
-abbrev past-23 : tie.After-counts2 → tie.Else4
-past-23 a = a .before .before .before .before .before
+-- the counts have grown: the way past 23 before that, and the call of tests_met after it
+abbrev past-23 : tie.After-grown → tie.Else4
+past-23 a = a .before .before .before
+
+abbrev growth : tie.After-tests-met → tie.After-grown
+growth a = a .before .before .before .before
 
 abbrev start : tie.Else4 → tie.Start
 start a = entry (past-14 (past-15 (past-22 a)) .before)
@@ -79,50 +83,57 @@ returns-4 c = let d = c .before .before .before in let b = past-15 d in let a = 
   refused-small 23 _ _ _ (c .refused4 .ensures) (z .pre .1),
 )
 
+cast-passed : tie.Need-cast-passed
+cast-passed c = search needs
+
+grown-requires : tie.Need-grown-requires
+grown-requires c κs = room-here (c .before .before)
+
 mul-tests-met : tie.Need-mul-tests-met
 mul-tests-met c = search needs
 
 shared-slice-read-tests-met : tie.Need-shared-slice-read-tests-met
-shared-slice-read-tests-met c = here (c .before .before .before) .1 .first-within
+shared-slice-read-tests-met c = here (past-23 (c .before)) .1 .first-within
 
 shared-slice-read-tests-met-2 : tie.Need-shared-slice-read-tests-met-2
-shared-slice-read-tests-met-2 c = here (c .before .before .before .before) .1 .tests-within
+shared-slice-read-tests-met-2 c = here (past-23 (c .before .before)) .1 .tests-within
 
 slice-aggregate-tests-met : tie.Need-slice-aggregate-tests-met
 slice-aggregate-tests-met c = search needs
 
 tests-met-requires : tie.Need-tests-met-requires
-tests-met-requires c κs = let h = here (past-23 c) in (record { all = h .0 .tests; number = h .1 .number; from = h .1 .from }, room-here (past-23 c))
+tests-met-requires c κs = let g = c .before .before .before in let h = here (past-23 g) in (record { all = h .0 .tests; number = h .1 .number; from = h .1 .from }, g .grown .ensures .number)
 
 refused-requires-5 : tie.Need-refused-requires-5
 refused-requires-5 c κs = search needs
 
 returns-5 : tie.Need-returns-5
-returns-5 c = let q = c .before .before in let e = past-23 (q .before) in let d = past-22 e in let b = past-15 d in let a = past-14 b in let z = entry (a .before) in (
-  λ ch L s w. refused-as 24 _ _ _ _ (c .refused5 .ensures) (attempt-24 L _ _ _ _ s w (a .if1 .left) (b .if2 .left) (d .if3 .left) (e .if4 .left) _ (q .tests-met .ensures) (not-true _ (c .before .if5 .taken))),
+returns-5 c = let q = c .before .before in let g = growth q in let e = past-23 g in let d = past-22 e in let b = past-15 d in let a = past-14 b in let z = entry (a .before) in (
+  λ ch L s w. refused-as 24 _ _ _ _ (c .refused5 .ensures) (attempt-24 L _ _ _ _ s w (a .if1 .left) (b .if2 .left) (d .if3 .left) (e .if4 .left) _ (g .grown .ensures) _ (q .tests-met .ensures) (not-true _ (c .before .if5 .taken))),
   refused-small 24 _ _ _ (c .refused5 .ensures) (z .pre .1),
 )
 
-mul-t17 : tie.Need-mul-t17
-mul-t17 c = search needs
+mul-t18 : tie.Need-mul-t18
+mul-t18 c = search needs
 
-shared-slice-read-t20 : tie.Need-shared-slice-read-t20
-shared-slice-read-t20 c = here (past-23 (c .before .before .before)) .1 .target-within
+shared-slice-read-t21 : tie.Need-shared-slice-read-t21
+shared-slice-read-t21 c = here (past-23 (growth (c .before .before))) .1 .target-within
 
-mul-counts-after : tie.Need-mul-counts-after
-mul-counts-after c = search needs
+mul-started : tie.Need-mul-started
+mul-started c = search needs
 
-shared-slice-read-counts-after : tie.Need-shared-slice-read-counts-after
-shared-slice-read-counts-after c = here (past-23 (c .before .before .before .before)) .1 .starts-within
+shared-slice-read-started : tie.Need-shared-slice-read-started
+shared-slice-read-started c = here (past-23 (growth (c .before .before .before))) .1 .starts-within
 
-counts-after-requires : tie.Need-counts-after-requires
-counts-after-requires c κs = room-here (past-23 (c .before .before .before .before))
+started-requires : tie.Need-started-requires
+started-requires c κs = search needs
 
 returns-6 : tie.Need-returns-6
-returns-6 c = let p = c .before .before .before in let q = p .before in let e = past-23 (q .before) in let d = past-22 e in let b = past-15 d in let a = past-14 b in (
-  λ ch L s w. attempt-taken L _ _ _ _ s w (a .if1 .left) (b .if2 .left) (d .if3 .left) (e .if4 .left) _ (q .tests-met .ensures) (not-false _ (p .if5 .left)) _ (c .counts-after .ensures),
-  next-small _ _ _ _ _ (start e .pre .1) (e .if4 .left) (c .counts-after .ensures),
-)
+returns-6 c = let p = c .before .before .before in let q = p .before in let g = growth q in let e = past-23 g in let d = past-22 e in let b = past-15 d in let a = past-14 b in
+    let moved = moved-both _ _ _ _ _ (g .grown .ensures) (c .started .ensures) in (
+      λ ch L s w. attempt-taken L _ _ _ _ s w (a .if1 .left) (b .if2 .left) (d .if3 .left) (e .if4 .left) _ (g .grown .ensures) _ (q .tests-met .ensures) (not-false _ (p .if5 .left)) _ moved,
+      next-small _ _ _ _ _ (start e .pre .1) (e .if4 .left) moved,
+    )
 
 pub step-spec : {M : Type 1} → statement M
 step-spec =
@@ -138,6 +149,8 @@ step-spec =
     returns-3
     refused-requires-4
     returns-4
+    cast-passed
+    grown-requires
     mul-tests-met
     shared-slice-read-tests-met
     shared-slice-read-tests-met-2
@@ -145,9 +158,9 @@ step-spec =
     tests-met-requires
     refused-requires-5
     returns-5
-    mul-t17
-    shared-slice-read-t20
-    mul-counts-after
-    shared-slice-read-counts-after
-    counts-after-requires
+    mul-t18
+    shared-slice-read-t21
+    mul-started
+    shared-slice-read-started
+    started-requires
     returns-6)

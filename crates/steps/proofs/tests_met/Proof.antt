@@ -7,21 +7,21 @@ use lib.ListN.{length, getD, drop}
 use borrow.Author.Needs.{needs}
 use borrow.Author.Tests.{not-true, not-false}
 use Rattle.model.specs.Chart.{Test}
-use Rattle.model.specs.Run.{Counts, grown, allMet}
+use Rattle.model.specs.Run.{Counts, allMet}
 use Rattle.steps.specs.InLists.{TestAt, TestsFrom, SomeTests}
-use Rattle.steps.specs.Stepping.{Agree, Room}
+use Rattle.steps.specs.Stepping.{Agree}
 use Rattle.steps.proofs.TestTurns.{none-done, test-at, test-passed, test-failed, tests-done}
 use Rattle.steps.proofs.tests_met.Statement.{statement}
 use Rattle.steps.proofs.tests_met.Tie as tie
 
 abbrev Inv-loop : tie.InvT-loop
-Inv-loop timers codes constants first many counts passed end k₀ k =
-    SomeTests first many timers codes constants × Room counts passed × (end ≡ first + many) × (first ≤ k) × (k ≤ end)
+Inv-loop timers codes constants first many counts end k₀ k =
+    SomeTests first many timers codes constants × (length counts ≡ 64) × (end ≡ first + many) × (first ≤ k) × (k ≤ end)
     × ((ts : List Test) → TestsFrom ts first timers codes constants → length ts ≡ many → (v : Counts) → Agree counts v
-    → allMet ts (grown passed v) ≡ allMet (drop (k - first) ts) (grown passed v))
+    → allMet ts v ≡ allMet (drop (k - first) ts) v)
 
 abbrev μ-loop : tie.MeasureT-loop
-μ-loop timers codes constants first many counts passed end k₀ k = end - k
+μ-loop timers codes constants first many counts end k₀ k = end - k
 
 abbrev start : tie.In-loop Inv-loop μ-loop → tie.Start Inv-loop μ-loop
 start a = a .before .before .before .before .before .before
@@ -52,10 +52,7 @@ mul-test-met : tie.Need-mul-test-met Inv-loop μ-loop
 mul-test-met c = omega (arith, timer-small (c .before .before))
 
 shared-slice-read-test-met-2 : tie.Need-shared-slice-read-test-met-2 Inv-loop μ-loop
-shared-slice-read-test-met-2 c = omega (arith, timer-small (c .before .before .before), c .before .before .before .before .loop .inv .1 .number)
-
-add-test-met : tie.Need-add-test-met Inv-loop μ-loop
-add-test-met c = record { fits = c .before .before .before .before .loop .inv .1 .fits _ (timer-small (c .before .before .before)) }
+shared-slice-read-test-met-2 c = omega (arith, timer-small (c .before .before .before), c .before .before .before .before .loop .inv .1)
 
 mul-test-met-2 : tie.Need-mul-test-met-2 Inv-loop μ-loop
 mul-test-met-2 c = search needs
@@ -69,7 +66,7 @@ test-met-requires c κs = search needs
 returns : tie.Need-returns Inv-loop μ-loop
 returns c = λ ts f n v a.
     let l = c .before .before .before .before .before .before .before .loop in
-    sym (l .inv .5 ts f n v a ∙ test-failed _ _ _ _ _ _ ts f v a (l .k) (l .inv .3) (omega arith) (λ x e. sym (not-true _ (c .if1 .taken)) ∙ c .before .test-met .ensures x e))
+    sym (l .inv .5 ts f n v a ∙ test-failed _ _ _ _ _ ts f v a (l .k) (l .inv .3) (omega arith) (λ x e. sym (not-true _ (c .if1 .taken)) ∙ c .before .test-met .ensures x e))
 
 add-k : tie.Need-add-k Inv-loop μ-loop
 add-k c = search needs
@@ -84,11 +81,11 @@ loop-again c = let l = c .before .before .before .before .before .before .before
   l .inv .2,
   omega arith,
   omega arith,
-  λ ts f n v a. l .inv .5 ts f n v a ∙ test-passed _ _ _ _ _ _ ts f v a (l .k) (l .inv .3) (omega arith) (λ x e. sym (not-false _ (c .if1 .left)) ∙ c .before .test-met .ensures x e),
+  λ ts f n v a. l .inv .5 ts f n v a ∙ test-passed _ _ _ _ _ ts f v a (l .k) (l .inv .3) (omega arith) (λ x e. sym (not-false _ (c .if1 .left)) ∙ c .before .test-met .ensures x e),
 )
 
 returns-2 : tie.Need-returns-2 Inv-loop μ-loop
-returns-2 c = λ ts f n v a. let l = c .before .loop in sym (l .inv .5 ts f n v a ∙ tests-done _ _ _ _ _ _ ts f v a (l .k) (omega arith))
+returns-2 c = λ ts f n v a. let l = c .before .loop in sym (l .inv .5 ts f n v a ∙ tests-done _ _ _ _ _ ts f v a (l .k) (omega arith))
 
 pub tests-met-spec : {M : Type 1} → statement M
 tests-met-spec =
@@ -103,7 +100,6 @@ tests-met-spec =
     shared-slice-read-test-met
     mul-test-met
     shared-slice-read-test-met-2
-    add-test-met
     mul-test-met-2
     shared-slice-read-test-met-3
     test-met-requires
