@@ -199,17 +199,22 @@ fn surely_started(drawing: &Drawing) -> Vec<u64> {
     }
 }
 
-/// A chart for which first fit hands out `levels` times `half` numbers, with 2 times `half` timers. At most 16 levels,
-/// `half` at most 32 and at most 8 times `levels` less 8.
+/// A chart for which first fit hands out `levels` times `half` numbers, with 2 times `half` timers. 3 to 17 levels,
+/// `half` at most 32 and at most 8 times `levels` less 16.
 ///
-/// The timers are two halves, A and B. Each level has a group of families of A and one of B. For any two different
-/// levels, a location has the A group of the one and the B group of the other, so that a group of level i meets groups
-/// that hold all numbers of the levels before it. A group's locations lie on a cycle that starts the other half only.
+/// The timers are two halves, A and B. Each level has a group of families of A and one of B; but the last has no group
+/// of B, and so the last but one needs none of A. For any two different levels, a location has the A group of the one
+/// and the B group of the other, so that a group of level i meets groups that hold all numbers of the levels before it.
+/// A group's locations lie on a cycle that starts the other half only.
 pub fn many_numbers(levels: u16, half: u8) -> Drawing {
     let mut pairs = Vec::new();
     for level in 1..levels {
-        pairs.extend((0..level).map(|other| (level, other)));
-        pairs.extend((0..level).map(|other| (other, level)));
+        if level != levels - 2 {
+            pairs.extend((0..level).map(|other| (level, other)));
+        }
+        if level != levels - 1 {
+            pairs.extend((0..level).map(|other| (other, level)));
+        }
     }
     // Location 0 is initial; at 1 there is the B group of level 0 alone, so that it is the first of all.
     let place = |index: usize| index as u16 + 2;

@@ -223,7 +223,7 @@ fn check_analysis_and_rewriting(random: &mut Random, drawing: &Drawing) -> Optio
 fn analysis_and_rewriting_follow_the_definitions() {
     let mut random = Random::new(1);
     let mut drawings: Vec<Drawing> = drawings(&mut random, 2_500, 14).collect();
-    drawings.extend([chart_a(), chart_b(), chart_c(), many_numbers(3, 16), many_numbers(5, 16), sixty_five_numbers(1)]);
+    drawings.extend([chart_a(), chart_b(), chart_c(), many_numbers(4, 16), many_numbers(5, 16), sixty_five_numbers(1)]);
     let boards = drawings.iter().filter_map(|drawing| check_analysis_and_rewriting(&mut random, drawing)).count();
     assert!(boards > 1_000, "{boards}");
 }

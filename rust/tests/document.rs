@@ -517,7 +517,7 @@ fn used_may_exceed_64() {
     assert_eq!(answer, Analysis { used: 65, floor: 64 });
     assert_eq!(live[3], (0..64).collect::<Vec<_>>());
     assert_eq!(rewritten(&small, 64), refused(20, NOWHERE));
-    for (levels, half) in [(2, 8), (3, 16), (8, 32), (16, 5), (16, 32)] {
+    for (levels, half) in [(3, 8), (4, 16), (8, 32), (17, 5), (17, 32)] {
         let drawing = many_numbers(levels, half);
         let answer = live_of(&drawing.file()).1;
         assert_eq!(answer, Analysis { used: u64::from(levels) * u64::from(half), floor: 2 * u64::from(half) });

@@ -1,19 +1,15 @@
 -- Some number below another passes, and some location of a family does. Assumes nothing.
-use mathlib.Core.Path.{_≡_, refl, sym, ap, _∙_}
+use mathlib.Core.Path.{_≡_, sym, ap, _∙_}
 use mathlib.Core.Logic.{_⊎_, inl, inr}
-use mathlib.Core.Bool.{Bool, true, false, _&&_, _||_, true≢false}
+use mathlib.Core.Bool.{Bool, true, false, _||_, true≢false, or-false}
 use mathlib.Core.List.{List}
-use Prim.Native.Nat.{ℕ, zero, suc, _+_, _≤_, _<_}
+use Prim.Native.Nat.{ℕ, zero, suc, _+_, _<_}
 use native.Mathlib.Numerals.{add-one}
 use native.Mathlib.Decide.{ℕ-discrete}
 use native.Mathlib.Omega.{arith}
 use lib.ListN.{length}
 use Rattle.lists.proofs.Bools.{same-bool, is-no, or-cases, or-left, or-right, and-left, and-right, and-both}
 use Rattle.allocation.specs.Numbering.{anyBelow, inFamily, someIn, Within}
-
-pub or-false : (b : Bool) → b ≡ (b || false)
-or-false true = refl
-or-false false = refl
 
 pub below-in : (f : ℕ → Bool) (n k : ℕ) → k < n → f k ≡ true → anyBelow f n ≡ true
 unfolding anyBelow
@@ -51,7 +47,7 @@ module _ (sets : List ℕ) (j : ℕ) (f : ℕ → Bool) where
 
     pub some-no : inFamily sets j s ≡ false → someIn sets j f s ≡ someIn sets j f (s + 1)
     unfolding someIn anyBelow
-    some-no e = rw (add-one, e) (or-false _)
+    some-no e = rw (add-one, e) (sym (or-false _))
 
   -- only those between two bounds count
   module _ {from end : ℕ} (w : Within sets j from end) where

@@ -1,9 +1,9 @@
--- Lists that a loop writes from the front, one entry a turn or one entry of a row. Assumes nothing.
+-- Lists of rows that a loop writes from the front, one entry of a row a turn. Assumes nothing.
 use mathlib.Core.Path.{_≡_, refl, sym, ap, _∙_}
 use mathlib.Core.Logic.{_⊎_, inl, inr, _≢_}
 use mathlib.Core.Bool.{Bool, true, false, _&&_}
 use mathlib.Core.List.{List}
-use Prim.Native.Nat.{ℕ, _+_, _*_, _≤_, _<_}
+use Prim.Native.Nat.{ℕ, _+_, _≤_, _<_}
 use native.Mathlib.Decide.{ℕ-discrete}
 use native.Mathlib.Omega.{arith}
 use lib.Dec.{eqb}
@@ -12,14 +12,6 @@ use lib.Seq.{getD-set-same, getD-set-other}
 use borrow.Author.Tests.{ne-eqb}
 use Rattle.lists.proofs.Bools.{is-no, eqb-self, lt-or-le}
 use Rattle.allocation.specs.Numbering.{inFamily, changed, Within}
-
--- an entry more
-pub filled-more : (f : ℕ → ℕ) (l : List ℕ) (x : ℕ) → x < length l → ((k : ℕ) → k < x → getD l k 0 ≡ f k) → (k : ℕ) → k < x + 1 → getD (set l x (f x)) k 0 ≡ f k
-filled-more f l x h below k lt = go (ℕ-discrete k x)
-  where
-    go : Dec (k ≡ x) → getD (set l x (f x)) k 0 ≡ f k
-    go (yes e) = rw e (getD-set-same l x (f x) 0 h)
-    go (no ne) = getD-set-other l x k (f x) 0 ne ∙ below k (omega arith)
 
 -- ---- one column of the rows of a family's locations
 

@@ -9,17 +9,17 @@ use Rattle.lists.specs.Lists.{lowest}
 use Rattle.timer_set.specs.Members.{member}
 use Rattle.model.specs.Family.{Pairs, isPair, familyOf}
 use Rattle.model.proofs.Joined.{WellFormed}
-use Rattle.allocation.specs.Numbering.{taken, given, Blank, begins, NumberedTo, Begun}
+use Rattle.allocation.specs.Numbering.{taken, given, Unnumbered, begins, NumberedTo, Begun}
 use Rattle.allocation.proofs.Filling.{changed-other}
 use Rattle.allocation.proofs.Placing.{begins-pair, numbered-yes, numbered-no}
 
 -- another timer's cells stay as they were
-pub blank-kept : (sets : List ℕ) (j number : ℕ) (numbers after : List ℕ)
+pub unnumbered-kept : (sets : List ℕ) (j number : ℕ) (numbers after : List ℕ)
     → ((s i : ℕ) → s < length sets → i < 64 → getD after (64 * s + i) 0 ≡ given sets j number numbers s i)
-    → (i : ℕ) → i < 64 → (j ≡ i → ⊥) → Blank sets i numbers → Blank sets i after
-unfolding Blank given
-blank-kept sets j number numbers after gave i h n blank s k e =
-    gave s i k h ∙ changed-other (λ s i. 64 * s + i) sets j j (λ _. number) numbers s i n ∙ blank s k e
+    → (i : ℕ) → i < 64 → (j ≡ i → ⊥) → Unnumbered sets i numbers → Unnumbered sets i after
+unfolding Unnumbered given
+unnumbered-kept sets j number numbers after gave i h n unnumbered s k e =
+    gave s i k h ∙ changed-other (λ s i. 64 * s + i) sets j j (λ _. number) numbers s i n ∙ unnumbered s k e
 
 -- 64 q + j tells q and j
 pub begins-at : {p : Pairs} → WellFormed p → (q j : ℕ) → j < 64 → begins p (64 * q + j) ≡ true → (isPair p q j ≡ true) × (familyOf p q j .first ≡ q)

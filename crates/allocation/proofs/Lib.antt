@@ -4,7 +4,6 @@ pub mod Rows
 pub mod Filling
 pub mod Words
 pub mod Placing
-pub mod Flatten
 pub mod AllFamilies
 pub mod InTurn
 pub mod Locations

@@ -1,25 +1,23 @@
--- The locations in turn: the timers whose families begin at one, how these spread, and the pairs that are placed then. Assumes nothing.
-use mathlib.Core.Path.{_≡_, refl, sym, ap, _∙_, subst}
+-- The locations in turn: the timers whose families begin at one, how these propagate, and the pairs that are placed then. Assumes nothing.
+use mathlib.Core.Path.{_≡_, sym, ap, _∙_, subst}
 use mathlib.Core.Logic.{_⊎_, inl, inr}
-use mathlib.Core.Bool.{Bool, true, false, not, _&&_, _||_}
+use mathlib.Core.Bool.{true, false, not, _&&_, _||_}
 use mathlib.Core.List.{List}
 use Prim.Native.Nat.{ℕ, zero, suc, _+_, _*_, _/_, _%_, _≤_, _<_}
 use native.Mathlib.Decide.{ℕ-discrete}
 use native.Mathlib.Omega.{arith}
-use lib.Dec.{eqb}
 use lib.ListN.{length, getD, List·getD-eq-default}
 use borrow.Author.Tests.{eq-eqb}
 use Rattle.lists.specs.Lists.{memb}
-use Rattle.lists.proofs.Bools.{same-bool, same-number, not-both, is-no, or-cases, or-left, or-right, and-left, and-right, and-both, not-true, lt-or-le}
+use Rattle.lists.proofs.Bools.{same-bool, not-both, is-no, or-cases, or-left, or-right, and-left, and-right, and-both, not-true, lt-or-le}
 use Rattle.timer_set.specs.Members.{member, joined, minus}
 use Rattle.timer_set.proofs.Members.{member-empty, member-joined, member-minus}
 use Rattle.model.specs.Family.{Pairs, isPair, Joined, Family, familyOf}
-use Rattle.model.specs.FirstFit.{place}
 use Rattle.model.proofs.Joined.{WellFormed, joined-refl, joined-sym, joined-pair}
 use Rattle.model.proofs.Families.{family-has, first-least, first-joined, family-same}
-use Rattle.families.specs.Spreading.{Spread}
-use Rattle.allocation.specs.Cells.{cell, noNumber}
-use Rattle.allocation.specs.Numbering.{inFamily, Lengths, Mirrors, Within, Blank, Ready, begins, NumberedTo, Begun, Described, PlacedTo}
+use Rattle.families.specs.Propagation.{Propagated}
+use Rattle.allocation.specs.Cells.{cell}
+use Rattle.allocation.specs.Numbering.{inFamily, Lengths, WordsAgree, Within, Unnumbered, Ready, begins, NumberedTo, Begun, Described, PlacedTo}
 use Rattle.allocation.proofs.CellList.{cells-at}
 use Rattle.allocation.proofs.Placing.{numbered-no, not-yet}
 use Rattle.allocation.proofs.InTurn.{begins-at}
@@ -101,9 +99,9 @@ module _ {p : Pairs} {live ones others linked : List ℕ} (d : Described p live 
         go s j pair l (no n) = so .has s j pair (omega arith)
         go s j pair l (yes e) = absurd (not-both (first-here s j pair e .0) (no-begun j))
 
-  -- ---- those that begin have spread
+  -- ---- those that begin have propagated
 
-  module _ (sets : List ℕ) (long : length sets ≡ length live) (spread : Spread p q begun sets) where
+  module _ (sets : List ℕ) (long : length sets ≡ length live) (found : Propagated p q begun sets) where
     pub begun-here : Begun p q begun sets
     begun-here = record {
       formed = formed;
@@ -111,15 +109,15 @@ module _ {p : Pairs} {live ones others linked : List ℕ} (d : Described p live 
       here = omega (arith, d .locations-are);
       timers = begins-same;
       families = λ j s m. let pair = begun-first j m .0 in same-bool _ _
-          (λ t. family-has formed q j pair s .1 (spread .from s j t .1))
-          (λ t. spread .has s j m (family-has formed q j pair s .0 t));
+          (λ t. family-has formed q j pair s .1 (found .from s j t .1))
+          (λ t. found .has s j m (family-has formed q j pair s .0 t));
     }
 
     begun-within : (end : ℕ) → end ≤ length sets → ((s : ℕ) → end ≤ s → getD sets s 0 ≡ 0) → (j : ℕ) → member begun j ≡ true → Within sets j q end
     begun-within end inside rest j m = record {
-      low = λ s t. let b = begun-first j m in omega (arith, b .1, first-least formed q j (b .0) s (spread .from s j t .1));
+      low = λ s t. let b = begun-first j m in omega (arith, b .1, first-least formed q j (b .0) s (found .from s j t .1));
       high = high;
-      ordered = let l = high q (spread .has q j m (joined-refl q)) in omega arith;
+      ordered = let l = high q (found .has q j m (joined-refl q)) in omega arith;
       inside = inside;
     }
       where
@@ -130,21 +128,21 @@ module _ {p : Pairs} {live ones others linked : List ℕ} (d : Described p live 
             go (inl l) = l
             go (inr l) = absurd (not-both t (ap (λ (w : ℕ). member w j) (rest s l) ∙ member-empty j))
 
-    begun-blank : (numbers : List ℕ) (used : ℕ) → NumberedTo p (64 * q) numbers used → (j : ℕ) → member begun j ≡ true → Blank sets j numbers
-    unfolding Blank
-    begun-blank numbers used n j m s h t =
+    begun-unnumbered : (numbers : List ℕ) (used : ℕ) → NumberedTo p (64 * q) numbers used → (j : ℕ) → member begun j ≡ true → Unnumbered sets j numbers
+    unfolding Unnumbered
+    begun-unnumbered numbers used n j m s h t =
         let few = begun-few j m in
         let b = begun-first j m in
         let r : (64 * q + j) % 64 ≡ j = omega arith in
         let v : (64 * q + j) / 64 ≡ q = omega arith in
-        let in-it : memb s (familyOf p q j .locations) ≡ true = family-has formed q j (b .0) s .1 (spread .from s j t .1) in
+        let in-it : memb s (familyOf p q j .locations) ≡ true = family-has formed q j (b .0) s .1 (found .from s j t .1) in
         ap (λ (l : List ℕ). getD l (64 * s + j) 0) (n .cells-are) ∙ cells-at _ (p .locations) s j (omega (arith, d .locations-are)) few
         ∙ ap cell (rw r at (not-yet formed (64 * q) (64 * q + j) (omega arith) (begins-here j few (b .0) (b .1)) s (rw (v, r) in-it)))
 
     pub begun-ready : (numbers held : List ℕ) (used end : ℕ) → NumberedTo p (64 * q) numbers used → Lengths sets numbers held
-        → Mirrors numbers held (length sets) → (end ≤ length sets) × ((s : ℕ) → end ≤ s → getD sets s 0 ≡ 0) → Ready sets begun q end numbers held
-    begun-ready numbers held used end n lengths mirrors e =
-        record { lengths = lengths; mirrors = mirrors; within = begun-within end (e .0) (e .1); blank = begun-blank numbers used n }
+        → WordsAgree numbers held (length sets) → (end ≤ length sets) × ((s : ℕ) → end ≤ s → getD sets s 0 ≡ 0) → Ready sets begun q end numbers held
+    begun-ready numbers held used end n lengths words-agree e =
+        record { lengths = lengths; words-agree = words-agree; within = begun-within end (e .0) (e .1); unnumbered = begun-unnumbered numbers used n }
 
     pub placed-more : (after : List ℕ) → length after ≡ length live
         → ((s : ℕ) → s < length sets → getD after s 0 ≡ joined (getD placed s 0) (getD sets s 0)) → PlacedTo p (q + 1) after
@@ -159,7 +157,7 @@ module _ {p : Pairs} {live ones others linked : List ℕ} (d : Described p live 
 
         now : (s j : ℕ) → isPair p s j ≡ true → familyOf p s j .first < q + 1 → Dec (familyOf p s j .first ≡ q)
             → (member (getD placed s 0) j || member (getD sets s 0) j) ≡ true
-        now s j pair l (yes e) = let x = first-here s j pair e in or-right (member (getD placed s 0) j) (spread .has s j (x .0) (x .1))
+        now s j pair l (yes e) = let x = first-here s j pair e in or-right (member (getD placed s 0) j) (found .has s j (x .0) (x .1))
         now s j pair l (no n) = or-left (member (getD sets s 0) j) (so .has s j pair (omega arith))
 
         inside : (s j : ℕ) → member (getD after s 0) j ≡ true → s < length live
@@ -172,7 +170,7 @@ module _ {p : Pairs} {live ones others linked : List ℕ} (d : Described p live 
         old : (s j : ℕ) → (member (getD placed s 0) j ≡ true) ⊎ (member (getD sets s 0) j ≡ true) → (isPair p s j ≡ true) × (familyOf p s j .first < q + 1)
         old s j (inl m) = let x = so .only s j m in (x .0, omega (arith, x .1))
         old s j (inr m) =
-            let x = spread .from s j m in
+            let x = found .from s j m in
             let b = begun-first j (x .0) in
             let same = ap (λ (f : Family). f .first) (family-same formed (b .0) (x .1)) in
             (joined-pair formed (x .1) (b .0), omega (arith, same, b .1))

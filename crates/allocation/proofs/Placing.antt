@@ -11,7 +11,7 @@ use lib.Dec.{eqb}
 use lib.ListN.{length, getD, getElem?}
 use borrow.Author.Tests.{eq-eqb}
 use Rattle.lists.specs.Lists.{memb, gather, lowest, top}
-use Rattle.lists.proofs.Bools.{yes-or-no, same-bool, same-number, not-both, is-no, and-left, and-right, and-both}
+use Rattle.lists.proofs.Bools.{same-bool, same-number, not-both, is-no, and-left, and-right, and-both}
 use Rattle.lists.proofs.Membership.{any-memb-in, any-memb-out}
 use Rattle.lists.proofs.Lowest.{lowest-is}
 use Rattle.model.specs.Family.{Pairs, isPair, Joined, Family, familyOf, familyFrom, meets}
@@ -21,7 +21,7 @@ use Rattle.model.proofs.Families.{family-timer, family-has, family-same}
 use Rattle.model.proofs.FirstFit.{free-not-held, free-least, held-in, held-out}
 use Rattle.model.proofs.NumberAt.{has, has-timer, has-location, has-pair, number-out}
 use Rattle.allocation.specs.Cells.{cell, cells, noNumber}
-use Rattle.allocation.specs.Numbering.{inFamily, inRow, someIn, taken, changed, given, begins, familiesTo, NumberedTo}
+use Rattle.allocation.specs.Numbering.{inFamily, inRow, taken, changed, given, begins, familiesTo, NumberedTo}
 use Rattle.allocation.proofs.Below.{below-in, below-out, some-in, some-out}
 use Rattle.allocation.proofs.CellList.{cells-at, cells-is, cells-none, cell-some, used-more, free-used, place-append}
 

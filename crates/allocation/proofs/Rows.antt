@@ -1,7 +1,7 @@
 -- The numbers of a word that stand in rows, and the lowest that stands in none, word by word. Assumes nothing.
-use mathlib.Core.Path.{_≡_, refl, sym, ap, _∙_}
+use mathlib.Core.Path.{_≡_, sym, ap, _∙_}
 use mathlib.Core.Logic.{_⊎_, inl, inr}
-use mathlib.Core.Bool.{Bool, true, false, not, _||_}
+use mathlib.Core.Bool.{Bool, true, not, _||_, or-false, or-assoc}
 use mathlib.Core.List.{List}
 use Prim.Native.Nat.{ℕ, _+_, _-_, _*_, _/_, _%_, _≤_, _<_}
 use native.Mathlib.Numerals.{add-one}
@@ -15,18 +15,13 @@ use Rattle.lists.proofs.Lowest.{lowest-passes, lowest-before, lowest-is}
 use Rattle.timer_set.specs.Members.{member, added, lowestMissing}
 use Rattle.timer_set.proofs.Members.{member-added}
 use Rattle.allocation.specs.Numbering.{anyBelow, inRow}
-use Rattle.allocation.proofs.Below.{or-false}
-
-or-assoc : (a b c : Bool) → ((a || b) || c) ≡ (a || (b || c))
-or-assoc true b c = refl
-or-assoc false b c = refl
 
 -- ---- one row
 
 module _ (numbers : List ℕ) (s w : ℕ) where
   pub row-none : (b : Bool) (x : ℕ) → b ≡ (b || inRow numbers s (64 * w + x) 0)
   unfolding inRow anyBelow
-  row-none b x = or-false b
+  row-none b x = sym (or-false b)
 
   module _ (set before i x : ℕ) (h : x < 64) (e : member set x ≡ (member before x || inRow numbers s (64 * w + x) i)) where
     abbrev y : ℕ
@@ -45,7 +40,7 @@ module _ (numbers : List ℕ) (s w : ℕ) where
             (λ t. let n : y ≡ 64 * w + x = same-number t in eq-eqb x (y % 64) (omega arith))
 
     pub row-no : (y / 64 ≡ w → ⊥) → member set x ≡ (member before x || inRow numbers s (64 * w + x) (i + 1))
-    row-no d = or-false (member set x) ∙ ap (λ (b : Bool). member set x || b) (sym (ne-eqb y (64 * w + x) (λ n. d (omega arith)))) ∙ row-more
+    row-no d = sym (or-false (member set x)) ∙ ap (λ (b : Bool). member set x || b) (sym (ne-eqb y (64 * w + x) (λ n. d (omega arith)))) ∙ row-more
 
 -- ---- the lowest number that does not pass, 64 at a time
 

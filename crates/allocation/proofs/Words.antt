@@ -1,7 +1,7 @@
--- A family that gets a number: what stands in the rows, and the words of held numbers that mirror them. Assumes nothing.
+-- A family that gets a number: what stands in the rows, and the words of held numbers that agree with them. Assumes nothing.
 use mathlib.Core.Path.{_≡_, sym, ap, ap₂, _∙_, subst}
 use mathlib.Core.Logic.{_⊎_, inl, inr}
-use mathlib.Core.Bool.{Bool, true, false, _||_}
+use mathlib.Core.Bool.{Bool, true, false, _||_, or-false}
 use mathlib.Core.List.{List}
 use Prim.Native.Nat.{ℕ, _+_, _*_, _/_, _%_, _≤_, _<_}
 use native.Mathlib.Decide.{ℕ-discrete}
@@ -13,31 +13,31 @@ use Rattle.lists.proofs.Bools.{yes-or-no, is-no, same-bool, same-number, or-cas
 use Rattle.timer_set.specs.Members.{member, added}
 use Rattle.timer_set.proofs.Members.{member-added, member-empty}
 use Rattle.allocation.specs.Cells.{noNumber}
-use Rattle.allocation.specs.Numbering.{inFamily, inRow, inWord, someIn, taken, given, holding, Mirrors, Blank}
-use Rattle.allocation.proofs.Below.{or-false, below-in, below-out, some-in, some-out}
+use Rattle.allocation.specs.Numbering.{inFamily, inRow, inWord, someIn, taken, given, holding, WordsAgree, Unnumbered}
+use Rattle.allocation.proofs.Below.{below-in, below-out, some-in, some-out}
 use Rattle.allocation.proofs.Filling.{changed-no, changed-other, changed-here}
 
 -- the numbers below 512 of a family's locations are the same by words and by rows
-pub mirrored : (sets numbers held : List ℕ) → Mirrors numbers held (length sets) → (j w x : ℕ) → w < 8 → x < 64
+pub words-taken : (sets numbers held : List ℕ) → WordsAgree numbers held (length sets) → (j w x : ℕ) → w < 8 → x < 64
     → someIn sets j (λ s. inWord held s w x) (length sets) ≡ taken sets numbers j (64 * w + x)
-unfolding Mirrors taken
-mirrored sets numbers held m j w x h k = same-bool _ _
+unfolding WordsAgree taken
+words-taken sets numbers held m j w x h k = same-bool _ _
     (λ t. let s = some-out sets j _ (length sets) t in some-in sets j _ (length sets) (s .0) (s .1) (s .2) (sym (m (s .0) w x (s .1) h k) ∙ s .3))
     (λ t. let s = some-out sets j _ (length sets) t in some-in sets j _ (length sets) (s .0) (s .1) (s .2) (m (s .0) w x (s .1) h k ∙ s .3))
 
 -- no number stands anywhere
-pub mirrors-none : (numbers held : List ℕ) (n : ℕ) → ((x : ℕ) → getD held x 0 ≡ 0) → ((x : ℕ) → x < 64 * n → getD numbers x 0 ≡ noNumber)
-    → Mirrors numbers held n
-unfolding Mirrors inRow
-mirrors-none numbers held n empty blank s w x h a b =
+pub words-none : (numbers held : List ℕ) (n : ℕ) → ((x : ℕ) → getD held x 0 ≡ 0) → ((x : ℕ) → x < 64 * n → getD numbers x 0 ≡ noNumber)
+    → WordsAgree numbers held n
+unfolding WordsAgree inRow
+words-none numbers held n empty unnumbered s w x h a b =
     ap (λ (y : ℕ). member y x) (empty _) ∙ member-empty x ∙ sym (is-no _ (λ t.
     let i = below-out _ 64 t in
     let e : getD numbers (64 * s + i .0) 0 ≡ 64 * w + x = same-number (i .2) in
-    omega (arith, e, blank (64 * s + i .0) (omega (arith, i .1)))))
+    omega (arith, e, unnumbered (64 * s + i .0) (omega (arith, i .1)))))
 
 -- ---- the family of timer j has got a number
 
-module _ (sets : List ℕ) (j number : ℕ) (few : j < 64) (numbers after : List ℕ) (blank : Blank sets j numbers)
+module _ (sets : List ℕ) (j number : ℕ) (few : j < 64) (numbers after : List ℕ) (unnumbered : Unnumbered sets j numbers)
     (gave : (s i : ℕ) → s < length sets → i < 64 → getD after (64 * s + i) 0 ≡ given sets j number numbers s i) where
   module _ (s : ℕ) (h : s < length sets) where
     same-cell : (i : ℕ) → i < 64 → (j ≡ i → ⊥) → getD after (64 * s + i) 0 ≡ getD numbers (64 * s + i) 0
@@ -56,7 +56,7 @@ module _ (sets : List ℕ) (j number : ℕ) (few : j < 64) (numbers after : List
 
     -- at its locations the row has the number more
     row-given : inFamily sets j s ≡ true → (k : ℕ) → k < 65535 → inRow after s k 64 ≡ (inRow numbers s k 64 || eqb number k)
-    unfolding given inRow Blank
+    unfolding given inRow Unnumbered
     row-given e k small = same-bool _ _ (λ t. let i = below-out _ 64 t in there (i .0) (i .1) (i .2) (ℕ-discrete j (i .0))) (λ t. back (or-cases _ t))
       where
         here : getD after (64 * s + j) 0 ≡ number
@@ -68,7 +68,7 @@ module _ (sets : List ℕ) (j number : ℕ) (few : j < 64) (numbers after : List
 
         old : (i : ℕ) → i < 64 → eqb (getD numbers (64 * s + i) 0) k ≡ true → Dec (j ≡ i) → inRow after s k 64 ≡ true
         old i b t (yes p) = let v : getD numbers (64 * s + i) 0 ≡ k = same-number t in
-            let z : getD numbers (64 * s + i) 0 ≡ 65535 = subst (λ (y : ℕ). getD numbers (64 * s + y) 0 ≡ 65535) p (blank s h e) in
+            let z : getD numbers (64 * s + i) 0 ≡ 65535 = subst (λ (y : ℕ). getD numbers (64 * s + y) 0 ≡ 65535) p (unnumbered s h e) in
             absurd (omega (arith, small, v, z))
         old i b t (no n) = below-in _ 64 i b (ap (λ (y : ℕ). eqb y k) (same-cell i b n) ∙ t)
 
@@ -76,31 +76,31 @@ module _ (sets : List ℕ) (j number : ℕ) (few : j < 64) (numbers after : List
         back (inl t) = let i = below-out _ 64 t in old (i .0) (i .1) (i .2) (ℕ-discrete j (i .0))
         back (inr t) = below-in _ 64 j few (ap (λ (y : ℕ). eqb y k) here ∙ t)
 
-  module _ (held : List ℕ) (mirrors : Mirrors numbers held (length sets)) where
+  module _ (held : List ℕ) (words-agree : WordsAgree numbers held (length sets)) where
     -- a number of no kept word leaves the words as they are
-    pub mirrors-past : 512 ≤ number → Mirrors after held (length sets)
-    unfolding Mirrors
-    mirrors-past past s w x h a b = go (yes-or-no (inFamily sets j s))
+    pub words-past : 512 ≤ number → WordsAgree after held (length sets)
+    unfolding WordsAgree
+    words-past past s w x h a b = go (yes-or-no (inFamily sets j s))
       where
         go : (inFamily sets j s ≡ true) ⊎ (inFamily sets j s ≡ false) → inWord held s w x ≡ inRow after s (64 * w + x) 64
         go (inl e) =
-            mirrors s w x h a b ∙ or-false _ ∙ ap (λ (c : Bool). inRow numbers s (64 * w + x) 64 || c) (sym (ne-eqb number (64 * w + x) (λ p. omega arith)))
+            words-agree s w x h a b ∙ sym (or-false _) ∙ ap (λ (c : Bool). inRow numbers s (64 * w + x) 64 || c) (sym (ne-eqb number (64 * w + x) (λ p. omega arith)))
             ∙ sym (row-given s h e (64 * w + x) (omega arith))
-        go (inr e) = mirrors s w x h a b ∙ sym (row-kept s h e (64 * w + x))
+        go (inr e) = words-agree s w x h a b ∙ sym (row-kept s h e (64 * w + x))
 
-    pub mirrors-held : number < 512 → (words : List ℕ)
+    pub words-held : number < 512 → (words : List ℕ)
         → ((s v : ℕ) → s < length sets → v < 8 → getD words (256 * v + s) 0 ≡ holding sets j (number / 64) (number % 64) held s v)
-        → Mirrors after words (length sets)
-    unfolding Mirrors holding
-    mirrors-held small words has s w x h a b = go (yes-or-no (inFamily sets j s)) (ℕ-discrete (number / 64) w)
+        → WordsAgree after words (length sets)
+    unfolding WordsAgree holding
+    words-held small words has s w x h a b = go (yes-or-no (inFamily sets j s)) (ℕ-discrete (number / 64) w)
       where
         old : getD words (256 * w + s) 0 ≡ getD held (256 * w + s) 0 → inWord words s w x ≡ inRow numbers s (64 * w + x) 64
-        old e = ap (λ (y : ℕ). member y x) e ∙ mirrors s w x h a b
+        old e = ap (λ (y : ℕ). member y x) e ∙ words-agree s w x h a b
 
         go : (inFamily sets j s ≡ true) ⊎ (inFamily sets j s ≡ false) → Dec (number / 64 ≡ w) → inWord words s w x ≡ inRow after s (64 * w + x) 64
         go (inl e) (yes p) =
             ap (λ (y : ℕ). member y x) (has s w h a ∙ word) ∙ member-added _ (number % 64) x
-            ∙ ap₂ _||_ (mirrors s w x h a b) same ∙ sym (row-given s h e (64 * w + x) (omega arith))
+            ∙ ap₂ _||_ (words-agree s w x h a b) same ∙ sym (row-given s h e (64 * w + x) (omega arith))
           where
             word : holding sets j (number / 64) (number % 64) held s w ≡ added (getD held (256 * w + s) 0) (number % 64)
             word = subst (λ (v : ℕ). holding sets j (number / 64) (number % 64) held s v ≡ added (getD held (256 * v + s) 0) (number % 64)) p
@@ -111,7 +111,7 @@ module _ (sets : List ℕ) (j number : ℕ) (few : j < 64) (numbers after : List
                 (λ t. let n : x ≡ number % 64 = same-number t in eq-eqb number (64 * w + x) (omega arith))
                 (λ t. let n : number ≡ 64 * w + x = same-number t in eq-eqb x (number % 64) (omega arith))
         go (inl e) (no n) =
-            old (has s w h a ∙ changed-other (λ s v. 256 * v + s) sets j (number / 64) (λ y. added y (number % 64)) held s w n) ∙ or-false _
+            old (has s w h a ∙ changed-other (λ s v. 256 * v + s) sets j (number / 64) (λ y. added y (number % 64)) held s w n) ∙ sym (or-false _)
             ∙ ap (λ (c : Bool). inRow numbers s (64 * w + x) 64 || c) (sym (ne-eqb number (64 * w + x) (λ p. n (omega arith))))
             ∙ sym (row-given s h e (64 * w + x) (omega arith))
         go (inr e) d =

@@ -9,9 +9,9 @@ use lib.ListN.{length, getD}
 use Rattle.timer_set.specs.Members.{member, added}
 use Rattle.lists.specs.Lists.{memb, gather}
 use Rattle.model.specs.Family.{Pairs, isPair, Family, familyOf, familyFrom}
-use Rattle.model.specs.FirstFit.{Placed, place, usedBy}
+use Rattle.model.specs.FirstFit.{place, usedBy}
 use Rattle.model.proofs.Joined.{WellFormed}
-use Rattle.families.specs.Spreading.{LinkLists}
+use Rattle.families.specs.Propagation.{LinkLists}
 use Rattle.allocation.specs.Cells.{noNumber, cells}
 
 -- some number below n passes
@@ -59,8 +59,8 @@ pub record Lengths (sets numbers held : List ℕ) : Type 0 where
   pub held-long : length held ≡ 2048
 
 -- the words of held numbers say of the numbers below 512 in which rows they stand
-unfoldable pub Mirrors : (numbers held : List ℕ) → (locations : ℕ) → Type 0
-Mirrors numbers held locations = (s w x : ℕ) → s < locations → w < 8 → x < 64 → inWord held s w x ≡ inRow numbers s (64 * w + x) 64
+unfoldable pub WordsAgree : (numbers held : List ℕ) → (locations : ℕ) → Type 0
+WordsAgree numbers held locations = (s w x : ℕ) → s < locations → w < 8 → x < 64 → inWord held s w x ≡ inRow numbers s (64 * w + x) 64
 
 -- the locations of the family of timer j are at or above from and below end
 pub record Within (sets : List ℕ) (j from end : ℕ) : Type 0 where
@@ -70,15 +70,15 @@ pub record Within (sets : List ℕ) (j from end : ℕ) : Type 0 where
   pub inside : end ≤ length sets
 
 -- no cell of the family of timer j has a number
-unfoldable pub Blank : (sets : List ℕ) → (j : ℕ) → (numbers : List ℕ) → Type 0
-Blank sets j numbers = (s : ℕ) → s < length sets → inFamily sets j s ≡ true → getD numbers (64 * s + j) 0 ≡ noNumber
+unfoldable pub Unnumbered : (sets : List ℕ) → (j : ℕ) → (numbers : List ℕ) → Type 0
+Unnumbered sets j numbers = (s : ℕ) → s < length sets → inFamily sets j s ≡ true → getD numbers (64 * s + j) 0 ≡ noNumber
 
 -- the families of the set's timers can be given numbers
 pub record Ready (sets : List ℕ) (begun from end : ℕ) (numbers held : List ℕ) : Type 0 where
   pub lengths : Lengths sets numbers held
-  pub mirrors : Mirrors numbers held (length sets)
+  pub words-agree : WordsAgree numbers held (length sets)
   pub within : (j : ℕ) → member begun j ≡ true → Within sets j from end
-  pub blank : (j : ℕ) → member begun j ≡ true → Blank sets j numbers
+  pub unnumbered : (j : ℕ) → member begun j ≡ true → Unnumbered sets j numbers
 
 -- ---- the families in turn
 
@@ -130,4 +130,4 @@ pub record Fresh (live sets placed numbers held : List ℕ) : Type 0 where
   pub held-long : length held ≡ 2048
   pub none-placed : (s : ℕ) → getD placed s 0 ≡ 0
   pub none-held : (x : ℕ) → getD held x 0 ≡ 0
-  pub all-blank : (x : ℕ) → x < 64 * length live → getD numbers x 0 ≡ noNumber
+  pub none-numbered : (x : ℕ) → x < 64 * length live → getD numbers x 0 ≡ noNumber

@@ -8,9 +8,9 @@ ghost use Rattle.timer_set.specs.Members.{member, joined};
 ghost use Rattle.model.specs.Family.{Pairs};
 ghost use Rattle.model.specs.FirstFit.{firstFit, usedBy};
 ghost use Rattle.families.specs.Pairs.{pairsOf, Matching};
-ghost use Rattle.families.specs.Spreading.{Ends};
+ghost use Rattle.families.specs.Propagation.{Ends};
 ghost use Rattle.allocation.specs.Cells.{cells, noNumber};
-ghost use Rattle.allocation.specs.Numbering.{Lengths, Mirrors, Within, Blank, Ready, inRow, inWord, someIn, taken, given, holding, NumberedTo, Begun, Described, SomePairs, Fresh};
+ghost use Rattle.allocation.specs.Numbering.{Lengths, WordsAgree, Within, Unnumbered, Ready, inRow, inWord, someIn, taken, given, holding, NumberedTo, Begun, Described, SomePairs, Fresh};
 use timer_set::TimerSet;
 
 fn larger(x: u32, y: u32) -> u32
@@ -84,7 +84,7 @@ fn taken_word(
     j: u8,
     w: u16,
 ) -> TimerSet
-    requires { ⌜ Lengths (now sets) (now numbers) (now held) × Mirrors (now numbers) (now held) (length (now sets)) × Within (now sets) j from end ⌝ }
+    requires { ⌜ Lengths (now sets) (now numbers) (now held) × WordsAgree (now numbers) (now held) (length (now sets)) × Within (now sets) j from end ⌝ }
     ensures { λ r. ⌜ ((x : ℕ) → x < 64 → member (r .bits) x ≡ taken (now (sets .entry)) (now (numbers .entry)) j (64 * w + x)) ⌝ }
 {
     if w < 8 {
@@ -96,7 +96,7 @@ fn taken_word(
 
 // The smallest number that stands in no row of the family's locations, word by word.
 fn lowest_free(sets: &[u64], numbers: &[u16], held: &[u64], from: usize, end: usize, j: u8) -> u16
-    requires { ⌜ Lengths (now sets) (now numbers) (now held) × Mirrors (now numbers) (now held) (length (now sets)) × Within (now sets) j from end ⌝ }
+    requires { ⌜ Lengths (now sets) (now numbers) (now held) × WordsAgree (now numbers) (now held) (length (now sets)) × Within (now sets) j from end ⌝ }
     ensures { λ r. ⌜ r ≡ lowest (λ k. not (taken (now (sets .entry)) (now (numbers .entry)) j k)) 16384 ⌝ }
 {
     let mut w: u16 = 0;
@@ -151,10 +151,10 @@ fn place_family(
     numbers: &mut [u16],
     held: &mut [u64],
 ) -> u16
-    requires { ⌜ (j < 64) × Lengths (now sets) (now numbers) (now held) × Mirrors (now numbers) (now held) (length (now sets)) × Within (now sets) j from end × Blank (now sets) j (now numbers) ⌝ }
+    requires { ⌜ (j < 64) × Lengths (now sets) (now numbers) (now held) × WordsAgree (now numbers) (now held) (length (now sets)) × Within (now sets) j from end × Unnumbered (now sets) j (now numbers) ⌝ }
     ensures number { λ r. ⌜ r ≡ lowest (λ k. not (taken (now (sets .entry)) (now (numbers .entry)) j k)) 16384 ⌝ }
     ensures cells { λ r. ⌜ ((s i : ℕ) → s < length (now (sets .entry)) → i < 64 → getD (now (numbers .exit)) (64 * s + i) 0 ≡ given (now (sets .entry)) j r (now (numbers .entry)) s i) ⌝ }
-    ensures held { λ _. ⌜ Mirrors (now (numbers .exit)) (now (held .exit)) (length (now (sets .entry))) ⌝ }
+    ensures held { λ _. ⌜ WordsAgree (now (numbers .exit)) (now (held .exit)) (length (now (sets .entry))) ⌝ }
 {
     let number = lowest_free(sets, numbers, held, from, end, j);
     give(sets, from, end, j, number, numbers);
@@ -183,7 +183,7 @@ fn place_begun(
     used: u32,
 ) -> u32
     requires { ⌜ Ready (now sets) (begun .bits) from end (now numbers) (now held) ⌝ }
-    ensures held { λ _. ⌜ Mirrors (now (numbers .exit)) (now (held .exit)) (length (now (sets .entry))) ⌝ }
+    ensures held { λ _. ⌜ WordsAgree (now (numbers .exit)) (now (held .exit)) (length (now (sets .entry))) ⌝ }
     ensures numbered { λ r. ⌜ ((p : Pairs) (q : ℕ) → Begun p q (begun .bits) (now (sets .entry)) → NumberedTo p (64 * q) (now (numbers .entry)) used → NumberedTo p (64 * q + 64) (now (numbers .exit)) r) ⌝ }
 {
     let mut most = used;
@@ -242,7 +242,7 @@ fn clear(numbers: &mut [u16])
     }
 }
 
-// The locations in turn: the timers whose families begin there spread at once, and then these families are placed. How many numbers are used.
+// The locations in turn: the timers whose families begin there propagate at once, and then these families are placed. How many numbers are used.
 fn number_locations<'a>(
     ones: &'a [u16],
     others: &'a [u16],
@@ -266,7 +266,7 @@ fn number_locations<'a>(
         let begun = own.minus(earlier);
         q += 1;
         if !begun.is_empty() {
-            families::spread(ones, others, linked, here, begun, sets);
+            families::propagate(ones, others, linked, here, begun, sets);
             let end = end_of(sets);
             used = place_begun(sets, begun, here, end, numbers, held, used);
             join_sets(sets, placed);

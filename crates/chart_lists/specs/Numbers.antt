@@ -1,7 +1,6 @@
 -- The numbers of a chart, and a refusal of the code as a refusal of the definitions. Assumes nothing.
-use Prim.Native.Nat.{ℕ}
 use lib.ListN.{length}
-use Rattle.model.specs.Answer.{Answer, result, refused}
+use Rattle.model.specs.Answer.{Answer, refused}
 use Rattle.model.specs.Chart.{Chart}
 use Rattle.chart_lists.specs.declared.Numbers.{Numbers}
 use Rattle.chart_lists.specs.declared.Refusal.{Refusal}

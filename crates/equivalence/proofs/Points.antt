@@ -1,10 +1,9 @@
 -- At every point of a run of the drawn chart the rewritten one is at a point of its run, after the same steps and the same wait, and every test there
 -- reads the same. Assumes nothing.
 use mathlib.Core.Path.{_≡_, refl, sym, ap, _∙_, subst}
-use mathlib.Core.List.{List, _++_}
-use Prim.Native.Nat.{ℕ}
+use mathlib.Core.List.{List}
 use Rattle.model.specs.Chart.{Chart}
-use Rattle.model.specs.Run.{Counts, State, Step, Run, Point, waited}
+use Rattle.model.specs.Run.{Counts, State, Step, Point, waited}
 use Rattle.model.specs.Equivalence.{SamePoint, SamePoints, Alike, IsRun}
 use Rattle.model.proofs.Answers.{result-same}
 

@@ -1,21 +1,18 @@
 -- The pairs that the lists of a chart describe are the chart's live pairs, and these lists match. Assumes nothing.
 use mathlib.Core.Path.{_≡_, sym, _∙_, subst}
-use mathlib.Core.Option.{some, Option·some-injective, Option·none-ne-some}
-use mathlib.Core.List.{List, [], _∷_, map}
-use Prim.Native.Nat.{ℕ, zero, suc, _^_, _<_}
+use mathlib.Core.List.{List, map}
+use Prim.Native.Nat.{ℕ, _^_, _<_}
 use native.Mathlib.Omega.{arith}
-use lib.ListN.{length, getD, getElem?, length-map}
-use lib.Seq.{ext-getD}
+use lib.ListN.{length, getD, length-map}
 use Rattle.lists.specs.Lists.{upTo}
-use Rattle.lists.proofs.Gather.{length-upTo, getD-upTo}
-use Rattle.lists.proofs.Membership.{nth-map}
+use Rattle.lists.proofs.Nth.{nth-below, getD-map, upTo-map}
 use Rattle.timer_set.specs.Members.{common, minus, members}
 use Rattle.timer_set.proofs.Members.{memb-members, setOf-members, setOf-lt}
 use Rattle.model.specs.Chart.{Transition, Chart}
 use Rattle.model.specs.Valid.{Valid, ValidTransition}
 use Rattle.model.specs.Live.{startsSet, liveFlow, liveSets, live}
 use Rattle.model.specs.Family.{livePairs}
-use Rattle.model.proofs.Transitions.{nth-below, all-nth}
+use Rattle.model.proofs.Transitions.{all-nth}
 use Rattle.model.proofs.Settled.{length-settled, settled-words}
 use Rattle.model.proofs.Paths.{live-inside}
 use Rattle.model.proofs.LivePaths.{live-shaped, live-iff}
@@ -28,23 +25,6 @@ pub record Listed (c : Chart) (sources targets starts live : List ℕ) (timers :
   pub starts-are : starts ≡ map startsSet (c .transitions)
   pub live-are : live ≡ liveSets c
   pub timers-are : timers ≡ c .timers
-
-getD-nth : {A : Type 0} (l : List A) (i : ℕ) {a : A} (d : A) → getElem? l i ≡ some a → getD l i d ≡ a
-getD-nth [] i d e = absurd (Option·none-ne-some _ e)
-getD-nth (x ∷ l) zero d e = Option·some-injective _ _ e
-getD-nth (x ∷ l) (suc i) d e = getD-nth l i d e
-
-module _ {A : Type 0} where
-  getD-map : (f : A → ℕ) (l : List A) (i : ℕ) {a : A} → getElem? l i ≡ some a → getD (map f l) i 0 ≡ f a
-  getD-map f l i e = getD-nth (map f l) i 0 (nth-map f l i e)
-
-  -- a list by numbers is a mapped list, if each element is what its place gives
-  pub upTo-map : {B : Type 0} (d : B) (f : ℕ → B) (g : A → B) (l : List A) (n : ℕ) → n ≡ length l → ((i : ℕ) (a : A) → getElem? l i ≡ some a → f i ≡ g a)
-      → upTo f n ≡ map g l
-  upTo-map d f g l n e each = ext-getD d (upTo f n) (map g l) (length-upTo f n ∙ e ∙ sym (length-map l g)) (λ i h.
-      let b : i < n = omega (arith, length-upTo f n) in
-      let x = nth-below l i (omega arith) in
-      getD-upTo f n i d b ∙ each i (x .0) (x .1) ∙ sym (getD-nth (map g l) i d (nth-map g l i (x .1))))
 
 module _ {W : ℕ} {c : Chart} (valid : Valid W c) where
   abbrev ts : List Transition

@@ -1,49 +1,22 @@
--- A join along a link keeps what stands at each location, and makes the total larger or shows that both ends agree. Assumes nothing.
+-- A join along a link keeps what stands at each location, and makes the sum larger or shows that both ends agree. Assumes nothing.
 use mathlib.Core.Path.{_≡_, refl, sym, ap, ap₂, _∙_}
 use mathlib.Core.Logic.{_⊎_, inl, inr}
 use mathlib.Core.Bool.{Bool, true, false, _&&_, _||_, not, true≢false}
-use mathlib.Core.List.{List, [], _∷_}
-use Prim.Native.Nat.{ℕ, zero, suc, _+_, _*_, _^_, _≤_, _<_}
-use native.Mathlib.Nat.{suc-inj, suc-ne-zero, le-refl}
+use mathlib.Core.List.{List}
+use Prim.Native.Nat.{ℕ, zero, suc, _^_, _≤_, _<_}
+use native.Mathlib.Nat.{le-refl}
 use native.Mathlib.Decide.{ℕ-discrete}
 use native.Mathlib.Omega.{arith}
-use lib.Bits.{or-add-and, and-le-r}
-use lib.ListN.{length, getD, set, length-set, List·getD-eq-default}
+use lib.ListN.{length, getD, set, length-set}
 use lib.Seq.{getD-set-same, getD-set-other}
-use Rattle.lists.proofs.Bools.{lt-or-le, same-bool, not-both, is-no, or-cases, or-left, or-right, and-left, and-right, and-both, not-true, not-false}
+use Rattle.lists.proofs.Bools.{same-bool, not-both, is-no, or-cases, or-left, or-right, and-left, and-right, and-both, not-true, not-false}
+use Rattle.lists.specs.Lists.{sumOf}
+use Rattle.lists.proofs.Sums.{sum-less}
 use Rattle.timer_set.specs.Members.{member, joined, common, minus}
-use Rattle.timer_set.proofs.Members.{member-empty, member-joined, member-common, member-minus, none-empty}
-use Rattle.families.specs.Spreading.{joinAlong, total, JoinedEnds}
-
--- ---- totals
-
--- a list that is nowhere higher is equal or has a smaller total
-less : (a b : List ℕ) → length a ≡ length b → ((x : ℕ) → getD a x 0 ≤ getD b x 0) → (a ≡ b) ⊎ (total a < total b)
-unfolding total
-less [] [] e u = inl refl
-less [] (y ∷ ys) e u = absurd (suc-ne-zero (length ys) (sym e))
-less (x ∷ xs) [] e u = absurd (suc-ne-zero (length xs) e)
-less (x ∷ xs) (y ∷ ys) e u = go (ℕ-discrete x y) (less xs ys (suc-inj e) (λ i. u (suc i)))
-  where
-    first : x ≤ y
-    first = u 0
-
-    go : Dec (x ≡ y) → (xs ≡ ys) ⊎ (total xs < total ys) → (x ∷ xs ≡ y ∷ ys) ⊎ (x + total xs < y + total ys)
-    go (yes p) (inl q) = inl (ap₂ _∷_ p q)
-    go (yes p) (inr q) = inr (omega arith)
-    go (no p) (inl q) = inr (omega (arith, first, ap total q))
-    go (no p) (inr q) = inr (omega (arith, first))
-
-pub total-small : (l : List ℕ) → ((x : ℕ) → getD l x 0 < 2 ^ 64) → total l ≤ 2 ^ 64 * length l
-unfolding total
-total-small [] h = omega arith
-total-small (x ∷ xs) h = let first : x < 2 ^ 64 = h 0 in omega (arith, first, total-small xs (λ i. h (suc i)))
+use Rattle.timer_set.proofs.Members.{member-empty, member-joined, member-common, member-minus, none-empty, joined-more}
+use Rattle.families.specs.Propagation.{joinAlong, JoinedEnds}
 
 -- ---- sets by members
-
-joined-more : (a b : ℕ) → a ≤ joined a b
-unfolding joined
-joined-more a b = omega (arith, or-add-and a b, and-le-r a b)
 
 -- a set without members is empty
 no-members : (w : ℕ) → ((j : ℕ) → member w j ≡ false) → w ≡ 0
@@ -147,7 +120,7 @@ module _ (sets : List ℕ) (one other timers : ℕ) where
       same = λ t. absurd (true≢false t);
       grew = λ _. (
         refl,
-        go (less sets (joinAlong sets one other timers) (sym join-long)
+        go (sum-less sets (joinAlong sets one other timers) (sym join-long)
             (join-all (λ x v. getD sets x 0 ≤ v) (joined-more a w) (joined-more b w) (λ x. le-refl _))),
       );
     }
@@ -155,22 +128,6 @@ module _ (sets : List ℕ) (one other timers : ℕ) where
         at : sets ≡ joinAlong sets one other timers → (x : ℕ) → getD (joinAlong sets one other timers) x 0 ≡ getD sets x 0
         at e x = ap (λ (l : List ℕ). getD l x 0) (sym e)
 
-        go : (sets ≡ joinAlong sets one other timers) ⊎ (total sets < total (joinAlong sets one other timers)) → total sets < total (joinAlong sets one other timers)
+        go : (sets ≡ joinAlong sets one other timers) ⊎ (sumOf sets < sumOf (joinAlong sets one other timers)) → sumOf sets < sumOf (joinAlong sets one other timers)
         go (inl e) = absurd (ne (adds-nothing a b timers (sym at-one ∙ at e one) (sym at-other ∙ at e other)))
         go (inr h) = h
-
--- ---- a list that a loop clears from the front
-
-pub cleared-more : (l : List ℕ) (x : ℕ) → x < length l → ((k : ℕ) → k < x → getD l k 0 ≡ 0) → (k : ℕ) → k < x + 1 → getD (set l x 0) k 0 ≡ 0
-cleared-more l x h below k lt = go (ℕ-discrete k x)
-  where
-    go : Dec (k ≡ x) → getD (set l x 0) k 0 ≡ 0
-    go (yes e) = rw e (getD-set-same l x 0 0 h)
-    go (no ne) = getD-set-other l x k 0 0 ne ∙ below k (omega arith)
-
-pub cleared-all : (l : List ℕ) (x : ℕ) → length l ≤ x → ((k : ℕ) → k < x → getD l k 0 ≡ 0) → (k : ℕ) → getD l k 0 ≡ 0
-cleared-all l x long below k = go (lt-or-le k x)
-  where
-    go : (k < x) ⊎ (x ≤ k) → getD l k 0 ≡ 0
-    go (inl h) = below k h
-    go (inr h) = List·getD-eq-default l 0 {n = k} (omega arith)

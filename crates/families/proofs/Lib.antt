@@ -2,5 +2,5 @@ pub mod CodePairs
 pub mod ChartPairs
 pub mod Growth
 pub mod Sweeps
-pub mod Spreads
+pub mod Propagated
 pub mod LinkFinding

@@ -11,7 +11,7 @@ use Rattle.lists.proofs.Elements.{Element}
 use Rattle.timer_set.specs.Members.{common, minus}
 use Rattle.model.specs.Family.{Link}
 use Rattle.families.specs.Pairs.{linkAt, pairsOf, Matching}
-use Rattle.families.specs.Spreading.{linkOn, LinkLists, Ends}
+use Rattle.families.specs.Propagation.{linkOn, LinkLists, Ends}
 use Rattle.families.proofs.CodePairs.{link-in, link-out}
 
 -- ---- links by numbers

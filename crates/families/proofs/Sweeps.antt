@@ -1,4 +1,4 @@
--- The turns of the loop over all links, and the families that joins along links spread until nothing grows. Assumes nothing.
+-- The turns of the loop over all links, and the sets that joins along links leave once nothing grows. Assumes nothing.
 use mathlib.Core.Path.{_≡_, refl, sym, ap, _∙_, subst}
 use mathlib.Core.Bool.{Bool, true, false, true≢false}
 use mathlib.Core.List.{List}
@@ -6,11 +6,13 @@ use Prim.Native.Nat.{ℕ, _+_, _*_, _^_, _≤_, _<_}
 use native.Mathlib.Decide.{ℕ-discrete}
 use native.Mathlib.Omega.{arith}
 use lib.ListN.{length, getD}
+use Rattle.lists.specs.Lists.{sumOf}
+use Rattle.lists.proofs.Sums.{sum-small}
 use Rattle.timer_set.specs.Members.{joined}
 use Rattle.timer_set.proofs.Members.{joined-lt, common-lt}
-use Rattle.families.specs.Spreading.{Ends, total, Agree, JoinedEnds, Joins, Swept}
-use Rattle.families.specs.Spreading.Joins.{none, more}
-use Rattle.families.proofs.Growth.{total-small, either, join-long, join-all}
+use Rattle.families.specs.Propagation.{Ends, Agree, JoinedEnds, Joins, Swept}
+use Rattle.families.specs.Propagation.Joins.{none, more}
+use Rattle.families.proofs.Growth.{either, join-long, join-all}
 
 pub ends-long : {ones others linked : List ℕ} {m n : ℕ} → m ≡ n → Ends m ones others linked → Ends n ones others linked
 ends-long {ones} {others} {linked} e x = subst (λ (k : ℕ). Ends k ones others linked) e x
@@ -31,9 +33,9 @@ module _ (ones others linked : List ℕ) where
       grows = λ _. go grew refl (g .1);
     }
       where
-        go : (b : Bool) → grew ≡ b → total sets < total after → total start < total after
+        go : (b : Bool) → grew ≡ b → sumOf sets < sumOf after → sumOf start < sumOf after
         go true t h = omega (arith, x .grows t, h)
-        go false t h = omega (arith, ap total (x .same t .0), h)
+        go false t h = omega (arith, ap sumOf (x .same t .0), h)
 
     pub swept-same : r ≡ false → Swept ones others linked (k + 1) start after grew
     swept-same e = let s = j .same e in record {
@@ -71,9 +73,9 @@ module _ (ones others linked : List ℕ) where
         (omega (arith, joins-long y, ends .one-below k h)) (omega (arith, joins-long y, ends .other-below k h)) P
         (steps .at-one k h _ _ (before _) (before _)) (steps .at-other k h _ _ (before _) (before _)) before
 
-    -- the total of the words has a bound
-    pub joins-small : {m : List ℕ} → Joins ones others linked l m → ((x : ℕ) → getD l x 0 < 2 ^ 64) → total m ≤ 2 ^ 64 * length l
-    joins-small {m} x small = subst (λ (n : ℕ). total m ≤ 2 ^ 64 * n) (joins-long x) (total-small m (joins-all (λ x v. v < 2 ^ 64) (record {
+    -- the sum of the words has a bound
+    pub joins-small : {m : List ℕ} → Joins ones others linked l m → ((x : ℕ) → getD l x 0 < 2 ^ 64) → sumOf m ≤ 2 ^ 64 * length l
+    joins-small {m} x small = subst (λ (n : ℕ). sumOf m ≤ 2 ^ 64 * n) (joins-long x) (sum-small m (joins-all (λ x v. v < 2 ^ 64) (record {
       at-one = λ k h a b ha hb. joined-lt 64 a _ ha (common-lt 64 _ _ (joined-lt 64 a b ha hb));
       at-other = λ k h a b ha hb. joined-lt 64 b _ hb (common-lt 64 _ _ (joined-lt 64 a b ha hb));
     }) x small))

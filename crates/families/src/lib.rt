@@ -1,4 +1,4 @@
-// The families that begin at a location, all their timers at once: links spread a set of timers at each location.
+// The families that begin at a location, all their timers at once: sets of timers propagate along the links.
 ghost use mathlib.Core.Path.{_≡_};
 ghost use Prim.Native.Nat.{ℕ, _≤_, _<_};
 ghost use lib.ListN.{length, getD, take, set};
@@ -6,7 +6,7 @@ ghost use Rattle.timer_set.specs.Members.{common, minus};
 ghost use Rattle.model.specs.Family.{Pairs};
 ghost use Rattle.model.proofs.Joined.{WellFormed};
 ghost use Rattle.families.specs.Pairs.{pairsOf, Matching};
-ghost use Rattle.families.specs.Spreading.{LinkLists, Ends, JoinedEnds, Swept, Spread};
+ghost use Rattle.families.specs.Propagation.{LinkLists, Ends, JoinedEnds, Swept, Propagated};
 use timer_set::TimerSet;
 
 // The timers of a link: live at both ends and not started.
@@ -122,7 +122,7 @@ fn clear(sets: &mut [u64])
 }
 
 // The families of the timers of a set that begin at location q: at each location those whose family has it.
-pub fn spread<'a>(
+pub fn propagate<'a>(
     ones: &'a [u16],
     others: &'a [u16],
     linked: &'a [u64],
@@ -131,7 +131,7 @@ pub fn spread<'a>(
     sets: &mut [u64],
 )
     requires { ⌜ Ends (length (now sets)) (now ones) (now others) (now linked) × (q < length (now sets)) ⌝ }
-    ensures { λ _. ⌜ ((p : Pairs) → WellFormed p → p .locations ≡ length (now (sets .entry)) → LinkLists p (now (ones .entry)) (now (others .entry)) (now (linked .entry)) → Spread p q (begun .bits) (now (sets .exit))) ⌝ }
+    ensures { λ _. ⌜ ((p : Pairs) → WellFormed p → p .locations ≡ length (now (sets .entry)) → LinkLists p (now (ones .entry)) (now (others .entry)) (now (linked .entry)) → Propagated p q (begun .bits) (now (sets .exit))) ⌝ }
 {
     clear(sets);
     sets[q] = begun.bits;

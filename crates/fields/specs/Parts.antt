@@ -5,7 +5,7 @@ use lib.ListN.{length}
 use lib.Dec.{leb, eqb}
 use Rattle.timer_set.specs.Members.{setOf}
 use Rattle.model.specs.Answer.{nowhere}
-use Rattle.model.specs.Chart.{Test, Transition}
+use Rattle.model.specs.Chart.{Transition}
 use Rattle.model.specs.Live.{startsSet}
 use Rattle.file_format.specs.Parse.{Parsed, value, bind, guard, number, below, rising}
 use Rattle.file_format.specs.Body.{readTests, readTransition, recordLength}

@@ -1,6 +1,6 @@
 -- How many bytes a written chart has, and how many at most. Assumes nothing.
 use mathlib.Core.Path.{_≡_, refl, _∙_}
-use mathlib.Core.List.{List, [], _∷_, _++_, append-assoc}
+use mathlib.Core.List.{List, [], _∷_, _++_}
 use Prim.Native.Nat.{ℕ, zero, suc, _+_, _*_, _/_, _≤_}
 use native.Mathlib.Nat.{mul-le-mul, mul-suc, le-refl}
 use native.Mathlib.Numerals.{add-one}
@@ -46,11 +46,6 @@ module _ {A : Type 0} (w : A → List ℕ) where
   unfolding total writeAll
   length-all f h [] = refl
   length-all f h (a ∷ xs) = rw (length-append, h a, length-all f h xs)
-
-  pub all-append : (xs ys : List A) → writeAll w (xs ++ ys) ≡ writeAll w xs ++ writeAll w ys
-  unfolding writeAll
-  all-append [] ys = refl
-  all-append (a ∷ xs) ys = rw (append-assoc, all-append xs ys)
 
 -- numbers of w bytes
 pub length-numbers : (w : ℕ) (xs : List ℕ) → length (writeAll (digits w) xs) ≡ w * length xs

@@ -3,7 +3,6 @@ pub mod Answers
 pub mod Reading
 pub mod Items
 pub mod Frame
-pub mod Steps
 pub mod RoundTrip
 pub mod Fields
 pub mod Transitions

@@ -1,7 +1,7 @@
 -- What the definitions' readers find at a place of a list, in the terms that code has: an index, elements and a length. Assumes nothing.
 use mathlib.Core.Path.{_≡_, _∙_}
 use mathlib.Core.Logic.{_⊎_, inl, inr}
-use mathlib.Core.Option.{none, some}
+use mathlib.Core.Option.{some}
 use mathlib.Core.List.{List, [], _∷_}
 use Prim.Native.Nat.{ℕ, zero, suc, _+_, _*_, _≤_, _<_}
 use native.Mathlib.Nat.{zero-add, add-zero, zero-mul}
@@ -10,13 +10,10 @@ use native.Mathlib.Omega.{arith}
 use lib.ListN.{length, getD, drop, drop-of-length-le}
 use lib.Seq.{drop-cons}
 use borrow.Author.Tests.{lt-ltb, le-ltb, le-leb, lt-leb}
-use Rattle.comparison.specs.declared.Comparison.{Comparison}
-use Rattle.comparison.specs.Comparison.{comparisonOf}
 use Rattle.lists.specs.Rising.{All}
 use Rattle.lists.proofs.Bools.{lt-or-le}
 use Rattle.model.specs.Answer.{nowhere}
 use Rattle.file_format.specs.Parse.{value, refusal, byte, number, below, entry}
-use Rattle.file_format.specs.Body.{readComparison}
 
 module _ (s : List ℕ) (at : ℕ) where
   pub byte-in : at < length s → byte (drop at s) ≡ value (getD s at 0) (drop (at + 1) s)
@@ -60,19 +57,6 @@ module _ (s : List ℕ) (at : ℕ) where
   pub one-cut : length s < at + 1 → number 1 (drop at s) ≡ refusal 3 nowhere
   one-cut h = number-cut s at 0 h
 
-  pub two-in : at + 2 ≤ length s → number 2 (drop at s) ≡ value (getD s at 0 * 256 + getD s (at + 1) 0) (drop (at + 2) s)
-  two-in h = number-in s at 2 h ∙ simp (zero-mul, zero-add, add-zero)
-
-  pub two-cut : length s < at + 2 → number 2 (drop at s) ≡ refusal 3 nowhere
-  two-cut h = number-cut s at 1 h
-
-  pub four-in : at + 4 ≤ length s
-      → number 4 (drop at s) ≡ value (((getD s at 0 * 256 + getD s (at + 1) 0) * 256 + getD s (at + 2) 0) * 256 + getD s (at + 3) 0) (drop (at + 4) s)
-  four-in h = number-in s at 4 h ∙ simp (zero-mul, zero-add, add-zero)
-
-  pub four-cut : length s < at + 4 → number 4 (drop at s) ≡ refusal 3 nowhere
-  four-cut h = number-cut s at 3 h
-
 -- ---- a number with a limit, an entry of a rising list, a code: from the number's reading
 
 module _ (w limit n p : ℕ) (bs : List ℕ) where
@@ -101,20 +85,6 @@ module _ (w limit n p : ℕ) (bs : List ℕ) where
     pub entry-low : x < lo → entry w limit n p lo bs ≡ refusal 7 p
     unfolding entry
     entry-low h = rw (e, lt-leb lo x h)
-
-module _ (i : ℕ) (bs : List ℕ) where
-  pub comparison-refused : {m q : ℕ} → number 1 bs ≡ refusal m q → readComparison i bs ≡ refusal m q
-  unfolding readComparison
-  comparison-refused e = rw e
-
-  module _ {code : ℕ} {t : List ℕ} (e : number 1 bs ≡ value code t) where
-    pub comparison-in : {x : Comparison} → comparisonOf code ≡ some x → readComparison i bs ≡ value x t
-    unfolding readComparison
-    comparison-in h = rw (e, h)
-
-    pub comparison-unknown : comparisonOf code ≡ none → readComparison i bs ≡ refusal 8 i
-    unfolding readComparison
-    comparison-unknown h = rw (e, h)
 
 -- ---- a list is a list of bytes if its elements are
 

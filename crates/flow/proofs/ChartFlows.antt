@@ -14,14 +14,14 @@ use Rattle.timer_set.specs.Members.{everyTimer}
 use Rattle.lists.specs.Lists.{upTo}
 use Rattle.lists.proofs.Gather.{length-upTo, getD-upTo}
 use Rattle.lists.proofs.Membership.{nth-map}
+use Rattle.lists.proofs.Zeros.{getD-zeros}
+use Rattle.lists.proofs.Nth.{nth-below, getD-nth}
 use Rattle.model.specs.Chart.{Transition, Chart}
 use Rattle.model.specs.Valid.{Valid, ValidTransition}
 use Rattle.model.specs.Flow.{Edge}
 use Rattle.model.specs.Live.{startsSet, testsSet, atInitial, liveFlow, unstartedFlow, reachedFlow}
-use Rattle.model.proofs.Rounds.{getD-empty}
-use Rattle.model.proofs.Transitions.{nth-below, all-nth}
+use Rattle.model.proofs.Transitions.{all-nth}
 use Rattle.flow.specs.Edges.{edgeAt, flowOf, Matching}
-use Rattle.flow.proofs.EdgeLists.{getD-nth}
 
 -- the lists of a chart's transitions: sources, targets, what each starts and what each tests
 pub record Listed (c : Chart) (sources targets starts tests : List ℕ) : Type 0 where
@@ -87,7 +87,7 @@ module _ {W : ℕ} {c : Chart} (valid : Valid W c) where
       go (yes e) =
           rw (eq-eqb q (c .initial) e, e)
           (getD-set-same (replicate (c .locations) 0) (c .initial) w 0 (omega (arith, valid .initial, length-replicate {A = ℕ} (c .locations) 0)))
-      go (no ne) = rw (ne-eqb q (c .initial) ne) (getD-set-other (replicate (c .locations) 0) (c .initial) q w 0 ne ∙ getD-empty (c .locations) q)
+      go (no ne) = rw (ne-eqb q (c .initial) ne) (getD-set-other (replicate (c .locations) 0) (c .initial) q w 0 ne ∙ getD-zeros (c .locations) q)
 
   -- lists of what each transition has match, where two of them are its two locations
   matching : (into from cut gain : Transition → ℕ) (own : List ℕ) → length own ≡ c .locations
@@ -115,7 +115,7 @@ module _ {W : ℕ} {c : Chart} (valid : Valid W c) where
     unfolding liveFlow
     live-flow =
         rw (listed .sources-are, listed .targets-are, listed .starts-are, listed .tests-are)
-        (mapped-flow _ _ startsSet testsSet ts (replicate (c .locations) 0) (c .locations) (λ q. 0) (length-replicate {A = ℕ} (c .locations) 0) (getD-empty (c .locations)))
+        (mapped-flow _ _ startsSet testsSet ts (replicate (c .locations) 0) (c .locations) (λ q. 0) (length-replicate {A = ℕ} (c .locations) 0) (getD-zeros (c .locations)))
 
     pub unstarted-flow : flowOf targets sources starts (replicate (length sources) 0) (initialSets c everyTimer) ≡ unstartedFlow c
     unfolding unstartedFlow
@@ -138,8 +138,3 @@ module _ {W : ℕ} {c : Chart} (valid : Valid W c) where
     unstarted-matching =
         rw (none-gained, listed .sources-are, listed .targets-are, listed .starts-are)
         (matching _ _ startsSet (λ r. 0) (initialSets c everyTimer) (length-initial everyTimer) (λ r v. (v .target, v .source)))
-
-    pub reached-matching : Matching targets sources (replicate (length sources) 0) (replicate (length sources) 0) (initialSets c everyTimer)
-    reached-matching =
-        rw (none-gained, listed .sources-are, listed .targets-are)
-        (matching _ _ (λ r. 0) (λ r. 0) (initialSets c everyTimer) (length-initial everyTimer) (λ r v. (v .target, v .source)))

@@ -1,28 +1,23 @@
 -- The flow of lists of code: a round edge by edge, as its loop goes, and what the laws of rounds ask of a flow. Assumes nothing.
 use mathlib.Core.Path.{_≡_, refl, sym, ap, _∙_}
-use mathlib.Core.Option.{some, Option·some-injective, Option·none-ne-some}
-use mathlib.Core.List.{List, [], _∷_}
-use Prim.Native.Nat.{ℕ, zero, suc, _*_, _≤_, _<_}
+use mathlib.Core.Option.{some, Option·some-injective}
+use mathlib.Core.List.{List}
+use Prim.Native.Nat.{ℕ, suc, _*_, _≤_, _<_}
 use native.Mathlib.Omega.{arith}
 use lib.ListN.{length, getD, getElem?, set}
 use lib.Seq.{ext-getD}
 use Rattle.timer_set.specs.Members.{joined, minus}
 use Rattle.lists.specs.Lists.{upTo}
 use Rattle.lists.proofs.Gather.{length-upTo, getD-upTo}
+use Rattle.lists.proofs.Nth.{nth-below, below-nth, getD-nth}
 use Rattle.model.specs.Flow.{Edge, brings, round}
 use Rattle.model.proofs.Edges.{roundTo, roundTo-start, roundTo-step, roundTo-end}
 use Rattle.model.proofs.Flow.{Shaped}
 use Rattle.model.proofs.Rounds.{Words}
 use Rattle.model.proofs.Settled.{Changes, few-changes}
-use Rattle.model.proofs.Transitions.{nth-below, below-nth}
 use Rattle.flow.specs.Edges.{edgeAt, flowOf, Matching}
 
 module _ {A : Type 0} where
-  pub getD-nth : (l : List A) (i : ℕ) {a : A} (d : A) → getElem? l i ≡ some a → getD l i d ≡ a
-  getD-nth [] i d e = absurd (Option·none-ne-some _ e)
-  getD-nth (x ∷ l) zero d e = Option·some-injective _ _ e
-  getD-nth (x ∷ l) (suc i) d e = getD-nth l i d e
-
   upTo-getD : (l : List A) (d : A) → upTo (λ i. getD l i d) (length l) ≡ l
   upTo-getD l d = ext-getD d _ l (length-upTo _ (length l)) (λ i h. getD-upTo _ (length l) i d (omega (arith, length-upTo (λ i. getD l i d) (length l))))
 
@@ -31,7 +26,7 @@ module _ {A : Type 0} where
       x .1 ∙ ap some (sym (getD-nth (upTo f n) i (f i) (x .1)) ∙ getD-upTo f n i (f i) h)
 
 module _ (into from cut gain own : List ℕ) where
-  nth-edge : (i : ℕ) → i < length into → getElem? (flowOf into from cut gain own .edges) i ≡ some (edgeAt into from cut gain i)
+  pub nth-edge : (i : ℕ) → i < length into → getElem? (flowOf into from cut gain own .edges) i ≡ some (edgeAt into from cut gain i)
   unfolding flowOf
   nth-edge i h = nth-upTo (edgeAt into from cut gain) (length into) i h
 
@@ -55,21 +50,20 @@ module _ (into from cut gain own : List ℕ) where
         → after ≡ round (flowOf into from cut gain own) before
     round-end i after l e = e ∙ ap (roundTo (flowOf into from cut gain own) before) (l ∙ sym length-edges) ∙ roundTo-end (flowOf into from cut gain own) before
 
+  pub edge-of : (i : ℕ) {e : Edge} → getElem? (flowOf into from cut gain own .edges) i ≡ some e → (i < length into) × (e ≡ edgeAt into from cut gain i)
+  edge-of i n =
+      let below : i < length into = omega (arith, below-nth (flowOf into from cut gain own .edges) i n, length-edges) in
+      (below, Option·some-injective _ _ (sym n ∙ nth-edge i below))
+
   -- where the lists match and hold words of 64 the laws of rounds hold
   pub shaped-lists : Matching into from cut gain own → Words gain → Words own → Shaped (flowOf into from cut gain own)
   unfolding flowOf edgeAt
   shaped-lists m g o = record {
-    into-below = λ i {e} n. rw (is i n) (m .into-below i (below i n));
-    from-below = λ i {e} n. rw (is i n) (m .from-below i (below i n));
+    into-below = λ i {e} n. let x = edge-of i n in rw (x .1) (m .into-below i (x .0));
+    from-below = λ i {e} n. let x = edge-of i n in rw (x .1) (m .from-below i (x .0));
     own-word = o;
-    gain-word = λ i {e} n. rw (is i n) (g i);
+    gain-word = λ i {e} n. rw (edge-of i n .1) (g i);
   }
-    where
-      below : (i : ℕ) {e : Edge} → getElem? (flowOf into from cut gain own .edges) i ≡ some e → i < length into
-      below i n = omega (arith, below-nth (flowOf into from cut gain own .edges) i n, length-edges)
-
-      is : (i : ℕ) {e : Edge} → getElem? (flowOf into from cut gain own .edges) i ≡ some e → e ≡ edgeAt into from cut gain i
-      is i n = Option·some-injective _ _ (sym n ∙ nth-edge i (below i n))
 
   -- the number of rounds that change a set
   pub few-rounds : Shaped (flowOf into from cut gain own) → (k : ℕ) → Changes (flowOf into from cut gain own) k → k ≤ 64 * length own

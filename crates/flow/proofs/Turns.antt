@@ -1,22 +1,14 @@
 -- One turn of the loop over the rounds: `before` holds the sets after k rounds, and `after` the round made of them. Assumes nothing.
-use mathlib.Core.Path.{_≡_, refl, sym, ap, _∙_}
+use mathlib.Core.Path.{_≡_, sym, ap, _∙_}
 use mathlib.Core.Bool.{true, false}
-use mathlib.Core.List.{List, _∷_}
-use Prim.Native.Nat.{ℕ, zero, suc, _+_, _≤_}
+use mathlib.Core.List.{List}
+use Prim.Native.Nat.{ℕ, _+_}
 use native.Mathlib.Numerals.{add-one}
-use native.Mathlib.Omega.{arith}
-use lib.ListN.{take, replicate}
 use borrow.Author.Count.{below-more}
 use Rattle.lists.proofs.Bools.{not-both}
 use Rattle.model.specs.Flow.{Flow, round, roundsOf, sameSets, settled, rounds}
 use Rattle.model.proofs.Flow.{Shaped}
 use Rattle.model.proofs.Settled.{Changes, ends, same-sets-self, same-sets-equal}
-
--- the front of an array of empty sets
-pub take-empty : (n m : ℕ) → n ≤ m → _≡_ {A = List ℕ} (take n (replicate m 0)) (replicate n 0)
-take-empty zero m h = refl
-take-empty (suc n) zero h = absurd (omega arith)
-take-empty (suc n) (suc m) h = ap (λ (l : List ℕ). 0 ∷ l) (take-empty n m (omega arith))
 
 pub record Turn (f : Flow) (k : ℕ) (before after : List ℕ) : Type 0 where
   pub shaped : Shaped f

@@ -5,11 +5,11 @@ use mathlib.Core.Logic.{_↔_}
 use mathlib.Core.List.{List}
 use Prim.Native.Nat.{ℕ, _≤_}
 use native.Mathlib.Omega.{arith}
+use Rattle.lists.proofs.Nth.{below-nth}
 use Rattle.model.specs.Answer.{Answer, result, refused}
 use Rattle.model.specs.Chart.{Chart}
 use Rattle.model.specs.Valid.{Valid}
 use Rattle.model.specs.Judge.{judged}
-use Rattle.model.proofs.Transitions.{below-nth}
 use Rattle.model.proofs.Judgement.{LowestUnreached, LowestUnstarted, Accepted, Judgement, refused-9, refused-10, accepted as judged-accepted, judged-cases}
 use Rattle.model.proofs.Judgement.Judgement.{is-unreached, is-unstarted, is-accepted}
 use Rattle.file_format.specs.File.{chartIn}

@@ -6,11 +6,11 @@ use native.Mathlib.Omega.{arith}
 use lib.ListN.{length, getD, take, drop, replicate, length-append, length-map, length-replicate}
 use lib.Seq.{getD-drop}
 use Rattle.lists.specs.Rising.{All}
+use Rattle.lists.proofs.Zeros.{getD-zeros}
 use Rattle.model.specs.Answer.{Answer, result, refused}
 use Rattle.model.specs.Chart.{Test, Transition, Chart}
 use Rattle.model.specs.Valid.{ValidTest, ValidTransition}
 use Rattle.model.specs.Live.{testsSet}
-use Rattle.model.proofs.Rounds.{getD-empty}
 use Rattle.file_format.specs.File.{chartIn}
 use Rattle.file_format.proofs.RoundTrip.{Bytes}
 use Rattle.file_format.proofs.File.{reads-valid}
@@ -58,7 +58,7 @@ module _ (W locations timers : ℕ) (few : timers ≤ 64) where
   all-small (r ∷ rs) v i = rw map-append (small-append (map (λ (t : Test). t .timer) (r .tests)) (map (λ (t : Test). t .timer) (allTests rs)) (tests-small (r .tests) (v .0 .tests)) (all-small rs (v .1)) i)
 
 zeros-small : (n k : ℕ) → Small (drop k (replicate n 0))
-zeros-small n k i = rw (getD-drop, getD-empty) (omega arith)
+zeros-small n k i = rw (getD-drop, getD-zeros) (omega arith)
 
 total-tests : (rs : List Transition) → total (map (λ (r : Transition). length (r .tests)) rs) ≡ length (allTests rs)
 unfolding total allTests

@@ -46,7 +46,7 @@ module _ {c : Chart} {initial locations : ℕ} {sources targets starts tested : 
   unreached-is sets z e f = let g = rw z at e in rw (g ∙ reached-are, length-reached) at f
 
   -- 10
-  unstarted-are : settled (flowOf targets sources starts (replicate (length sources) 0) (ownSets initial locations)) ≡ unstartedSets c
+  pub unstarted-are : settled (flowOf targets sources starts (replicate (length sources) 0) (ownSets initial locations)) ≡ unstartedSets c
   unfolding unstartedSets
   unstarted-are = ap settled (ap (flowOf targets sources starts _) own-are ∙ unstarted-flow (d .valid) listed)
 

@@ -6,18 +6,18 @@ use native.Mathlib.Omega.{arith}
 use borrow.Author.Needs.{needs}
 use lib.ListN.{length, getD, take, replicate, length-append}
 use lib.Seq.{take-at}
+use Rattle.lists.proofs.Zeros.{take-zeros}
 use Rattle.model.specs.Flow.{settled}
 use Rattle.model.proofs.Settled.{length-settled}
 use Rattle.flow.specs.Edges.{flowOf}
 use Rattle.flow.proofs.EdgeLists.{locations-are}
-use Rattle.flow.proofs.Turns.{take-empty}
 use Rattle.judgement.specs.Drawn.{ownSets, Drawable}
 use Rattle.judgement.proofs.OwnSets.{length-own, length-empty, few-locations}
 
 module _ {initial locations : ℕ} {sources targets cut : List ℕ} (d : Drawable initial locations sources targets cut) where
   -- nothing is cut and nothing gained: the front of an array of zeros
   pub none-front : _≡_ {A = List ℕ} (take (length sources) (replicate 512 0)) (replicate (length sources) 0)
-  none-front = take-empty (length sources) 512 (d .few)
+  none-front = take-zeros (length sources) 512 (d .few)
 
   pub none-length : _≡_ (length {A = ℕ} (take (length sources) (replicate 512 0))) (length sources)
   none-length = length-empty (length sources) 512 (d .few)

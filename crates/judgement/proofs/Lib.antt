@@ -7,3 +7,4 @@ pub mod Largest
 pub mod Loading
 pub mod Fronts
 pub mod Handed
+pub mod Unreached

@@ -6,10 +6,10 @@ use Prim.Native.Nat.{ℕ, _≤_}
 use native.Mathlib.Omega.{arith}
 use lib.ListN.{length, replicate, set, take, length-set, length-replicate}
 use lib.Seq.{take-set-lt, length-take-le}
+use Rattle.lists.proofs.Zeros.{take-zeros}
 use Rattle.timer_set.specs.Members.{everyTimer}
 use Rattle.model.specs.Flow.{settled}
 use Rattle.flow.specs.Edges.{flowOf, Matching}
-use Rattle.flow.proofs.Turns.{take-empty}
 use Rattle.judgement.specs.Drawn.{ownSets, Drawable}
 
 -- the array of them
@@ -31,7 +31,7 @@ module _ {initial locations : ℕ} {sources targets cut : List ℕ} (d : Drawabl
 
   pub own-front : take locations (ownArray initial) ≡ ownSets initial locations
   unfolding everyTimer
-  own-front = take-set-lt locations (replicate 256 0) initial everyTimer (d .starts-inside) ∙ ap (λ (l : List ℕ). set l initial everyTimer) (take-empty locations 256 few-locations)
+  own-front = take-set-lt locations (replicate 256 0) initial everyTimer (d .starts-inside) ∙ ap (λ (l : List ℕ). set l initial everyTimer) (take-zeros locations 256 few-locations)
 
   -- what the fronts of the arrays are
   pub own-length : length (take locations (ownArray initial)) ≡ locations

@@ -6,7 +6,7 @@ ghost use lib.ListN.{length, getD, take, drop, replicate};
 ghost use Rattle.timer_set.specs.Members.{setOf};
 ghost use Rattle.lists.specs.Lists.{lowest, firstOf};
 ghost use Rattle.model.specs.Chart.{Transition, Chart};
-ghost use Rattle.model.specs.Live.{testsSet, isEmpty, firstUnreached, firstUnstarted};
+ghost use Rattle.model.specs.Live.{testsSet, isEmpty, unstartedSets, firstUnreached};
 ghost use Rattle.model.specs.Flow.{settled};
 ghost use Rattle.flow.specs.Edges.{flowOf};
 ghost use Rattle.chart_lists.specs.Lists.{lists, put};
@@ -102,55 +102,30 @@ fn forward<'a>(
     let mut own = [0u64; 256];
     own[initial] = TimerSet::EVERY.bits;
     let m = sets.len();
-    flow::settle(targets, sources, cut, gain, &own[..m], sets);
+    flow::settle_in_place(targets, sources, cut, gain, &own[..m], sets);
 }
 
-// 9: the lowest location that no path reaches, or the number of locations.
+// 9: the lowest location that no path reaches, or the number of locations. A chart of fewer than 64 timers starts timer 63 nowhere, so that it
+// is unstarted wherever a path leads.
 fn first_unreached<'a>(
     sources: &'a [u16],
     targets: &'a [u16],
     zeros: &'a [u64],
+    unstarted: &'a [u64],
+    timers: u8,
     initial: usize,
-    locations: usize,
 ) -> usize
-    requires { ⌜ Drawable initial locations (now sources) (now targets) (now zeros) × (now zeros ≡ replicate (length (now sources)) 0) ⌝ }
-    ensures { λ r. ⌜ ((c : Chart) (starts tested : List ℕ) → Drawn c initial locations (now (sources .entry)) (now (targets .entry)) starts tested → r ≡ firstUnreached c) ⌝ }
+    requires { ⌜ Drawable initial (length (now unstarted)) (now sources) (now targets) (now zeros) × (now zeros ≡ replicate (length (now sources)) 0) ⌝ }
+    ensures { λ r. ⌜ ((c : Chart) (starts tested : List ℕ) → Drawn c initial (length (now (unstarted .entry))) (now (sources .entry)) (now (targets .entry)) starts tested → timers ≡ c .timers
+        → now (unstarted .entry) ≡ unstartedSets c → r ≡ firstUnreached c) ⌝ }
 {
+    if timers < 64 {
+        return first_empty(unstarted);
+    }
+    let n = unstarted.len();
     let mut sets = [0u64; 256];
-    forward(
-        sources,
-        targets,
-        zeros,
-        zeros,
-        initial,
-        &mut sets[..locations],
-    );
-    first_empty(&sets[..locations])
-}
-
-// 10: the lowest transition with an unstarted test, or the number of transitions.
-fn first_unstarted<'a>(
-    sources: &'a [u16],
-    targets: &'a [u16],
-    starts: &'a [u64],
-    tested: &'a [u64],
-    zeros: &'a [u64],
-    initial: usize,
-    locations: usize,
-) -> usize
-    requires { ⌜ Drawable initial locations (now sources) (now targets) (now starts) × (length (now tested) ≡ length (now sources)) × (now zeros ≡ replicate (length (now sources)) 0) ⌝ }
-    ensures { λ r. ⌜ ((c : Chart) → Drawn c initial locations (now (sources .entry)) (now (targets .entry)) (now (starts .entry)) (now (tested .entry)) → r ≡ firstUnstarted c) ⌝ }
-{
-    let mut sets = [0u64; 256];
-    forward(
-        sources,
-        targets,
-        starts,
-        zeros,
-        initial,
-        &mut sets[..locations],
-    );
-    first_testing(sources, tested, &sets[..locations])
+    forward(sources, targets, zeros, zeros, initial, &mut sets[..n]);
+    first_empty(&sets[..n])
 }
 
 // 9, then 10, else the chart's numbers.
@@ -165,25 +140,33 @@ fn judge_lists<'a>(
     ensures { λ r. ⌜ ((c : Chart) → Drawn c (numbers .initial) (numbers .locations) (now (sources .entry)) (now (targets .entry)) (now (starts .entry)) (now (tested .entry)) → numbers ≡ numbersOf c → meantRead r ≡ numbersJudged c) ⌝ }
 {
     let initial = numbers.initial as usize;
-    let locations = numbers.locations as usize;
+    let m = numbers.locations as usize;
     let n = sources.len();
     let zeros = [0u64; 512];
-    let lost = first_unreached(sources, targets, &zeros[..n], initial, locations);
-    if lost < locations {
+    let mut sets = [0u64; 256];
+    forward(
+        sources,
+        targets,
+        starts,
+        &zeros[..n],
+        initial,
+        &mut sets[..m],
+    );
+    let lost = first_unreached(
+        sources,
+        targets,
+        &zeros[..n],
+        &sets[..m],
+        numbers.timers,
+        initial,
+    );
+    if lost < m {
         return Read::Refused(Refusal {
             number: 9,
             place: lost as u64,
         });
     }
-    let early = first_unstarted(
-        sources,
-        targets,
-        starts,
-        tested,
-        &zeros[..n],
-        initial,
-        locations,
-    );
+    let early = first_testing(sources, tested, &sets[..m]);
     if early < n {
         return Read::Refused(Refusal {
             number: 10,

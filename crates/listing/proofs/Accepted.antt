@@ -1,6 +1,6 @@
 -- Which text an input has, by the judgement of its chart file: 11, then 20, else the chart's text. Assumes nothing.
-use mathlib.Core.Path.{_≡_, refl, sym, ap, _∙_}
-use mathlib.Core.Bool.{Bool, true, false, not}
+use mathlib.Core.Path.{_≡_, refl, sym, _∙_}
+use mathlib.Core.Bool.{false}
 use mathlib.Core.List.{List, [], _∷_}
 use Prim.Native.Nat.{ℕ, _≤_, _<_}
 use native.Mathlib.Omega.{arith}
@@ -10,13 +10,13 @@ use Rattle.lists.proofs.Bools.{is-no}
 use Rattle.model.specs.Answer.{Answer, result, refused, then, nowhere}
 use Rattle.model.specs.Chart.{Chart}
 use Rattle.model.specs.FirstFit.{blocked, board, used}
-use Rattle.model.specs.Judge.{judged, fitted, rewriting, Rewriting}
+use Rattle.model.specs.Judge.{judged, fitted, rewriting}
 use Rattle.model.proofs.Answers.{result-same}
 use Rattle.model.proofs.BoardPlan.{board-blocked}
 use Rattle.model.proofs.PlayerNumbers.{judged-is}
 use Rattle.file_format.specs.File.{chartIn}
 use Rattle.judgement.specs.Judging.{judgedIn}
-use Rattle.listing.specs.Listing.{accepted, answerText, refusedText, chartText, textOf}
+use Rattle.listing.specs.Listing.{accepted, answerText, refusedText, textOf}
 use Rattle.listing.specs.Cells.{listedChart}
 
 module _ (K : ℕ) (c : Chart) where

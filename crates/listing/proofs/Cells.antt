@@ -1,12 +1,12 @@
 -- A cell of board numbers holds a number or none, as the board gives it. Assumes nothing.
-use mathlib.Core.Path.{_≡_, refl, sym, ap, _∙_}
+use mathlib.Core.Path.{_≡_}
 use mathlib.Core.Bool.{false}
-use mathlib.Core.Option.{Option, none, some}
-use mathlib.Core.List.{List, [], _∷_, _++_}
+use mathlib.Core.Option.{none, some}
+use mathlib.Core.List.{[], _∷_, _++_}
 use Prim.Native.Nat.{ℕ, _+_}
 use lib.Dec.{eqb}
 use lib.ListN.{length}
-use Rattle.lists.proofs.Bools.{eqb-self, is-no, same-number}
+use Rattle.lists.proofs.Bools.{is-no, same-number}
 use Rattle.allocation.specs.Cells.{noNumber}
 use Rattle.listing.specs.Text.{decimal, space, greater}
 use Rattle.listing.specs.Listing.{entryText}

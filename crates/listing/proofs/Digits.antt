@@ -5,10 +5,9 @@ use mathlib.Core.List.{List, [], _∷_, _++_}
 use Prim.Native.Nat.{ℕ, zero, suc, _+_, _-_, _*_, _/_, _%_, _^_, _≤_, _<_}
 use native.Mathlib.Omega.{arith}
 use lib.Dec.{ltb}
-use lib.ListN.{length}
 use borrow.Author.Tests.{ltb-true, ltb-false}
 use Rattle.lists.specs.Rising.{All}
-use Rattle.listing.specs.Text.{decimalIn, decimal, refusedWord, space, lineFeed}
+use Rattle.listing.specs.Text.{decimalIn, decimal, refusedWord, lineFeed}
 use Rattle.listing.specs.Listing.{refusedText}
 use Rattle.listing.proofs.Decimal.{one-digit, more-digits, tenth}
 

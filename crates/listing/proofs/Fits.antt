@@ -1,9 +1,9 @@
 -- Every text fits a buffer of 131,072 bytes. Assumes nothing.
-use mathlib.Core.Path.{_≡_, refl, sym, ap, _∙_}
+use mathlib.Core.Path.{_≡_, refl}
 use mathlib.Core.Bool.{Bool, true, false}
 use mathlib.Core.Option.{Option, none, some}
-use mathlib.Core.List.{List, [], _∷_, _++_}
-use Prim.Native.Nat.{ℕ, zero, suc, _+_, _*_, _/_, _%_, _≤_, _<_}
+use mathlib.Core.List.{List}
+use Prim.Native.Nat.{ℕ, zero, suc, _*_, _/_, _≤_, _<_}
 use native.Mathlib.Nat.{mul-suc}
 use native.Mathlib.Omega.{arith}
 use lib.Dec.{ltb}
@@ -14,8 +14,8 @@ use Rattle.model.specs.Chart.{Chart}
 use Rattle.model.specs.Valid.{Valid}
 use Rattle.model.specs.FirstFit.{Placed, numberAt, usedBy, floor, board, used}
 use Rattle.model.proofs.NumberAt.{number-below}
-use Rattle.listing.specs.Text.{decimalIn, decimal, lineFeed, atWord}
-use Rattle.listing.specs.Listing.{refusedText, firstLine, entryText, lineOf, chartText}
+use Rattle.listing.specs.Text.{decimalIn, decimal, atWord}
+use Rattle.listing.specs.Listing.{refusedText, entryText, lineOf, chartText}
 use Rattle.listing.proofs.Decimal.{decimal-one, length-more}
 use Rattle.listing.proofs.Written.{refused-length, first-length, entry-length}
 

@@ -1,18 +1,18 @@
 -- The text that is made of a chart's live sets and cells is the text of the chart. Assumes nothing.
-use mathlib.Core.Path.{_≡_, refl, sym, ap, ap₂, _∙_}
+use mathlib.Core.Path.{_≡_, refl, ap, _∙_}
 use mathlib.Core.Option.{Option, none, some}
 use mathlib.Core.List.{List, [], _∷_, _++_, append-assoc}
 use Prim.Native.Nat.{ℕ, _*_, _≤_, _<_}
 use native.Mathlib.Omega.{arith}
 use lib.ListN.{length}
 use Rattle.lists.specs.Lists.{gather}
+use Rattle.lists.proofs.Flatten.{gather-same}
 use Rattle.model.specs.Chart.{Chart}
 use Rattle.model.specs.Valid.{Valid}
 use Rattle.model.specs.FirstFit.{Placed, numberAt, usedBy, fullest, floor, board, used}
 use Rattle.model.proofs.NumberAt.{number-below}
 use Rattle.allocation.specs.Cells.{cell, cells}
 use Rattle.allocation.proofs.CellList.{cells-length, cells-at}
-use Rattle.allocation.proofs.Flatten.{gather-same}
 use Rattle.numbering.specs.Numbered.{NumberedChart}
 use Rattle.analysis.proofs.Entry.{length-live}
 use Rattle.listing.specs.Text.{decimal, lineFeed, atWord}

@@ -1,18 +1,16 @@
 -- Which refusals the text shows, and when it shows 9 and 10. Assumes nothing.
-use mathlib.Core.Path.{_≡_, refl, sym, ap, _∙_}
+use mathlib.Core.Path.{_≡_, refl, sym, _∙_}
 use mathlib.Core.Logic.{_⊎_, inl, inr, _↔_}
-use mathlib.Core.List.{List, [], _∷_, _++_}
+use mathlib.Core.List.{List, [], _∷_}
 use Prim.Native.Nat.{ℕ, _^_, _≤_, _<_}
 use native.Mathlib.Omega.{arith}
 use lib.ListN.{length}
 use Rattle.lists.proofs.Bools.{lt-or-le}
-use Rattle.model.specs.Answer.{Answer, result, refused, nowhere}
+use Rattle.model.specs.Answer.{refused, nowhere}
 use Rattle.model.specs.Chart.{Chart}
-use Rattle.model.proofs.Answers.{not-result, refused-same}
 use Rattle.model.proofs.Judgement.{LowestUnreached, LowestUnstarted}
 use Rattle.file_format.proofs.RoundTrip.{Bytes}
 use Rattle.judgement.specs.Judging.{judgedIn}
-use Rattle.judgement.specs.Refusals.{RefusalOfJudgement}
 use Rattle.judgement.specs.Refusals.RefusalOfJudgement.{of-file, of-unreached, of-unstarted}
 use Rattle.judgement.proofs.Corollaries.{HoldsChart, judged-9, judged-10, refusals-of-judgedIn}
 use Rattle.listing.specs.Text.{refusedWord, usedWord}

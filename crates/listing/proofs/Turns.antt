@@ -1,6 +1,6 @@
 -- A loop that writes items one after another, each into the part after the last. Assumes nothing.
-use mathlib.Core.Path.{_≡_, refl, ap, _∙_}
-use mathlib.Core.List.{List, _++_}
+use mathlib.Core.Path.{_≡_, ap, _∙_}
+use mathlib.Core.List.{List}
 use Prim.Native.Nat.{ℕ, _+_, _-_, _≤_, _<_}
 use native.Mathlib.Omega.{arith}
 use lib.ListN.{length, length-append}
@@ -8,7 +8,7 @@ use borrow.Rule.Slice.PartMut.{midOf, putMid}
 use Rattle.lists.specs.Lists.{gather}
 use Rattle.listing.specs.Cells.{Written}
 use Rattle.listing.proofs.Writes.{gather-more, gather-mono}
-use Rattle.listing.proofs.Written.{written-none, written-next, written-as}
+use Rattle.listing.proofs.Written.{written-none, written-next}
 
 -- k of n items are written
 pub record Turns (item : ℕ → List ℕ) (n : ℕ) (l out : List ℕ) (at k : ℕ) : Type 0 where

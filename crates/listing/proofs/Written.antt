@@ -6,12 +6,11 @@ use Prim.Native.Nat.{ℕ, _+_, _-_, _*_, _≤_, _<_}
 use native.Mathlib.Omega.{arith}
 use lib.ListN.{length, set, length-append}
 use borrow.Rule.Slice.PartMut.{midOf, putMid}
-use Rattle.chart_lists.specs.Lists.{put}
 use Rattle.chart_lists.proofs.Put.{put-nil, length-put, put-last}
 use Rattle.listing.specs.Text.{decimal, refusedWord, usedWord, floorWord, limitWord, space, lineFeed, atWord}
 use Rattle.listing.specs.Listing.{refusedText, firstLine, entryText}
 use Rattle.listing.specs.Cells.{Written, entriesIn, lineIn}
-use Rattle.writer.proofs.Part.{put-part, mid-room}
+use Rattle.chart_lists.proofs.Part.{put-part, mid-room}
 
 module _ {xs l out : List ℕ} {a : ℕ} (w : Written xs l out a) where
   -- a call writes after it

@@ -3,7 +3,7 @@ use mathlib.Core.Path.{_≡_}
 use mathlib.Core.Bool.{true, false}
 use mathlib.Core.Option.{Option, none, some}
 use mathlib.Core.List.{List, [], _∷_, _++_}
-use Prim.Native.Nat.{ℕ, _+_, _*_, _≤_}
+use Prim.Native.Nat.{ℕ, _+_, _*_}
 use lib.Dec.{eqb}
 use lib.ListN.{length, getD}
 use Rattle.lists.specs.Lists.{gather}
@@ -13,7 +13,7 @@ use Rattle.model.specs.Chart.{Chart}
 use Rattle.model.specs.Judge.{fitted}
 use Rattle.chart_lists.specs.Lists.{put}
 use Rattle.listing.specs.Text.{decimal, lineFeed, atWord}
-use Rattle.listing.specs.Listing.{entryText, firstLine}
+use Rattle.listing.specs.Listing.{entryText}
 
 -- the bytes over the front of a lent part, and their number
 pub record Written (bytes before after : List ℕ) (size : ℕ) : Type 0 where

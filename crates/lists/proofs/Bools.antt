@@ -1,5 +1,5 @@
 -- Yes and no, and tests of numbers. Assumes nothing.
-use mathlib.Core.Path.{_≡_, refl, sym, ap, _∙_, subst}
+use mathlib.Core.Path.{_≡_, refl, sym, ap, _∙_}
 use mathlib.Core.Logic.{_⊎_, inl, inr, ⊎-elim}
 use mathlib.Core.Bool.{Bool, true, false, _||_, _&&_, not, true≢false}
 use Prim.Native.Nat.{ℕ, zero, suc, _≤_, _<_}

@@ -1,18 +1,17 @@
 -- Lists made of what the numbers below n give. Assumes nothing.
 use mathlib.Core.Path.{_≡_, refl, sym, ap, _∙_}
 use mathlib.Core.Logic.{_⊎_, inl, inr}
-use mathlib.Core.Bool.{Bool, true, false, _||_, true≢false}
-use mathlib.Core.Option.{Option, some}
+use mathlib.Core.Bool.{Bool, true, false, _||_}
 use mathlib.Core.List.{List, [], _∷_, _++_}
 use Prim.Native.Nat.{ℕ, zero, suc, _+_, _≤_, _<_}
 use native.Mathlib.Decide.{ℕ-discrete}
 use native.Mathlib.Omega.{arith}
 use native.Mathlib.Numerals.{add-one}
-use lib.ListN.{length, getD, getElem?, length-append, List·getD-append}
+use lib.ListN.{length, getD, length-append, List·getD-append}
 use lib.Seq.{getD-at}
 use Rattle.lists.specs.Lists.{memb, gather, upTo, pick}
 use Rattle.lists.specs.Rising.{Rising}
-use Rattle.lists.proofs.Bools.{or-cases, or-left, or-right, not-both}
+use Rattle.lists.proofs.Bools.{or-cases, or-left, or-right}
 use Rattle.lists.proofs.Membership.{memb-append, memb-cases, memb-head, memb-nil}
 
 -- ---- f 0, f 1, ..

@@ -4,3 +4,7 @@ pub mod Lowest
 pub mod Gather
 pub mod Rising
 pub mod Elements
+pub mod Nth
+pub mod Flatten
+pub mod Sums
+pub mod Zeros

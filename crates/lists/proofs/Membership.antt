@@ -2,7 +2,7 @@
 use mathlib.Core.Path.{_≡_, refl, sym, ap, _∙_}
 use mathlib.Core.Logic.{_⊎_, inl, inr}
 use mathlib.Core.Bool.{Bool, true, false, _||_, true≢false}
-use mathlib.Core.Option.{Option, none, some, Option·some-injective, Option·none-ne-some}
+use mathlib.Core.Option.{none, some, Option·some-injective, Option·none-ne-some}
 use mathlib.Core.List.{List, [], _∷_, _++_, map}
 use Prim.Native.Nat.{ℕ, zero, suc, _<_, _≤_}
 use native.Mathlib.Omega.{arith}
@@ -10,7 +10,7 @@ use lib.Dec.{eqb}
 use lib.ListN.{length, getElem?}
 use borrow.Author.Tests.{eq-eqb}
 use Rattle.lists.specs.Lists.{memb, anyOf, firstOf, top}
-use Rattle.lists.proofs.Bools.{or-cases, or-left, or-right, same-number, is-no, not-both}
+use Rattle.lists.proofs.Bools.{or-cases, or-left, or-right, same-number}
 
 pub memb-cases : (k x : ℕ) (xs : List ℕ) → memb k (x ∷ xs) ≡ true → (k ≡ x) ⊎ (memb k xs ≡ true)
 unfolding memb

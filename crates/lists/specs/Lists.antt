@@ -1,7 +1,7 @@
 -- Small functions on lists and numbers that the definitions share. Assumes nothing.
 use mathlib.Core.Bool.{Bool, true, false, _||_}
 use mathlib.Core.List.{List, [], _∷_, _++_}
-use Prim.Native.Nat.{ℕ, zero, suc, max}
+use Prim.Native.Nat.{ℕ, zero, suc, _+_, max}
 use lib.Dec.{eqb}
 
 -- k is in the list
@@ -41,3 +41,7 @@ pick f n = gather (λ i. elim (f i) [ true ↦ i ∷ [] | false ↦ [] ]) n
 unfoldable pub top : List ℕ → ℕ
 top [] = 0
 top (x ∷ xs) = max (suc x) (top xs)
+
+unfoldable pub sumOf : List ℕ → ℕ
+sumOf [] = 0
+sumOf (x ∷ xs) = x + sumOf xs

@@ -44,10 +44,6 @@ module _ (f : Flow) (before : List ℕ) where
   made-as-loop q i e n =
       ap (withEdges before q (f .own q)) (take-nth (f .edges) i e n) ∙ foldl-append (withEdge before q) (f .own q) (take i (f .edges)) (e ∷ [])
 
-  pub made-end : (q : ℕ) → withEdges before q (f .own q) (take (length (f .edges)) (f .edges)) ≡ made f before q
-  unfolding made
-  made-end q = ap (withEdges before q (f .own q)) (take-length (f .edges))
-
   length-roundTo : (i : ℕ) → length (roundTo f before i) ≡ f .locations
   unfolding roundTo
   length-roundTo i = length-upTo _ (f .locations)

@@ -1,9 +1,9 @@
 -- The family computed of a pair is the family by chains of links: its locations, its number, the same for each of its pairs, and which ones meet.
 -- Assumes nothing.
-use mathlib.Core.Path.{_≡_, refl, sym, _∙_, subst}
+use mathlib.Core.Path.{_≡_, refl, sym, _∙_}
 use mathlib.Core.Logic.{_↔_}
 use mathlib.Core.Bool.{true}
-use Prim.Native.Nat.{ℕ, _+_, _*_, _≤_, _<_}
+use Prim.Native.Nat.{ℕ, _≤_, _<_}
 use native.Mathlib.Nat.{le-antisymm}
 use native.Mathlib.Omega.{arith}
 use lib.ListN.{getD}
@@ -16,8 +16,8 @@ use Rattle.lists.proofs.Lowest.{lowest-passes, lowest-most}
 use Rattle.lists.proofs.Gather.{pick-in, pick-out, pick-rising}
 use Rattle.lists.proofs.Rising.{rising-same}
 use Rattle.model.specs.Flow.{settled}
-use Rattle.model.specs.Family.{Pairs, isPair, Linked, Joined, Family, familyNumber, linkFlow, familyOf, meets}
-use Rattle.model.proofs.Joined.{WellFormed, joined-refl, joined-trans, joined-sym, joined-carries, joined-pair}
+use Rattle.model.specs.Family.{Pairs, isPair, Joined, Family, familyNumber, linkFlow, familyOf, meets}
+use Rattle.model.proofs.Joined.{WellFormed, joined-refl, joined-trans, joined-sym, joined-pair}
 use Rattle.model.proofs.LinkFlow.{link-flow-iff}
 pub use Rattle.model.specs.SharingRule.{NumberOfFamily, Meet}
 
@@ -76,21 +76,6 @@ module _ {p : Pairs} (formed : WellFormed p) {j : ℕ} where
     where
       pair′ : isPair p s j ≡ true
       pair′ = joined-pair formed a pair
-
-  -- two pairs of a timer are of one family if the first locations of theirs are equal
-  pub same-first : {q s : ℕ} → isPair p q j ≡ true → isPair p s j ≡ true → familyOf p q j .first ≡ familyOf p s j .first → Joined p j q s
-  same-first {q} {s} pair pair′ e =
-      joined-trans (first-joined formed q j pair) (subst (λ (x : ℕ). Joined p j x s) (sym e) (joined-sym (first-joined formed s j pair′)))
-
-  -- labels that are of the family, are no higher than their own location and agree over links are the first locations: what passing on
-  -- smallest labels ends with
-  pub labels-first : (label : ℕ → ℕ) → ((q : ℕ) → isPair p q j ≡ true → Joined p j q (label q)) → ((q : ℕ) → isPair p q j ≡ true → label q ≤ q)
-      → ((q s : ℕ) → Linked p j q s → label q ≡ label s) → (q : ℕ) → isPair p q j ≡ true → label q ≡ familyOf p q j .first
-  labels-first label joined low agree q pair =
-      let x = familyOf p q j .first in
-      let a : Joined p j q x = first-joined formed q j pair in
-      let e : label q ≡ label x = joined-carries (λ (y : ℕ). label q ≡ label y) (λ y z l h. h ∙ agree y z l) a refl in
-      le-antisymm (subst (λ (n : ℕ). n ≤ x) (sym e) (low x (joined-pair formed a pair))) (first-least formed q j pair (label q) (joined q pair))
 
 -- the test of a common location is right
 pub meets-iff : {p : Pairs} → WellFormed p → (q j s k : ℕ) → isPair p q j ≡ true → isPair p s k ≡ true

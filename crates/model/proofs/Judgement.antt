@@ -13,13 +13,14 @@ use Rattle.timer_set.proofs.Members.{member-common, common-lt}
 use Rattle.lists.proofs.Bools.{not-both, and-left, and-right, and-both, lt-or-le}
 use Rattle.lists.proofs.Lowest.{lowest-passes, lowest-before}
 use Rattle.lists.proofs.Membership.{first-passes, first-before}
+use Rattle.lists.proofs.Nth.{below-nth}
 use Rattle.model.specs.Answer.{result, refused}
 use Rattle.model.specs.Chart.{Transition, Chart, Nth}
 use Rattle.model.specs.Valid.{Valid}
 use Rattle.model.specs.Path.{Reached, UnstartedTest}
 use Rattle.model.specs.Live.{testsSet, unstartedSets, reachedSets, isEmpty, firstUnreached, firstUnstarted}
 use Rattle.model.specs.Judge.{judged}
-use Rattle.model.proofs.Transitions.{nth-valid, tested-below, below-nth}
+use Rattle.model.proofs.Transitions.{nth-valid, tested-below}
 use Rattle.model.proofs.TransitionSets.{member-tests, tests-word}
 use Rattle.model.proofs.Paths.{UnstartedAt}
 use Rattle.model.proofs.Forward.{member-filled, filled-member, unstarted-iff, reached-iff}

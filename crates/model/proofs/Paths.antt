@@ -7,7 +7,7 @@ use Prim.Native.Nat.{ℕ, _<_}
 use Rattle.lists.specs.Lists.{memb}
 use Rattle.model.specs.Chart.{Transition, Chart, Nth, tested}
 use Rattle.model.specs.Valid.{Valid}
-use Rattle.model.specs.Path.{Path, StartsNowhere, ReadAt, Live, Reached, Unstarted, UnstartedTest}
+use Rattle.model.specs.Path.{Path, StartsNowhere, ReadAt, Live, Reached, Unstarted}
 use Rattle.model.proofs.Transitions.{nth-same, nth-valid, tested-below}
 pub use Rattle.model.specs.Places.{UnstartedAt}
 

@@ -1,7 +1,7 @@
 -- The player's answer is the step list's own answer, except that it is 15 at step n exactly when the steps before n are taken, step n names a
 -- transition, and its time is over 16,777,215 (and no earlier step has that). Assumes nothing.
 use mathlib.Core.Path.{_≡_, refl, sym, ap, _∙_, subst}
-use mathlib.Core.Logic.{_⊎_, inl, inr, _↔_}
+use mathlib.Core.Logic.{_⊎_, inl, inr}
 use mathlib.Core.Bool.{true≢false}
 use mathlib.Core.Option.{Option, none, some, Option·some-injective, Option·none-ne-some}
 use mathlib.Core.List.{List, [], _∷_}

@@ -7,21 +7,17 @@ use mathlib.Core.List.{List, [], _∷_}
 use Prim.Native.Nat.{ℕ, zero, suc, _≤_, _<_, _^_}
 use native.Mathlib.Omega.{arith}
 use lib.Dec.{eqb, lit<}
-use lib.ListN.{length, getD, getElem?, replicate, length-replicate, List·getD-eq-default}
+use lib.ListN.{length, getD, getElem?, length-replicate, List·getD-eq-default}
 use Rattle.timer_set.specs.Members.{member, joined}
 use Rattle.timer_set.proofs.Members.{member-empty, joined-lt, minus-lt}
 use Rattle.lists.proofs.Bools.{lt-or-le, not-both}
 use Rattle.lists.proofs.Gather.{length-upTo, getD-upTo}
+use Rattle.lists.proofs.Zeros.{getD-zeros}
 use Rattle.model.specs.Flow.{Edge, Flow, brings, made, round, roundsOf}
 use Rattle.model.proofs.Edges.{withEdge, withEdges}
 use Rattle.model.proofs.Flow.{Comes, Way, Shaped, made-out, made-in}
 use Rattle.model.proofs.Flow.Comes.{owned, gained, along}
 use Rattle.model.proofs.Flow.Way.{by-own, by-gain, by-edge}
-
-pub getD-empty : (n q : ℕ) → _≡_ {A = ℕ} (getD (replicate n 0) q 0) 0
-getD-empty zero q = refl
-getD-empty (suc n) zero = refl
-getD-empty (suc n) (suc q) = getD-empty n q
 
 -- each timer of each set of a is in the same set of b
 abbrev pub Under : List ℕ → List ℕ → Type 0
@@ -73,12 +69,12 @@ module _ (f : Flow) where
 
   pub rounds-grow : (k : ℕ) → Under (roundsOf f k) (roundsOf f (suc k))
   unfolding roundsOf
-  rounds-grow zero q j h = absurd (not-both (rw getD-empty at h) (member-empty j))
+  rounds-grow zero q j h = absurd (not-both (rw getD-zeros at h) (member-empty j))
   rounds-grow (suc k) q j h = round-mono (roundsOf f k) (roundsOf f (suc k)) (rounds-grow k) q j h
 
   pub sound : (k q j : ℕ) → member (getD (roundsOf f k) q 0) j ≡ true → Comes f j q
   unfolding roundsOf
-  sound zero q j h = absurd (not-both (rw getD-empty at h) (member-empty j))
+  sound zero q j h = absurd (not-both (rw getD-zeros at h) (member-empty j))
   sound (suc k) q j h = go (λ s. sound k s j) (round-out (roundsOf f k) q j h .way)
     where
       go : ((s : ℕ) → member (getD (roundsOf f k) s 0) j ≡ true → Comes f j s) → Way f j (λ s. member (getD (roundsOf f k) s 0) j ≡ true) q → Comes f j q
@@ -115,5 +111,5 @@ module _ (f : Flow) where
 
     pub rounds-words : (k : ℕ) → Words (roundsOf f k)
     unfolding roundsOf
-    rounds-words zero q = rw getD-empty (lit< tt)
+    rounds-words zero q = rw getD-zeros (lit< tt)
     rounds-words (suc k) q = round-words (roundsOf f k) (rounds-words k) q

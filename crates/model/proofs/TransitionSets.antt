@@ -10,13 +10,12 @@ use lib.ListN.{getElem?}
 use Rattle.timer_set.specs.Members.{member}
 use Rattle.timer_set.proofs.Members.{member-setOf, setOf-lt}
 use Rattle.lists.specs.Lists.{memb, anyOf}
-use Rattle.lists.proofs.Gather.{rising-below}
 use Rattle.lists.proofs.Membership.{nth-unmap}
 use Rattle.model.specs.Chart.{Test, Transition, Chart, Nth, tested}
 use Rattle.model.specs.Valid.{Valid}
 use Rattle.model.specs.Flow.{Edge}
 use Rattle.model.specs.Live.{startsSet, testsSet}
-use Rattle.model.proofs.Transitions.{nth-valid, tested-below}
+use Rattle.model.proofs.Transitions.{tested-below}
 
 memb-timers : (j : ℕ) (ts : List Test) → memb j (map (λ (t : Test). t .timer) ts) ≡ tested j ts
 unfolding memb tested anyOf
@@ -33,11 +32,6 @@ module _ (r : Transition) where
   member-tests j = member-setOf (map (λ (t : Test). t .timer) (r .tests)) j ∙ memb-timers j (r .tests)
 
 module _ {W : ℕ} {c : Chart} (valid : Valid W c) where
-  pub starts-word : {i : ℕ} {r : Transition} → Nth c i r → startsSet r < 2 ^ 64
-  unfolding startsSet
-  starts-word {r = r} n =
-      setOf-lt 64 (r .starts) (λ j h. omega (arith, valid .few-timers, rising-below (c .timers) 0 (r .starts) (nth-valid valid n .starts) j h .1))
-
   pub tests-word : {i : ℕ} {r : Transition} → Nth c i r → testsSet r < 2 ^ 64
   unfolding testsSet
   tests-word {r = r} n =

@@ -1,12 +1,11 @@
 -- The chart's transitions by their numbers, and what a valid chart says of each. Assumes nothing.
-use mathlib.Core.Path.{_≡_, refl, sym, _∙_, subst}
+use mathlib.Core.Path.{_≡_, sym, _∙_, subst}
 use mathlib.Core.Bool.{true}
 use mathlib.Core.Option.{some, Option·some-injective, Option·none-ne-some}
 use mathlib.Core.List.{List, [], _∷_}
 use Prim.Native.Nat.{ℕ, zero, suc, _<_}
-use native.Mathlib.Omega.{arith}
 use lib.Dec.{eqb}
-use lib.ListN.{length, getElem?}
+use lib.ListN.{getElem?}
 use Rattle.lists.specs.Rising.{All}
 use Rattle.lists.proofs.Bools.{same-number}
 use Rattle.lists.proofs.Membership.{any-out}
@@ -14,16 +13,6 @@ use Rattle.model.specs.Chart.{Test, Transition, Chart, Nth, tested}
 use Rattle.model.specs.Valid.{Valid, ValidTest, ValidTransition}
 
 module _ {A : Type 0} where
-  pub nth-below : (l : List A) (i : ℕ) → i < length l → (a : A) × (getElem? l i ≡ some a)
-  nth-below [] i h = absurd (omega arith)
-  nth-below (x ∷ l) zero h = (x, refl)
-  nth-below (x ∷ l) (suc i) h = nth-below l i (omega arith)
-
-  pub below-nth : (l : List A) (i : ℕ) {a : A} → getElem? l i ≡ some a → i < length l
-  below-nth [] i e = absurd (Option·none-ne-some _ e)
-  below-nth (x ∷ l) zero e = omega arith
-  below-nth (x ∷ l) (suc i) e = omega (arith, below-nth l i e)
-
   pub all-nth : (P : A → Type 0) (l : List A) (i : ℕ) {a : A} → All P l → getElem? l i ≡ some a → P a
   all-nth P [] i h e = absurd (Option·none-ne-some _ e)
   all-nth P (x ∷ l) zero h e = subst P (Option·some-injective _ _ e) (h .0)

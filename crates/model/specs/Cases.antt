@@ -1,6 +1,6 @@
 -- The charts of document 01, "Charts to try", and its cases marked ★: a list of questions with the replies that the document gives.
 -- That the definitions give these replies is one statement, `starred-hold` in proofs/Starred. Assumes nothing.
-use mathlib.Core.Bool.{Bool, true}
+use mathlib.Core.Bool.{true}
 use mathlib.Core.List.{List, [], _∷_, map, reverse}
 use Prim.Native.Nat.{ℕ}
 use Rattle.comparison.specs.declared.Comparison.{Comparison}

@@ -1,16 +1,16 @@
 -- Families (document 01, "Live, born, family, board number"), over the pairs and the links that are handed in. Assumes nothing.
 use mathlib.Core.Path.{_≡_}
 use mathlib.Core.Logic.{_⊎_}
-use mathlib.Core.Bool.{Bool, true, false, _&&_}
+use mathlib.Core.Bool.{Bool, true, false}
 use mathlib.Core.List.{List, [], _∷_, _++_, map}
-use Prim.Native.Nat.{ℕ, zero, suc, _+_, _*_, _^_, _≤_, _<_}
+use Prim.Native.Nat.{ℕ, _+_, _*_, _^_}
 use lib.Dec.{eqb}
 use lib.ListN.{getD, getElem?}
 use mathlib.Core.Option.{some}
 use Rattle.timer_set.specs.Members.{member, common, minus, everyTimer}
 use Rattle.lists.specs.Lists.{anyOf, memb, lowest, gather, pick}
 use Rattle.model.specs.Chart.{Transition, Chart}
-use Rattle.model.specs.Flow.{Edge, Flow, settled}
+use Rattle.model.specs.Flow.{Flow, settled}
 use Rattle.model.specs.Live.{startsSet, liveSets}
 
 -- the pairs (one, j) and (other, j) are linked for each timer j of the set

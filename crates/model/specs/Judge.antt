@@ -1,10 +1,10 @@
 -- The judgement that all calls share, 9 and 10, and what the rewriting makes of a chart: 11, 20, or the rewritten chart (document 01,
 -- "Turned down .."). Assumes nothing.
-use mathlib.Core.Bool.{Bool, not}
+use mathlib.Core.Bool.{not}
 use Prim.Native.Nat.{ℕ}
 use lib.Dec.{leb}
 use lib.ListN.{length}
-use Rattle.model.specs.Answer.{Answer, result, refused, then, unless, nowhere}
+use Rattle.model.specs.Answer.{Answer, result, then, unless, nowhere}
 use Rattle.model.specs.Chart.{Chart}
 use Rattle.model.specs.Live.{firstUnreached, firstUnstarted}
 use Rattle.model.specs.FirstFit.{board, usedBy, blocked}

@@ -1,14 +1,14 @@
 -- Live timers, reached locations and unstarted tests, computed by rounds of sets. What they mean by paths is in `Path`; that both agree is
 -- shown in proofs/. Assumes nothing.
 use mathlib.Core.Bool.{Bool, true, false, not}
-use mathlib.Core.List.{List, [], _∷_, map}
+use mathlib.Core.List.{List, map}
 use Prim.Native.Nat.{ℕ}
 use lib.Dec.{eqb}
 use lib.ListN.{getD}
 use Rattle.timer_set.specs.Members.{member, common, everyTimer, setOf}
 use Rattle.lists.specs.Lists.{lowest, firstOf}
 use Rattle.model.specs.Chart.{Test, Transition, Chart}
-use Rattle.model.specs.Flow.{Edge, Flow, settled}
+use Rattle.model.specs.Flow.{Flow, settled}
 
 unfoldable pub startsSet : Transition → ℕ
 startsSet r = setOf (r .starts)

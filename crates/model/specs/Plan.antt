@@ -1,7 +1,7 @@
 -- What a numbering has to keep for the rewritten chart to behave as the drawn one. First fit keeps it; so would any other plan. The laws ask
 -- nothing of transitions that leave a location which no path reaches. Assumes nothing.
 use mathlib.Core.Path.{_≡_}
-use mathlib.Core.Bool.{true, false}
+use mathlib.Core.Bool.{false}
 use mathlib.Core.Option.{some}
 use Prim.Native.Nat.{ℕ, _<_}
 use Rattle.lists.specs.Lists.{memb}

@@ -1,7 +1,6 @@
 -- The chart rewritten by a numbering (document 01, "Live, born, family, board number"). Assumes nothing.
-use mathlib.Core.Bool.{Bool}
 use mathlib.Core.Option.{Option, none, some}
-use mathlib.Core.List.{List, [], _∷_, map, filterMap}
+use mathlib.Core.List.{List, map, filterMap}
 use Prim.Native.Nat.{ℕ}
 use Rattle.lists.specs.Lists.{memb, pick}
 use Rattle.model.specs.Chart.{Test, Transition, Chart}

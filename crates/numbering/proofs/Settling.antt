@@ -4,6 +4,7 @@ use mathlib.Core.List.{List}
 use Prim.Native.Nat.{ℕ, _≤_}
 use native.Mathlib.Omega.{arith}
 use lib.ListN.{length, take, replicate, length-replicate}
+use Rattle.lists.proofs.Zeros.{take-zeros}
 use Rattle.model.specs.Chart.{Chart}
 use Rattle.model.specs.Flow.{settled}
 use Rattle.model.specs.Live.{liveFlow, liveSets}
@@ -11,7 +12,6 @@ use Rattle.model.specs.FirstFit.{firstFit, usedBy, board, used}
 use Rattle.model.proofs.Settled.{length-settled}
 use Rattle.flow.specs.Edges.{flowOf, Matching}
 use Rattle.flow.proofs.ChartFlows.{live-flow, live-matching}
-use Rattle.flow.proofs.Turns.{take-empty}
 use Rattle.families.specs.Pairs.{pairsOf}
 use Rattle.allocation.specs.Cells.{cells}
 use Rattle.families.specs.Pairs.{Matching as Allocatable}
@@ -25,7 +25,7 @@ module _ {c : Chart} {sources targets starts tested : List ℕ} {timers location
 
   -- the empty sets that are lent
   pub own-sets : _≡_ {A = List ℕ} (take locations (replicate 256 0)) (replicate (c .locations) 0)
-  own-sets = take-empty locations 256 few ∙ ap {B = List ℕ} (λ (n : ℕ). replicate n 0) (l .locations-are)
+  own-sets = take-zeros locations 256 few ∙ ap {B = List ℕ} (λ (n : ℕ). replicate n 0) (l .locations-are)
 
   pub own-length : _≡_ (length {A = ℕ} (take locations (replicate 256 0))) locations
   own-length = ap length own-sets ∙ length-replicate {A = ℕ} (c .locations) 0 ∙ sym (l .locations-are)

@@ -1,7 +1,7 @@
 -- The renamed sets are those that the transitions of the rewritten chart start. Assumes nothing.
 use mathlib.Core.Path.{_≡_, refl, sym, ap, _∙_}
-use mathlib.Core.Logic.{_⊎_, inl, inr}
-use mathlib.Core.Bool.{Bool, true, false}
+use mathlib.Core.Logic.{_⊎_, inl, inr, ⊎-elim}
+use mathlib.Core.Bool.{Bool, true, false, not}
 use mathlib.Core.Option.{some}
 use mathlib.Core.List.{List, map, map-map}
 use Prim.Native.Nat.{ℕ, zero, suc, _+_, _^_, _≤_, _<_}
@@ -13,11 +13,12 @@ use lib.ListN.{length, getD, getElem?, set, length-map}
 use lib.Pow.{pow-pos}
 use borrow.Author.Tests.{ltb-true, lt-ltb, le-ltb}
 use Rattle.lists.specs.Lists.{memb, gather, upTo}
-use Rattle.lists.proofs.Bools.{or-cases, or-left, or-right, same-bool, same-number, eqb-self, not-both}
+use Rattle.lists.proofs.Bools.{yes-or-no, or-cases, or-left, or-right, and-left, and-both, same-bool, same-number, eqb-self, not-both}
 use Rattle.lists.proofs.Gather.{length-upTo, rising-below}
 use Rattle.lists.proofs.Membership.{nth-map}
-use Rattle.timer_set.specs.Members.{member, added}
-use Rattle.timer_set.proofs.Members.{member-added, member-empty, added-lt, setOf-lt, member-ext}
+use Rattle.lists.proofs.Nth.{getD-nth, upTo-map}
+use Rattle.timer_set.specs.Members.{member, added, removed}
+use Rattle.timer_set.proofs.Members.{member-added, member-removed, member-empty, added-lt, setOf-lt, member-ext}
 use Rattle.model.specs.Chart.{Transition, Chart, Nth}
 use Rattle.model.specs.Valid.{ValidTransition}
 use Rattle.model.specs.Live.{startsSet}
@@ -29,9 +30,7 @@ use Rattle.model.proofs.Transitions.{nth-valid}
 use Rattle.model.proofs.TransitionSets.{member-starts}
 use Rattle.chart_lists.specs.Lists.{put}
 use Rattle.chart_lists.proofs.Put.{put-last}
-use Rattle.flow.proofs.EdgeLists.{getD-nth}
 use Rattle.allocation.specs.Cells.{cell}
-use Rattle.families.proofs.ChartPairs.{upTo-map}
 use Rattle.allocation.proofs.CellList.{cells-at, cell-some}
 use Rattle.renaming.specs.Renaming.{cellAt, withNumber, renamedSet, renamedSets, CellsOf}
 
@@ -88,11 +87,11 @@ pub record NumberOf (numbers : List ℕ) (q w n k : ℕ) : Type 0 where
   pub small : k < 64
 
 module _ (numbers : List ℕ) (q w : ℕ) where
-  pub set-yes : (j : ℕ) → member w j ≡ true → renamedSet numbers q w (suc j) ≡ withNumber (renamedSet numbers q w j) (cellAt numbers q j)
+  set-yes : (j : ℕ) → member w j ≡ true → renamedSet numbers q w (suc j) ≡ withNumber (renamedSet numbers q w j) (cellAt numbers q j)
   unfolding renamedSet
   set-yes j e = rw (e, renamedSet)
 
-  pub set-no : (j : ℕ) → member w j ≡ false → renamedSet numbers q w (suc j) ≡ renamedSet numbers q w j
+  set-no : (j : ℕ) → member w j ≡ false → renamedSet numbers q w (suc j) ≡ renamedSet numbers q w j
   unfolding renamedSet
   set-no j e = rw (e, renamedSet)
 
@@ -140,6 +139,44 @@ module _ (numbers : List ℕ) (q w : ℕ) where
       go : (b : Bool) → member w j ≡ b → (member (renamedSet numbers q w j) k ≡ true → NumberOf numbers q w j k) → NumberOf numbers q w (suc j) k
       go true e ih = last e ih (with-out (renamedSet numbers q w j) (cellAt numbers q j) k (rw (set-yes j e) at m))
       go false e ih = later (ih (rw (set-no j e) at m))
+
+-- ---- the timers of a set, taken one by one
+
+-- r has the numbers at q of those timers of w that are no longer left
+pub record RenamedTo (numbers : List ℕ) (q w left r : ℕ) : Type 0 where
+  pub small : r < 2 ^ 64
+  pub sound : (k : ℕ) → (member r k ≡ true) ⊎ NumberOf numbers q left 64 k → NumberOf numbers q w 64 k
+  pub complete : (k : ℕ) → NumberOf numbers q w 64 k → (member r k ≡ true) ⊎ NumberOf numbers q left 64 k
+
+module _ (numbers : List ℕ) (q w : ℕ) where
+  pub renamed-none : RenamedTo numbers q w w 0
+  renamed-none = record { small = pow-pos 64; sound = λ k. ⊎-elim (λ m. absurd (not-both m (member-empty k))) (λ x. x); complete = λ k x. inr x }
+
+  pub renamed-more : (left i r : ℕ) → i < 64 → member left i ≡ true → RenamedTo numbers q w left r → RenamedTo numbers q w (removed left i) (withNumber r (cellAt numbers q i))
+  renamed-more left i r h m s = record {
+    small = with-lt r (cellAt numbers q i) (s .small);
+    sound = λ k x. s .sound k (⊎-elim (λ a. taken k (with-out r (cellAt numbers q i) k a)) (λ y. inr (among k y (and-left _ _ (sym (member-removed left i (y .timer)) ∙ y .present)))) x);
+    complete = λ k x. ⊎-elim (λ a. inl (with-old r (cellAt numbers q i) k a)) (λ y. later k y (yes-or-no (eqb (y .timer) i))) (s .complete k x);
+  }
+    where
+      taken : (k : ℕ) → (member r k ≡ true) ⊎ ((cellAt numbers q i ≡ k) × (k < 64)) → (member r k ≡ true) ⊎ NumberOf numbers q left 64 k
+      taken k (inl a) = inl a
+      taken k (inr p) = inr (record { timer = i; below = h; present = m; cell-is = p .0; small = p .1 })
+
+      among : {v u : ℕ} (k : ℕ) → (y : NumberOf numbers q v 64 k) → member u (y .timer) ≡ true → NumberOf numbers q u 64 k
+      among k y a = record { timer = y .timer; below = y .below; present = a; cell-is = y .cell-is; small = y .small }
+
+      later : (k : ℕ) → (y : NumberOf numbers q left 64 k) → (eqb (y .timer) i ≡ true) ⊎ (eqb (y .timer) i ≡ false)
+          → (member (withNumber r (cellAt numbers q i)) k ≡ true) ⊎ NumberOf numbers q (removed left i) 64 k
+      later k y (inl e) = let same : cellAt numbers q i ≡ k = ap (cellAt numbers q) (sym (same-number e)) ∙ y .cell-is in inl (rw same (with-new r k (y .small)))
+      later k y (inr e) = inr (among k y (member-removed left i (y .timer) ∙ and-both (y .present) (ap not e)))
+
+  pub renamed-all : (left r : ℕ) → left ≡ 0 → RenamedTo numbers q w left r → r ≡ renamedSet numbers q w 64
+  renamed-all left r e s = member-ext 64 r _ (s .small) (set-lt numbers q w 64)
+      (λ k l. same-bool _ _ (λ m. set-in numbers q w 64 k (s .sound k (inl m))) (λ m. ⊎-elim (λ a. a) (λ x. absurd (none k x)) (s .complete k (set-out numbers q w 64 k m))))
+    where
+      none : (k : ℕ) → NumberOf numbers q left 64 k → ⊥
+      none k x = not-both (x .present) (ap (λ (v : ℕ). member v (x .timer)) e ∙ member-empty (x .timer))
 
 -- ---- one transition after another
 

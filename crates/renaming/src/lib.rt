@@ -23,19 +23,17 @@ fn with_number(set: TimerSet, number: u16) -> TimerSet
     }
 }
 
-// The numbers at location q of the timers of the set.
+// The numbers at location q of the timers of the set. Its members alone are gone over: most transitions start few timers.
 fn renamed_set(set: TimerSet, numbers: &[u16], q: usize) -> TimerSet
     requires { ⌜ (64 * q + 64 ≤ length (now numbers)) × (length (now numbers) ≤ 16384) ⌝ }
     ensures { λ r. ⌜ r .bits ≡ renamedSet (now (numbers .entry)) q (set .bits) 64 ⌝ }
 {
     let mut renamed = TimerSet::EMPTY;
-    let mut j: u8 = 0;
-    while j < 64 {
-        let here = j;
-        j += 1;
-        if set.has(here) {
-            renamed = with_number(renamed, numbers[64 * q + here as usize]);
-        }
+    let mut left = set;
+    while !left.is_empty() {
+        let j = left.lowest() as usize;
+        renamed = with_number(renamed, numbers[64 * q + j]);
+        left = left.without_lowest();
     }
     renamed
 }

@@ -5,6 +5,7 @@ use Prim.Native.Nat.{ℕ, _*_, _≤_, _<_}
 use native.Mathlib.Omega.{arith}
 use lib.ListN.{length, getD, length-map}
 use Rattle.lists.proofs.Membership.{nth-map}
+use Rattle.lists.proofs.Nth.{nth-below, getD-nth}
 use Rattle.model.specs.Chart.{Transition, Chart, Nth}
 use Rattle.model.specs.Valid.{Valid, ValidTransition}
 use Rattle.model.specs.FirstFit.{board, used}
@@ -12,7 +13,7 @@ use Rattle.model.specs.Rewrite.{numbering}
 use Rattle.model.specs.Plan.{Plan}
 use Rattle.model.specs.Judge.{judged}
 use Rattle.model.specs.Answer.{result}
-use Rattle.model.proofs.Transitions.{nth-below, all-nth}
+use Rattle.model.proofs.Transitions.{all-nth}
 use Rattle.model.proofs.Paths.{live-here}
 use Rattle.model.proofs.BoardPlan.{board-plan, live-number}
 use Rattle.model.proofs.Judgement.{accepted}
@@ -20,7 +21,6 @@ use Rattle.model.proofs.Rewritten.{Numbered}
 use Rattle.chart_lists.specs.Lists.{Lists}
 use Rattle.chart_lists.specs.declared.Numbers.{Numbers}
 use Rattle.chart_lists.specs.Numbers.{numbersOf}
-use Rattle.flow.proofs.EdgeLists.{getD-nth}
 use Rattle.allocation.proofs.CellList.{cells-length}
 use Rattle.numbering.specs.Numbered.{ListsFor}
 use Rattle.renaming.specs.Renaming.{Rows, CellsOf}

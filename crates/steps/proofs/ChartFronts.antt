@@ -8,11 +8,12 @@ use lib.ListN.{length, getD, take, length-append, length-map, List·getD-eq-defa
 use lib.Seq.{take-at}
 use Rattle.lists.specs.Rising.{All}
 use Rattle.lists.proofs.Bools.{lt-or-le}
+use Rattle.lists.specs.Lists.{sumOf}
 use Rattle.model.specs.Chart.{Test, Transition, Chart}
 use Rattle.model.specs.Valid.{ValidTransition}
 use Rattle.model.specs.Run.{begin}
 use Rattle.chart_lists.specs.Lists.{allTests, listsOf}
-use Rattle.steps.specs.InLists.{InLists, sumOf}
+use Rattle.steps.specs.InLists.{InLists}
 use Rattle.steps.specs.Stepping.{Shows, Small}
 use Rattle.steps.specs.Fronts.{Fronts, Allowed, Starting}
 use Rattle.steps.proofs.Sums.{sum-tests, sum-tests-front}

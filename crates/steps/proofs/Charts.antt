@@ -5,12 +5,13 @@ use mathlib.Core.List.{List, [], _∷_, _++_, map}
 use Prim.Native.Nat.{ℕ, zero, suc, _+_, _≤_, _<_}
 use native.Mathlib.Omega.{arith}
 use lib.ListN.{length, getD, getElem?, take, drop, length-map, take-append-drop}
+use Rattle.lists.proofs.Nth.{nth-below, below-nth}
 use Rattle.timer_set.specs.Members.{setOf}
 use Rattle.comparison.specs.Comparison.{codeOf}
 use Rattle.model.specs.Chart.{Test, Transition, Chart, Nth}
 use Rattle.model.specs.Valid.{ValidTest}
 use Rattle.model.specs.Live.{startsSet}
-use Rattle.model.proofs.Transitions.{nth-below, below-nth, all-nth, nth-valid}
+use Rattle.model.proofs.Transitions.{all-nth, nth-valid}
 use Rattle.chart_lists.specs.Lists.{allTests, listsOf}
 use Rattle.chart_lists.proofs.Tests.{tests-append}
 use Rattle.steps.specs.InLists.{TestsFrom, InLists}

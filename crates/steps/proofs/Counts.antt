@@ -1,22 +1,19 @@
 -- The counts of a step: each is grown, one a turn, then those of the started timers become 0, one a turn. Assumes nothing.
 use mathlib.Core.Path.{_≡_, refl, sym, ap, _∙_}
 use mathlib.Core.Logic.{_⊎_, inl, inr}
-use mathlib.Core.Bool.{Bool, true, false, _&&_, not, Bool·not-not, and-true, and-false}
+use mathlib.Core.Bool.{Bool, true, false, _&&_, not, and-true}
 use mathlib.Core.List.{List}
-use Prim.Native.Nat.{ℕ, _+_, _^_, _≤_, _<_}
+use Prim.Native.Nat.{ℕ, _+_, _≤_, _<_}
 use native.Mathlib.Omega.{arith}
 use lib.Dec.{eqb}
-use lib.Count.{ones}
 use lib.ListN.{length, getD, set, length-set}
 use lib.Seq.{getD-set-same, getD-set-other}
 use borrow.Author.Count.{below-more}
 use borrow.Author.Tests.{eq-eqb}
-use Rattle.lists.specs.Lists.{lowest}
-use Rattle.lists.proofs.Bools.{yes-or-no, not-both, and-left, eqb-self, same-number}
-use Rattle.lists.proofs.Lowest.{lowest-same, lowest-most, lowest-passes}
-use Rattle.timer_set.specs.Members.{member, minus, removed, everyTimer, lowestMissing}
-use Rattle.timer_set.proofs.Members.{member-empty, member-minus, member-removed, member-every, some-member, removed-lt}
-use Rattle.timer_set.proofs.Counts.{ones-grow}
+use Rattle.lists.proofs.Bools.{yes-or-no, not-both, same-number}
+use Rattle.timer_set.specs.Members.{member, removed}
+use Rattle.timer_set.proofs.Members.{member-empty, member-removed}
+use Rattle.timer_set.proofs.LowestMember.{removed-gone}
 use Rattle.model.specs.Run.{Counts, grown}
 use Rattle.steps.specs.Stepping.{Agree, countAfter, MovedOn}
 
@@ -68,30 +65,6 @@ module _ (d : ℕ) (before : List ℕ) where
   grown-agrees after v a m = record { same = λ j h. m .count j h ∙ none-started d j _ ∙ ap (λ (x : ℕ). x + d) (a .same j h) }
 
 -- ---- started timers
-
--- the timer i that is started next: the lowest that is left
-module _ (left i : ℕ) (h : left < 2 ^ 64) (some : left ≡ 0 → ⊥) (e : i ≡ lowestMissing (minus everyTimer left)) where
-  lowest-left : i ≡ lowest (member left) 64
-  unfolding lowestMissing
-  lowest-left = e ∙ lowest-same (λ j. not (member (minus everyTimer left) j)) (member left) 64
-      (λ j l. ap not (member-minus everyTimer left j ∙ ap (λ (b : Bool). b && not (member left j)) (member-every j l)) ∙ Bool·not-not (member left j))
-
-  pub next-below : i < 64
-  next-below = let m = some-member 64 left h some in omega (arith, lowest-left, lowest-most (member left) 64 (m .0) (m .2), m .1)
-
-  pub next-member : member left i ≡ true
-  next-member = rw lowest-left (lowest-passes (member left) 64 (omega (arith, lowest-left, next-below)))
-
--- it is then no longer left, so fewer are
-removed-gone : (w i : ℕ) → member (removed w i) i ≡ false
-removed-gone w i = member-removed w i i ∙ ap (λ (b : Bool). member w i && not b) (eqb-self i) ∙ and-false (member w i)
-
-pub removed-fewer : (w i : ℕ) → w < 2 ^ 64 → member w i ≡ true → ones (removed w i) < ones w
-removed-fewer w i h m = go (ones-grow 64 (removed w i) w (removed-lt 64 w i h) h (λ j l q. and-left _ _ (sym (member-removed w i j) ∙ q)))
-  where
-    go : (removed w i ≡ w) ⊎ (ones (removed w i) < ones w) → ones (removed w i) < ones w
-    go (inl e) = absurd (not-both m (ap (λ (x : ℕ). member x i) (sym e) ∙ removed-gone w i))
-    go (inr l) = l
 
 -- starting the timers that are left comes to starting all of them
 pub record StartedTo (left starts : ℕ) (before after : List ℕ) : Type 0 where

@@ -7,9 +7,9 @@ use native.Mathlib.Omega.{arith}
 use lib.ListN.{length, getD, set, take, length-append}
 use lib.Seq.{take-all, getD-set-same, getD-set-other}
 use borrow.Author.Count.{below-more}
+use Rattle.lists.specs.Lists.{sumOf}
 use Rattle.model.specs.Chart.{Transition}
 use Rattle.chart_lists.specs.Lists.{allTests}
-use Rattle.steps.specs.InLists.{sumOf}
 
 -- one element more
 sum-suc : (l : List ℕ) (i : ℕ) → i < length l → sumOf (take (suc i) l) ≡ sumOf (take i l) + getD l i 0

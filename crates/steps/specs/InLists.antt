@@ -1,17 +1,13 @@
 -- A chart in lists that the player steps by: those of docs/LISTS.md, and where each transition's tests begin. Assumes nothing.
 use mathlib.Core.Path.{_≡_}
 use mathlib.Core.Option.{some}
-use mathlib.Core.List.{List, [], _∷_}
+use mathlib.Core.List.{List}
 use Prim.Native.Nat.{ℕ, _+_, _<_}
 use lib.ListN.{length, getD, getElem?, take}
 use Rattle.comparison.specs.Comparison.{codeOf}
 use Rattle.model.specs.Chart.{Test, Chart}
 use Rattle.model.specs.Valid.{Valid}
 use Rattle.chart_lists.specs.Lists.{allTests, listsOf}
-
-unfoldable pub sumOf : List ℕ → ℕ
-sumOf [] = 0
-sumOf (x ∷ xs) = x + sumOf xs
 
 -- the test t stands at place i, and its timer is one of the 64
 pub record TestAt (t : Test) (i : ℕ) (timers codes constants : List ℕ) : Type 0 where

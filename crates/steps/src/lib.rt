@@ -3,13 +3,13 @@ ghost use mathlib.Core.Path.{_≡_};
 ghost use mathlib.Core.List.{List};
 ghost use Prim.Native.Nat.{ℕ, _≤_, _<_};
 ghost use lib.ListN.{length, getD, take};
-ghost use Rattle.lists.specs.Lists.{memb, lowest};
+ghost use Rattle.lists.specs.Lists.{memb, lowest, sumOf};
 ghost use Rattle.comparison.specs.declared.Comparison.{Comparison};
 ghost use Rattle.comparison.specs.Comparison.{met, codeOf};
 ghost use Rattle.model.specs.Chart.{Test, Chart};
 ghost use Rattle.model.specs.Run.{Counts, State as Run·State, allMet, attempt, steps, outcome, playerTime};
 ghost use Rattle.model.specs.Player.{tooLarge, stepsOf};
-ghost use Rattle.steps.specs.InLists.{InLists, SomeChart, TestsFrom, SomeTests, sumOf};
+ghost use Rattle.steps.specs.InLists.{InLists, SomeChart, TestsFrom, SomeTests};
 ghost use Rattle.steps.specs.Stepping.{Shows, Agree, Small, Room, MovedOn, Answered, stepAt, refusedAt};
 ghost use Rattle.steps.specs.Fronts.{Fronts, SomeFronts, Allowed, Starting};
 use chart_lists::Refusal;
@@ -109,9 +109,9 @@ fn started(counts: [u32; 64], starts: u64) -> [u32; 64]
     let mut next = counts;
     let mut left = TimerSet { bits: starts };
     while !left.is_empty() {
-        let j = TimerSet::EVERY.minus(left).lowest_missing() as u8;
-        next[j as usize] = 0;
-        left = left.without(j);
+        let j = left.lowest() as usize;
+        next[j] = 0;
+        left = left.without_lowest();
     }
     next
 }

@@ -3,3 +3,4 @@ pub mod Members
 pub mod Machine
 pub mod Counts
 pub mod Below
+pub mod LowestMember

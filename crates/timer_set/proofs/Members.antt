@@ -7,7 +7,7 @@ use Prim.Native.Nat.{ℕ, zero, suc, _-_, _/_, _%_, _^_, _≤_, _<_}
 use native.Mathlib.Nat.{zero-div, div-eq-of-lt, lt-of-lt-of-le, pow-suc}
 use native.Mathlib.Omega.{arith}
 use lib.Dec.{eqb, eqb·suc-suc, eqb·suc-zero, eqb·zero-suc}
-use lib.Bits.{bitAnd, and-le-l, or-lt, xor-lt}
+use lib.Bits.{bitAnd, and-le-l, and-le-r, or-add-and, or-lt, xor-lt}
 use lib.Pow.{pow-lt, pow-mono, pow-pos}
 use Rattle.lists.specs.Lists.{memb, lowest}
 use Rattle.lists.specs.Rising.{Rising}
@@ -91,6 +91,10 @@ some-member k w h e = go (lt-or-le (lowest (member w) k) k)
     go (inr l) = absurd (e (none-empty k w h (λ j q. lowest-before (member w) k j (omega arith))))
 
 -- ---- the results are words of as many digits
+
+pub joined-more : (a b : ℕ) → a ≤ joined a b
+unfolding joined
+joined-more a b = omega (arith, or-add-and a b, and-le-r a b)
 
 pub joined-lt : (k a b : ℕ) → a < 2 ^ k → b < 2 ^ k → joined a b < 2 ^ k
 unfolding joined

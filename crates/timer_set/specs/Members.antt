@@ -49,3 +49,7 @@ allBelow n w = not (anyOf (λ j. leb n j) (members w))
 -- the lowest of the 64 timers that is not in the set, or 64
 unfoldable pub lowestMissing : ℕ → ℕ
 lowestMissing w = lowest (λ j. not (member w j)) 64
+
+-- the lowest timer of the set, or 64
+unfoldable pub lowestMember : ℕ → ℕ
+lowestMember w = lowest (member w) 64

@@ -3,7 +3,7 @@ ghost use mathlib.Core.Path.{_≡_};
 ghost use Prim.Native.Nat.{_<_};
 ghost use lib.Dec.{eqb};
 ghost use lib.Count.{ones};
-ghost use Rattle.timer_set.specs.Members.{member, joined, common, minus, added, removed, allBelow, lowestMissing};
+ghost use Rattle.timer_set.specs.Members.{member, joined, common, minus, added, removed, allBelow, lowestMissing, lowestMember};
 
 pub struct TimerSet {
     pub bits: u64,
@@ -92,5 +92,23 @@ impl TimerSet {
         ensures { λ r. ⌜ r ≡ lowestMissing (self .bits) ⌝ }
     {
         u64::trailing_zeros(!self.bits)
+    }
+    // The lowest timer of the set, 64 where there is none.
+    pub fn lowest(self) -> u32
+        ensures { λ r. ⌜ r ≡ lowestMember (self .bits) ⌝ }
+    {
+        u64::trailing_zeros(self.bits)
+    }
+
+    // The set without its lowest timer, if it has one.
+    pub fn without_lowest(self) -> TimerSet
+        ensures { λ r. ⌜ r .bits ≡ removed (self .bits) (lowestMember (self .bits)) ⌝ }
+    {
+        if self.bits == 0 {
+            return self;
+        }
+        TimerSet {
+            bits: self.bits & self.bits - 1,
+        }
     }
 }

@@ -1,25 +1,17 @@
-// What has become of lent memory that was filled with bytes 170.
-use crate::input::plus;
-
-fn wide8(x: u8) -> u64 {
-    x as u64
-}
+// What has become of the nine lent lists.
+use vectors_common::input::plus;
+use vectors_common::lent::changed8;
+use vectors_common::lent::changed64;
+use vectors_common::lent::entry8;
+use vectors_common::lent::unlike;
 
 fn wide16(x: u16) -> u64 {
     x as u64
 }
 
 // An entry of a list as a wide number, 0 past its end.
-pub fn entry8(list: &[u8], i: usize) -> u64 {
-    if i < list.len() { wide8(list[i]) } else { 0 }
-}
-
 pub fn entry16(list: &[u16], i: usize) -> u64 {
     if i < list.len() { wide16(list[i]) } else { 0 }
-}
-
-pub fn entry64(list: &[u64], i: usize) -> u64 {
-    if i < list.len() { list[i] } else { 0 }
 }
 
 // The sum of the first n entries.
@@ -61,36 +53,12 @@ pub fn changed(
     plus(changed16(accepting, a), plus(ends, plus(heads, tests)))
 }
 
-fn unlike(x: u64, was: u64) -> usize {
-    if x == was { 0 } else { 1 }
-}
-
 // How many entries from a position on are not as they were.
-pub fn changed8(list: &[u8], from: usize) -> usize {
-    let mut sum = 0;
-    let mut i = from;
-    while i < list.len() {
-        sum = plus(sum, unlike(entry8(list, i), 170));
-        i += 1;
-    }
-    sum
-}
-
 fn changed16(list: &[u16], from: usize) -> usize {
     let mut sum = 0;
     let mut i = from;
     while i < list.len() {
         sum = plus(sum, unlike(entry16(list, i), 43690));
-        i += 1;
-    }
-    sum
-}
-
-fn changed64(list: &[u64], from: usize) -> usize {
-    let mut sum = 0;
-    let mut i = from;
-    while i < list.len() {
-        sum = plus(sum, unlike(entry64(list, i), 12297829382473034410));
         i += 1;
     }
     sum

@@ -8,6 +8,16 @@ mod lent;
 mod show;
 
 use chart_lists::Numbers;
+use vectors_common::input::byte;
+use vectors_common::input::count;
+use vectors_common::input::least;
+use vectors_common::input::part;
+use vectors_common::input::plus;
+use vectors_common::input::size16;
+use vectors_common::lent::changed8;
+use vectors_common::show::item;
+use vectors_common::show::refusal;
+use vectors_common::show::text;
 
 fn main() {
     let mut bytes = [0u8; 262144];
@@ -29,8 +39,8 @@ fn run(input: &[u8]) {
 
 // Runs the vector at a position, and answers the position after it.
 fn run_vector(input: &[u8], at: usize) -> usize {
-    let kind = input::byte(input, at);
-    let from = input::plus(at, 1);
+    let kind = byte(input, at);
+    let from = plus(at, 1);
     if kind == b'r' {
         return run_read(input, from);
     }
@@ -60,9 +70,9 @@ fn run_read(input: &[u8], at: usize) -> usize {
     let h = input::lent8(&mut codes, input, at, 7);
     let mut constants = [43690u16; 4096];
     let i = input::lent16(&mut constants, input, at, 8);
-    let length = input::size32(input::quad(input, input::plus(at, 18)));
-    let from = input::plus(at, 22);
-    let answer = reader::read_chart(input::part(input, from, length), a, b, c, d, e, f, g, h, i);
+    let length = count(input, plus(at, 18));
+    let from = plus(at, 22);
+    let answer = reader::read_chart(part(input, from, length), a, b, c, d, e, f, g, h, i);
     show_read(
         answer,
         &accepting,
@@ -75,7 +85,7 @@ fn run_read(input: &[u8], at: usize) -> usize {
         &codes,
         &constants,
     );
-    input::plus(from, length)
+    plus(from, length)
 }
 
 // Shows a refusal, or a chart and the file that is written of it.
@@ -107,7 +117,7 @@ fn show_read<'a>(
                 codes,
                 constants,
             );
-            show::refusal(r, changed);
+            refusal(r, changed);
         }
         reader::Read::Chart(numbers) => {
             show_chart(
@@ -151,11 +161,11 @@ fn show_chart(
     codes: &[u8],
     constants: &[u16],
 ) {
-    let a = input::size16(numbers.accepting);
-    let n = input::size16(numbers.transitions);
+    let a = size16(numbers.accepting);
+    let n = size16(numbers.transitions);
     let g = lent::total(counts, n);
     show::numbers(numbers, accepting);
-    show::item(
+    item(
         b" beyond ",
         lent::changed(
             a,
@@ -172,7 +182,7 @@ fn show_chart(
             constants,
         ) as u64,
     );
-    show::text(b"\n");
+    text(b"\n");
     show::transitions(
         n,
         sources,
@@ -208,7 +218,7 @@ fn run_write(input: &[u8], at: usize) -> usize {
     let i = input::front16(&constants, input, at, 8);
     let end = input::position(input, at, 9);
     write_to(
-        input::size32(input::quad(input, end)),
+        count(input, end),
         input::numbers(input, at),
         a,
         b,
@@ -220,7 +230,7 @@ fn run_write(input: &[u8], at: usize) -> usize {
         h,
         i,
     );
-    input::plus(end, 4)
+    plus(end, 4)
 }
 
 // Writes a chart into a lent buffer of n bytes.
@@ -238,7 +248,7 @@ fn write_to<'a>(
     constants: &'a [u16],
 ) {
     let mut out = [170u8; 65536];
-    let room = input::least(n, 65536);
+    let room = least(n, 65536);
     write_lent(
         numbers,
         accepting,
@@ -286,7 +296,7 @@ fn write_lent<'a>(
 
 fn show_written(answer: writer::Written, out: &[u8]) {
     match answer {
-        writer::Written::Refused(r) => show::refusal(r, lent::changed8(out, 0)),
+        writer::Written::Refused(r) => refusal(r, changed8(out, 0)),
         writer::Written::File(n) => show::file(out, n),
     }
 }

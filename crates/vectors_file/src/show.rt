@@ -1,28 +1,15 @@
 // The lines that are printed. Of long lists only the entries 0 to 3 and the last are shown, of long files the last 8 bytes.
-use crate::input::byte;
-use crate::input::plus;
-use crate::input::size16;
-use crate::lent::entry8;
 use crate::lent::entry16;
-use crate::lent::entry64;
 use chart_lists::Numbers;
-use chart_lists::Refusal;
-
-pub fn text(s: &[u8]) {
-    io::write_all(1, s);
-}
-
-pub fn item(label: &[u8], n: u64) {
-    text(label);
-    io::print_decimal(1, n);
-}
-
-pub fn refusal(r: Refusal, changed: usize) {
-    item(b"refused ", r.number as u64);
-    item(b" ", r.place);
-    item(b" changed ", changed as u64);
-    text(b"\n");
-}
+use vectors_common::input::plus;
+use vectors_common::input::size16;
+use vectors_common::lent::entry8;
+use vectors_common::lent::entry64;
+use vectors_common::show::content;
+use vectors_common::show::entry;
+use vectors_common::show::is_shown;
+use vectors_common::show::item;
+use vectors_common::show::text;
 
 pub fn numbers(numbers: Numbers, accepting: &[u16]) {
     item(b"locations ", numbers.locations as u64);
@@ -33,21 +20,11 @@ pub fn numbers(numbers: Numbers, accepting: &[u16]) {
     item(b" transitions ", numbers.transitions as u64);
 }
 
-fn is_shown(i: usize, n: usize) -> bool {
-    if i < 4 { true } else { n <= plus(i, 1) }
-}
-
 fn entries(list: &[u16], n: usize) {
     let mut i = 0;
     while i < n {
-        entry(list, i, is_shown(i, n));
+        entry(entry16(list, i), is_shown(i, n, 4));
         i += 1;
-    }
-}
-
-fn entry(list: &[u16], i: usize, shown: bool) {
-    if shown {
-        item(b" ", entry16(list, i));
     }
 }
 
@@ -67,7 +44,7 @@ pub fn transitions(
     let mut i = 0;
     while i < n {
         let g = entry8(counts, i) as usize;
-        if is_shown(i, n) {
+        if is_shown(i, n, 4) {
             head(i, sources, targets, events, starts);
             tests(at, g, timers, codes, constants);
         }
@@ -103,30 +80,5 @@ fn test(i: usize, timers: &[u8], codes: &[u8], constants: &[u16]) {
 // The line of a file of n bytes at the front of a lent buffer.
 pub fn file(out: &[u8], n: usize) {
     item(b"written ", n as u64);
-    text(b" ");
-    bytes(out, first_shown(n), n);
-    text(b" next ");
-    next(out, n);
-    text(b"\n");
-}
-
-fn first_shown(n: usize) -> usize {
-    if n <= 64 { 0 } else { n - 8 }
-}
-
-fn bytes(out: &[u8], from: usize, to: usize) {
-    let mut i = from;
-    while i < to {
-        io::print_hex(1, entry8(out, i), 2);
-        i += 1;
-    }
-}
-
-// The byte after the file, if there is one.
-fn next(out: &[u8], n: usize) {
-    if n < out.len() {
-        io::print_hex(1, entry8(out, n), 2);
-    } else {
-        text(b"--");
-    }
+    content(out, n);
 }

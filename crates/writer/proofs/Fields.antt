@@ -1,17 +1,18 @@
 -- The bytes of numbers, tests and started timers, item by item. Assumes nothing.
-use mathlib.Core.Path.{_≡_, refl, sym, _∙_}
-use mathlib.Core.Bool.{true, false}
-use mathlib.Core.List.{List, [], _∷_, _++_, append-assoc, append-nil}
-use Prim.Native.Nat.{ℕ, zero, suc, _+_, _*_}
+use mathlib.Core.Path.{_≡_, ap}
+use mathlib.Core.List.{List, _++_, append-assoc}
+use Prim.Native.Nat.{ℕ, _+_, _*_}
 use native.Mathlib.Omega.{arith}
-use lib.ListN.{length, length-append}
-use Rattle.lists.specs.Lists.{gather, pick}
-use Rattle.timer_set.specs.Members.{member, members}
+use lib.ListN.{length, getD, length-append}
+use Rattle.lists.specs.Lists.{gather}
+use Rattle.timer_set.specs.Members.{members}
 use Rattle.file_format.specs.Parse.{digits, writeAll}
 use Rattle.file_format.specs.Body.{recordLength}
-use Rattle.file_format.proofs.Lengths.{length-digits, all-append, length-numbers}
+use Rattle.file_format.proofs.Lengths.{length-digits, length-numbers}
 use Rattle.chart_lists.specs.Lists.{Lists}
 use Rattle.writer.specs.Bytes.{testBytes, testAt, testsBytes, headBytes, recordBytes}
+use Rattle.writer.proofs.Entries.{nth-is}
+use Rattle.writer.proofs.Writes.{gather-all}
 
 pub length-test : (timer code constant : ℕ) → length (testBytes timer code constant) ≡ 4
 unfolding testBytes
@@ -23,26 +24,8 @@ length-testAt l k = length-test _ _ _
 
 -- ---- started timers
 
--- the byte of timer j where it is in the set, else none
-unfoldable pub startItem : (w j : ℕ) → List ℕ
-startItem w j = writeAll (digits 1) (elim (member w j) [ true ↦ j ∷ [] | false ↦ [] ])
-
-pub start-in : (w j : ℕ) → member w j ≡ true → startItem w j ≡ digits 1 j
-unfolding startItem writeAll
-start-in w j e = rw e (append-nil (digits 1 j))
-
-pub start-out : (w j : ℕ) → member w j ≡ false → startItem w j ≡ []
-unfolding startItem writeAll
-start-out w j e = rw e
-
-all-gather : {A : Type 0} (w : A → List ℕ) (f : ℕ → List A) (n : ℕ) → writeAll w (gather f n) ≡ gather (λ i. writeAll w (f i)) n
-unfolding gather writeAll
-all-gather w f zero = refl
-all-gather w f (suc n) = all-append w (gather f n) (f n) ∙ rw (all-gather w f n)
-
-pub starts-bytes : (w : ℕ) → gather (startItem w) 64 ≡ writeAll (digits 1) (members w)
-unfolding members pick startItem
-starts-bytes w = sym (all-gather (digits 1) (λ i. elim (member w i) [ true ↦ i ∷ [] | false ↦ [] ]) 64)
+pub starts-bytes : (w : ℕ) → gather (λ i. digits 1 (getD (members w) i 0)) (length (members w)) ≡ writeAll (digits 1) (members w)
+starts-bytes w = gather-all (digits 1) (members w) _ (λ i j e. ap (digits 1) (nth-is (members w) i e))
 
 pub length-starts : (w : ℕ) → length (writeAll (digits 1) (members w)) ≡ length (members w)
 length-starts w = omega (arith, length-numbers 1 (members w))

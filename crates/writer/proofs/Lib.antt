@@ -6,7 +6,7 @@ pub mod Limits
 pub mod Judging
 pub mod Turns
 pub mod Handed
-pub mod Part
+pub mod Stores
 pub mod Writes
 pub mod Fields
 pub mod Records

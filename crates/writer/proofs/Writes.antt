@@ -14,7 +14,7 @@ use Rattle.lists.proofs.Bools.{lt-or-le}
 use Rattle.file_format.specs.Parse.{writeAll}
 use Rattle.chart_lists.specs.Lists.{put}
 use Rattle.chart_lists.proofs.Put.{put-nil}
-use Rattle.writer.proofs.Part.{put-part}
+use Rattle.chart_lists.proofs.Part.{put-part}
 
 module _ (item : ℕ → List ℕ) where
   pub gather-more : (k : ℕ) → gather item (k + 1) ≡ gather item k ++ item k
@@ -50,12 +50,6 @@ module _ {item : ℕ → List ℕ} {n : ℕ} {l out : List ℕ} {at k : ℕ} (h 
   module _ (m : k < n) where
     pub wrote-room : length (gather item n) ≤ length l → at + length (item k) ≤ length out
     wrote-room r = omega (arith, h .place, h .long, gather-mono item (k + 1) n (omega arith), ap length (gather-more item k) ∙ length-append (gather item k) (item k))
-
-    -- an item of no bytes
-    pub wrote-none : item k ≡ [] → Wrote item n l out at (k + 1)
-    wrote-none e =
-        let g : gather item (k + 1) ≡ gather item k = gather-more item k ∙ rw e (append-nil (gather item k)) in
-        record { most = omega arith; place = rw g (h .place); long = h .long; is = rw g (h .is) }
 
     pub wrote-again : {xs last : List ℕ} {at′ : ℕ} → item k ≡ xs → last ≡ put xs (midOf at (length out - at) out)
         → length last ≡ length (midOf at (length out - at) out) → at′ ≡ at + length xs → Wrote item n l (putMid at (length out - at) out last) at′ (k + 1)

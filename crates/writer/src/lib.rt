@@ -476,20 +476,18 @@ fn put_tests<'a>(
     }
 }
 
-// The timers of a set, rising.
+// The timers of a set, rising: the lowest that is left, one a turn.
 fn put_starts(out: &mut [u8], set: TimerSet)
     requires { ⌜ length (members (set .bits)) ≤ length (now out) ⌝ }
     ensures { λ _. ⌜ now (out .exit) ≡ put (writeAll (digits 1) (members (set .bits))) (now (out .entry)) ⌝ }
 {
     let mut at: usize = 0;
-    let mut j: u8 = 0;
-    while j < 64 {
-        let here = j;
-        j += 1;
-        if set.has(here) {
-            put_byte(&mut out[at..], here);
-            at += 1;
-        }
+    let mut left = set;
+    while !left.is_empty() {
+        let j = left.lowest() as u8;
+        put_byte(&mut out[at..], j);
+        at += 1;
+        left = left.without_lowest();
     }
 }
 

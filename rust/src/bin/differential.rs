@@ -230,8 +230,8 @@ impl Trial {
                 accepted(random, &Shape { locations, starting, ..Shape::SMALL_FAMILIES })
             }
             92..=95 => {
-                let levels = random.between(2, 16);
-                many_numbers(levels as u16, random.between(1, (8 * levels - 8).min(32)) as u8)
+                let levels = random.between(3, 17);
+                many_numbers(levels as u16, random.between(1, (8 * levels - 16).min(32)) as u8)
             }
             _ => sixty_five_numbers(random.between(1, 63) as u8),
         };

@@ -197,7 +197,7 @@ fn main() {
     for (name, drawing) in &charts {
         describe(name, drawing);
     }
-    let many = many_numbers(16, 32);
+    let many = many_numbers(17, 32);
     describe("most numbers", &many);
 
     heading("The calls, each from the file's bytes");

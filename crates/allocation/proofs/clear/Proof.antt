@@ -4,7 +4,7 @@ use mathlib.Core.Path.{_≡_, refl}
 use Prim.Native.Nat.{ℕ, _-_, _≤_, _<_}
 use native.Mathlib.Omega.{arith}
 use lib.ListN.{length, getD, length-set}
-use Rattle.allocation.proofs.Filling.{filled-more}
+use Rattle.lists.proofs.Nth.{filled-more}
 use Rattle.allocation.proofs.clear.Statement.{statement}
 use Rattle.allocation.proofs.clear.Tie as tie
 

@@ -1,9 +1,9 @@
 -- `give` meets its contract: the rows of the family's locations below s are done. Assumes nothing.
 use borrow.Author.Needs.{needs}
-use mathlib.Core.Path.{_≡_, refl, sym, ap, _∙_}
-use Prim.Native.Nat.{ℕ, _+_, _*_, _-_, _≤_, _<_}
+use mathlib.Core.Path.{_≡_, refl, sym, _∙_}
+use Prim.Native.Nat.{_+_, _*_, _-_, _≤_, _<_}
 use native.Mathlib.Omega.{arith}
-use lib.ListN.{length, getD, length-set}
+use lib.ListN.{length, length-set}
 use Rattle.allocation.specs.Numbering.{given, Within}
 use Rattle.allocation.proofs.Filling.{Rows, rows-none, rows-no, rows-yes, rows-all}
 use Rattle.allocation.proofs.give.Statement.{statement}

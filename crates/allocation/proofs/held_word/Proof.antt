@@ -1,13 +1,13 @@
 -- `held_word` meets its contract: the locations of the family below s are looked at. Assumes nothing.
 use borrow.Author.Needs.{needs}
-use mathlib.Core.Path.{_≡_, refl, sym, ap, _∙_}
-use Prim.Native.Nat.{ℕ, _+_, _*_, _-_, _≤_, _<_}
+use mathlib.Core.Path.{_≡_, sym, ap, _∙_}
+use Prim.Native.Nat.{ℕ, _-_, _≤_, _<_}
 use native.Mathlib.Omega.{arith}
-use lib.ListN.{length, getD, length-set}
+use lib.ListN.{length}
 use mathlib.Core.Bool.{Bool, _||_}
 use Rattle.timer_set.specs.Members.{member}
 use Rattle.timer_set.proofs.Members.{member-empty, member-joined}
-use Rattle.allocation.specs.Numbering.{inFamily, inWord, someIn, Within}
+use Rattle.allocation.specs.Numbering.{inWord, someIn, Within}
 use Rattle.allocation.proofs.Below.{some-none, some-yes, some-no, some-all}
 use Rattle.allocation.proofs.held_word.Statement.{statement}
 use Rattle.allocation.proofs.held_word.Tie as tie

@@ -1,11 +1,11 @@
 -- `join_sets` meets its contract: the sets below s are joined, and the others are as they were. Assumes nothing.
 use borrow.Author.Needs.{needs}
 use mathlib.Core.Path.{_≡_, refl, sym, ap, _∙_, subst}
-use Prim.Native.Nat.{ℕ, _+_, _*_, _-_, _≤_, _<_}
+use Prim.Native.Nat.{ℕ, _+_, _-_, _≤_, _<_}
 use native.Mathlib.Omega.{arith}
 use lib.ListN.{length, getD, set, length-set}
 use lib.Seq.{getD-set-other}
-use Rattle.allocation.proofs.Filling.{filled-more}
+use Rattle.lists.proofs.Nth.{filled-more}
 use Rattle.timer_set.specs.Members.{joined}
 use Rattle.allocation.proofs.join_sets.Statement.{statement}
 use Rattle.allocation.proofs.join_sets.Tie as tie

@@ -5,14 +5,14 @@ use mathlib.Core.Bool.{Bool, true}
 use Prim.Native.Nat.{ℕ, _*_, _-_, _≤_, _<_}
 use native.Mathlib.Omega.{arith}
 use lib.ListN.{length}
-use Rattle.allocation.specs.Numbering.{Lengths, Mirrors, Within, taken}
+use Rattle.allocation.specs.Numbering.{Lengths, WordsAgree, Within, taken}
 use Rattle.allocation.proofs.Rows.{word-found, word-full, all-full}
 use Rattle.allocation.proofs.lowest_free.Statement.{statement}
 use Rattle.allocation.proofs.lowest_free.Tie as tie
 
 abbrev Inv-loop : tie.InvT-loop
 Inv-loop sets numbers held from end j w₀ w =
-    (w ≤ 256) × (Lengths sets numbers held × Mirrors numbers held (length sets) × Within sets j from end)
+    (w ≤ 256) × (Lengths sets numbers held × WordsAgree numbers held (length sets) × Within sets j from end)
     × ((k : ℕ) → k < 64 * w → taken sets numbers j k ≡ true)
 
 abbrev μ-loop : tie.MeasureT-loop

@@ -2,15 +2,15 @@
 use borrow.Author.Needs.{needs}
 use mathlib.Core.Path.{_≡_, sym, _∙_, subst}
 use mathlib.Core.List.{List}
-use Prim.Native.Nat.{ℕ, _+_, _*_, _-_, _≤_, _<_}
+use Prim.Native.Nat.{ℕ, _*_, _-_, _≤_}
 use native.Mathlib.Omega.{arith}
 use lib.ListN.{length}
 use Rattle.lists.proofs.Bools.{same-number, not-false}
 use Rattle.model.specs.Family.{Pairs}
-use Rattle.families.specs.Spreading.{Ends, Spread}
-use Rattle.allocation.specs.Numbering.{Lengths, Mirrors, NumberedTo, Described, SomePairs, PlacedTo}
+use Rattle.families.specs.Propagation.{Ends, Propagated}
+use Rattle.allocation.specs.Numbering.{WordsAgree, NumberedTo, Described, SomePairs, PlacedTo}
 use Rattle.allocation.proofs.Placing.{numbered-none}
-use Rattle.allocation.proofs.Words.{mirrors-none}
+use Rattle.allocation.proofs.Words.{words-none}
 use Rattle.allocation.proofs.Locations.{placed-none, numbered-skip, placed-skip, begun-here, begun-ready, placed-more}
 use Rattle.allocation.proofs.number_locations.Statement.{statement}
 use Rattle.allocation.proofs.number_locations.Tie as tie
@@ -19,34 +19,34 @@ abbrev Inv-loop : tie.InvT-loop
 Inv-loop ones others linked live sets₀ placed₀ numbers₀ held₀ n used₀ q₀ sets placed numbers held used q =
     (q ≤ length live) × SomePairs live ones others linked × Ends (length live) ones others linked
     × ((length sets ≡ length live) × (length placed ≡ length live) × (length numbers ≡ 64 * length live) × (length held ≡ 2048))
-    × Mirrors numbers held (length live)
+    × WordsAgree numbers held (length live)
     × ((p : Pairs) → Described p live ones others linked → NumberedTo p (64 * q) numbers used × PlacedTo p q placed)
 
 abbrev μ-loop : tie.MeasureT-loop
 μ-loop ones others linked live sets₀ placed₀ numbers₀ held₀ n used₀ q₀ sets placed numbers held used q = length live - q
 
--- the sets that have spread, from what begins at the location at hand
-abbrev turn : tie.After-spread Inv-loop μ-loop → tie.At-loop Inv-loop μ-loop
+-- the sets that have propagated, from what begins at the location at hand
+abbrev turn : tie.After-propagate Inv-loop μ-loop → tie.At-loop Inv-loop μ-loop
 turn c = c .before .before .before .before .before .before .before .before
 
 abbrev start : tie.At-loop Inv-loop μ-loop → tie.Start Inv-loop μ-loop
 start c = c .before .before .before .before .before .before .before .before .before
 
-abbrev found : tie.After-spread Inv-loop μ-loop → List ℕ
-found c = c .spread .last .1 .1 .1 .1 .1 .0
+abbrev found : tie.After-propagate Inv-loop μ-loop → List ℕ
+found c = c .propagate .last .1 .1 .1 .1 .1 .0
 
-abbrev begun : tie.After-spread Inv-loop μ-loop → ℕ
+abbrev begun : tie.After-propagate Inv-loop μ-loop → ℕ
 begun c = c .before .before .before .before .minus .result .bits
 
-found-long : (c : tie.After-spread Inv-loop μ-loop) → length (found c) ≡ length (start (turn c) .args .live .now)
-found-long c = c .spread .kept .1 .1 .1 .1 .1 .0 ∙ turn c .loop .inv .3 .0
+found-long : (c : tie.After-propagate Inv-loop μ-loop) → length (found c) ≡ length (start (turn c) .args .live .now)
+found-long c = c .propagate .kept .1 .1 .1 .1 .1 .0 ∙ turn c .loop .inv .3 .0
 
 -- what is known of it for the pairs p
-abbrev Of : tie.After-spread Inv-loop μ-loop → Pairs → Type 0
+abbrev Of : tie.After-propagate Inv-loop μ-loop → Pairs → Type 0
 Of c p = let a = start (turn c) .args in Described p (a .live .now) (a .ones .now) (a .others .now) (a .linked .now)
 
-spread-of : (c : tie.After-spread Inv-loop μ-loop) (p : Pairs) → Of c p → Spread p (turn c .loop .q) (begun c) (found c)
-spread-of c p d = c .spread .ensures p (d .formed) (d .locations-are ∙ sym (turn c .loop .inv .3 .0)) (d .links-are)
+propagated-of : (c : tie.After-propagate Inv-loop μ-loop) (p : Pairs) → Of c p → Propagated p (turn c .loop .q) (begun c) (found c)
+propagated-of c p d = c .propagate .ensures p (d .formed) (d .locations-are ∙ sym (turn c .loop .inv .3 .0)) (d .links-are)
 
 loop-holds : tie.Need-loop-holds Inv-loop μ-loop
 loop-holds c =
@@ -56,8 +56,8 @@ loop-holds c =
       s .pre .0,
       s .pre .1,
       (f .sets-long, f .placed-long, f .numbers-long, f .held-long),
-      mirrors-none _ _ _ (f .none-held) (f .all-blank),
-      λ p d. (numbered-none p _ (omega (arith, f .numbers-long, d .locations-are)) (λ x h. f .all-blank x (omega (arith, d .locations-are))), placed-none (f .none-placed)),
+      words-none _ _ _ (f .none-held) (f .none-numbered),
+      λ p d. (numbered-none p _ (omega (arith, f .numbers-long, d .locations-are)) (λ x h. f .none-numbered x (omega (arith, d .locations-are))), placed-none (f .none-placed)),
     )
 
 mul-t18 : tie.Need-mul-t18 Inv-loop μ-loop
@@ -81,8 +81,8 @@ add-q c = search needs
 is-empty-requires : tie.Need-is-empty-requires Inv-loop μ-loop
 is-empty-requires c κs = search needs
 
-spread-requires : tie.Need-spread-requires Inv-loop μ-loop
-spread-requires c κs = let l = c .before .before .before .before .before .before .before .loop in let a = c .before .before .before .before .before .before .before .before .before .before .before .before .before .before .before .before .args in
+propagate-requires : tie.Need-propagate-requires Inv-loop μ-loop
+propagate-requires c κs = let l = c .before .before .before .before .before .before .before .loop in let a = c .before .before .before .before .before .before .before .before .before .before .before .before .before .before .before .before .args in
     (subst (λ (n : ℕ). Ends n (a .ones .now) (a .others .now) (a .linked .now)) (sym (l .inv .3 .0)) (l .inv .2), omega (arith, l .inv .3 .0))
 
 end-of-requires : tie.Need-end-of-requires Inv-loop μ-loop
@@ -94,10 +94,10 @@ place-begun-requires c κs =
     let l = turn x .loop in
     let some = l .inv .1 in
     let n = l .inv .5 (some .pairs) (some .are) in
-    begun-ready (some .are) (l .q) (omega arith) (n .1) (begun x) (x .before .before .before .before .minus .ensures) (found x) (found-long x) (spread-of x (some .pairs) (some .are))
+    begun-ready (some .are) (l .q) (omega arith) (n .1) (begun x) (x .before .before .before .before .minus .ensures) (found x) (found-long x) (propagated-of x (some .pairs) (some .are))
     (l .numbers) (l .held) (l .used) (c .before .before .before .end-of .result) (n .0)
     (record { few-locations = omega (arith, found-long x, l .inv .2 .few-locations); numbers-long = omega (arith, found-long x, l .inv .3 .2); held-long = l .inv .3 .3 })
-    (subst (Mirrors (l .numbers) (l .held)) (sym (found-long x)) (l .inv .4)) (c .before .before .before .end-of .ensures)
+    (subst (WordsAgree (l .numbers) (l .held)) (sym (found-long x)) (l .inv .4)) (c .before .before .before .end-of .ensures)
 
 join-sets-requires : tie.Need-join-sets-requires Inv-loop μ-loop
 join-sets-requires c κs = search needs
@@ -116,9 +116,9 @@ loop-again c =
       l .inv .1,
       l .inv .2,
       (found-long x, wide, f .kept .1 .1 .1 .1 .0 ∙ l .inv .3 .2, f .kept .1 .1 .1 .1 .1 .0 ∙ l .inv .3 .3),
-      subst (Mirrors (f .last .1 .1 .1 .1 .0) (f .last .1 .1 .1 .1 .1 .0)) (found-long x) (f .ensures .0),
+      subst (WordsAgree (f .last .1 .1 .1 .1 .0) (f .last .1 .1 .1 .1 .1 .0)) (found-long x) (f .ensures .0),
       λ p d. let n = l .inv .5 p d in
-          let s = spread-of x p d in
+          let s = propagated-of x p d in
           let m = x .before .before .before .before .minus .ensures in (
             subst (λ (y : ℕ). NumberedTo p y (f .last .1 .1 .1 .1 .0) (f .result)) (omega arith)
                 (f .ensures .1 p (l .q) (begun-here d (l .q) (omega arith) (n .1) (begun x) m (found x) (found-long x) s) (n .0)),
@@ -174,7 +174,7 @@ number-locations-spec =
     minus-requires
     add-q
     is-empty-requires
-    spread-requires
+    propagate-requires
     end-of-requires
     place-begun-requires
     join-sets-requires

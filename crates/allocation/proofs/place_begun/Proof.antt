@@ -7,15 +7,15 @@ use native.Mathlib.Omega.{arith}
 use lib.ListN.{length}
 use Rattle.timer_set.specs.Members.{member}
 use Rattle.model.specs.Family.{Pairs}
-use Rattle.allocation.specs.Numbering.{Lengths, Mirrors, Within, Blank, NumberedTo, Begun}
-use Rattle.allocation.proofs.InTurn.{blank-kept, turn-no, turn-yes}
+use Rattle.allocation.specs.Numbering.{Lengths, WordsAgree, Within, Unnumbered, NumberedTo, Begun}
+use Rattle.allocation.proofs.InTurn.{unnumbered-kept, turn-no, turn-yes}
 use Rattle.allocation.proofs.place_begun.Statement.{statement}
 use Rattle.allocation.proofs.place_begun.Tie as tie
 
 abbrev Inv-loop : tie.InvT-loop
 Inv-loop sets begun from end numbers₀ held₀ used most₀ j₀ numbers held most j =
-    (j ≤ 64) × Lengths sets numbers held × Mirrors numbers held (length sets) × ((i : ℕ) → member (begun .bits) i ≡ true → Within sets i from end)
-    × ((i : ℕ) → j ≤ i → i < 64 → member (begun .bits) i ≡ true → Blank sets i numbers)
+    (j ≤ 64) × Lengths sets numbers held × WordsAgree numbers held (length sets) × ((i : ℕ) → member (begun .bits) i ≡ true → Within sets i from end)
+    × ((i : ℕ) → j ≤ i → i < 64 → member (begun .bits) i ≡ true → Unnumbered sets i numbers)
     × ((p : Pairs) (q : ℕ) → Begun p q (begun .bits) sets → NumberedTo p (64 * q) numbers₀ used → NumberedTo p (64 * q + j) numbers most)
 
 abbrev μ-loop : tie.MeasureT-loop
@@ -24,7 +24,7 @@ abbrev μ-loop : tie.MeasureT-loop
 loop-holds : tie.Need-loop-holds Inv-loop μ-loop
 loop-holds c = let r = c .before .before .before .pre in
     let a = c .before .before .before .args in
-    (omega arith, r .lengths, r .mirrors, r .within, λ i h k m. r .blank i m, λ p q g so. subst (λ (x : ℕ). NumberedTo p x (a .numbers .now) (a .used)) (omega arith) so)
+    (omega arith, r .lengths, r .words-agree, r .within, λ i h k m. r .unnumbered i m, λ p q g so. subst (λ (x : ℕ). NumberedTo p x (a .numbers .now) (a .used)) (omega arith) so)
 
 add-j : tie.Need-add-j Inv-loop μ-loop
 add-j c = search needs
@@ -62,7 +62,7 @@ loop-again c =
       record { few-locations = l .inv .1 .few-locations; numbers-long = long; held-long = f .kept .1 .1 .1 .1 .1 .0 ∙ l .inv .1 .held-long },
       f .ensures .1 .1,
       l .inv .3,
-      λ i h k n. blank-kept (a .sets .now) (l .j) (f .result) (l .numbers) after (f .ensures .1 .0) i k (λ e. omega arith) (l .inv .4 i (omega arith) k n),
+      λ i h k n. unnumbered-kept (a .sets .now) (l .j) (f .result) (l .numbers) after (f .ensures .1 .0) i k (λ e. omega arith) (l .inv .4 i (omega arith) k n),
       λ p q g so. subst (NumberedTo p _ after) (sym (c .larger .ensures))
           (turn-yes g (l .j) (omega arith) (l .numbers) (l .most) (l .inv .5 p q g so) m (l .inv .1 .few-locations) (f .result) (f .ensures .0) after long (f .ensures .1 .0)),
     )

@@ -4,7 +4,8 @@ use mathlib.Core.Path.{_≡_, refl}
 use Prim.Native.Nat.{ℕ, _-_, _≤_, _<_}
 use native.Mathlib.Omega.{arith}
 use lib.ListN.{length, getD, length-set}
-use Rattle.families.proofs.Growth.{cleared-more, cleared-all}
+use Rattle.lists.proofs.Nth.{filled-more}
+use Rattle.lists.proofs.Zeros.{all-zero}
 use Rattle.families.proofs.clear.Statement.{statement}
 use Rattle.families.proofs.clear.Tie as tie
 
@@ -35,14 +36,14 @@ loop-again c =
       omega arith,
       l .inv .1,
       simp length-set (l .inv .2),
-      cleared-more (l .sets) (l .s) (omega arith) (l .inv .3),
+      filled-more (λ _. 0) (l .sets) (l .s) (omega arith) (l .inv .3),
     )
 
 same-length : tie.Need-same-length Inv-loop μ-loop
 same-length c = c .before .loop .inv .2
 
 returns : tie.Need-returns Inv-loop μ-loop
-returns c = let l = c .before .loop in cleared-all (l .sets) (l .s) (omega arith) (l .inv .3)
+returns c = let l = c .before .loop in all-zero (l .sets) (l .s) (omega arith) (l .inv .3)
 
 pub clear-spec : {M : Type 1} → statement M
 clear-spec =

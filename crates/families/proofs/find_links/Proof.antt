@@ -1,12 +1,12 @@
 -- `find_links` meets its contract: the links with timers of the first i transitions are stored. Assumes nothing.
 use borrow.Author.Needs.{needs}
-use mathlib.Core.Path.{_≡_, refl, sym, _∙_}
+use mathlib.Core.Path.{_≡_, refl, _∙_}
 use mathlib.Core.List.{List}
 use Prim.Native.Nat.{ℕ, _-_, _≤_, _<_}
 use native.Mathlib.Omega.{arith}
 use lib.ListN.{length, getD}
 use Rattle.families.specs.Pairs.{linkAt}
-use Rattle.families.specs.Spreading.{linkOn}
+use Rattle.families.specs.Propagation.{linkOn}
 use Rattle.families.proofs.LinkFinding.{Found, found-none, lists-skip, lists-more, found-links, found-ends}
 use Rattle.families.proofs.find_links.Statement.{statement}
 use Rattle.families.proofs.find_links.Tie as tie

@@ -3,7 +3,7 @@ use borrow.Author.Needs.{needs}
 use mathlib.Core.Path.{sym, _∙_}
 use borrow.Author.Tests.{eqb-true, eq-eqb}
 use Rattle.lists.proofs.Bools.{not-both}
-use Rattle.families.specs.Spreading.{joinAlong}
+use Rattle.families.specs.Propagation.{joinAlong}
 use Rattle.families.proofs.Growth.{lacked-is, ends-same, ends-grew}
 use Rattle.families.proofs.join_ends.Statement.{statement}
 use Rattle.families.proofs.join_ends.Tie as tie

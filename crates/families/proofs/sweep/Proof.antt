@@ -5,7 +5,7 @@ use mathlib.Core.List.{List}
 use Prim.Native.Nat.{ℕ, _-_, _≤_, _<_}
 use native.Mathlib.Omega.{arith}
 use lib.ListN.{length, getD}
-use Rattle.families.specs.Spreading.{Swept}
+use Rattle.families.specs.Propagation.{Swept}
 use Rattle.families.proofs.Sweeps.{swept-none, swept-same, swept-grew, swept-end}
 use Rattle.families.proofs.sweep.Statement.{statement}
 use Rattle.families.proofs.sweep.Tie as tie

@@ -5,7 +5,6 @@ use Prim.Native.Nat.{ℕ, _+_, _*_, _-_, _≤_}
 use native.Mathlib.Omega.{arith}
 use lib.ListN.{length, length-replicate}
 use borrow.Author.Count.{below-none}
-use borrow.Author.Needs.{needs}
 use Rattle.model.specs.Flow.{Flow, roundsOf}
 use Rattle.model.proofs.Flow.{Shaped}
 use Rattle.model.proofs.Settled.{Changes}

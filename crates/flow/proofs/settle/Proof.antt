@@ -4,7 +4,7 @@ use Prim.Native.Nat.{ℕ}
 use lib.ListN.{length, take, replicate}
 use lib.Seq.{length-take-le}
 use borrow.Author.Needs.{needs}
-use Rattle.flow.proofs.Turns.{take-empty}
+use Rattle.lists.proofs.Zeros.{take-zeros}
 use Rattle.flow.proofs.settle.Statement.{statement}
 use Rattle.flow.proofs.settle.Tie as tie
 
@@ -29,7 +29,7 @@ slice-aggregate-alternate c = sym (front-length (c .before .before .before .befo
 
 alternate-requires : tie.Need-alternate-requires
 alternate-requires c κs = let s = c .before .before .before .before .before .before .before .before .before .before .before .before .before in
-    (s .pre .0, (c .before .before .before .before .copy .ensures ∙ take-empty _ 256 (s .pre .0 .locations), front-length s))
+    (s .pre .0, (c .before .before .before .before .copy .ensures ∙ take-zeros _ 256 (s .pre .0 .locations), front-length s))
 
 same-length : tie.Need-same-length
 same-length c = search needs

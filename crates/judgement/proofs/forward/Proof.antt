@@ -1,4 +1,4 @@
--- `forward` lends the rounds nothing gained, and all timers at the initial location. Assumes nothing.
+-- `forward` lends the sweeps nothing gained, and all timers at the initial location. Assumes nothing.
 use mathlib.Core.Path.{sym}
 use native.Mathlib.Omega.{arith}
 use Rattle.judgement.proofs.OwnSets.{own-room, few-locations, own-length, front-matching, front-flow}
@@ -15,17 +15,17 @@ array-write-own c = omega (arith, few-locations (c .before .before .before .befo
 array-share-prefix-own : tie.Need-array-share-prefix-own
 array-share-prefix-own c = own-room (c .before .before .before .before .before .pre .0)
 
-slice-aggregate-settle : tie.Need-slice-aggregate-settle
-slice-aggregate-settle c = sym (own-length (c .before .before .before .before .before .before .pre .0))
+slice-aggregate-settle-in-place : tie.Need-slice-aggregate-settle-in-place
+slice-aggregate-settle-in-place c = sym (own-length (c .before .before .before .before .before .before .pre .0))
 
-settle-requires : tie.Need-settle-requires
-settle-requires c κs = let p = c .before .before .before .before .before .before .before .pre in (front-matching (p .0) (p .1), sym (own-length (p .0)))
+settle-in-place-requires : tie.Need-settle-in-place-requires
+settle-in-place-requires c κs = let p = c .before .before .before .before .before .before .before .pre in (front-matching (p .0) (p .1), sym (own-length (p .0)))
 
 same-length : tie.Need-same-length
 same-length c = search needs
 
 returns : tie.Need-returns
-returns c = let p = c .before .before .before .before .before .before .before .before .before .before .pre in front-flow (p .0) (p .1) (c .before .before .settle .ensures .0)
+returns c = let p = c .before .before .before .before .before .before .before .before .before .before .pre in front-flow (p .0) (p .1) (c .before .before .settle-in-place .ensures)
 
 pub forward-spec : {M : Type 1} → statement M
 forward-spec =
@@ -34,7 +34,7 @@ forward-spec =
     mul-own
     array-write-own
     array-share-prefix-own
-    slice-aggregate-settle
-    settle-requires
+    slice-aggregate-settle-in-place
+    settle-in-place-requires
     same-length
     returns)

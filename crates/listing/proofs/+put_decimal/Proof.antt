@@ -1,6 +1,6 @@
 -- `put_decimal`: the digits before the last are those of a tenth of the number. The measure is the number. Assumes nothing.
 use mathlib.Core.Path.{_≡_, refl, sym, ap, _∙_}
-use mathlib.Core.List.{List, [], _∷_, _++_}
+use mathlib.Core.List.{List, [], _∷_}
 use Prim.Native.Nat.{ℕ, _+_, _-_, _/_, _%_, _^_, _≤_, _<_}
 use native.Mathlib.Omega.{arith}
 use lib.ListN.{length, set, length-set, length-append}
@@ -8,7 +8,6 @@ use denote.Ref.{now}
 use borrow.Author.Needs.{needs}
 use borrow.Fn.Kinds.{In}
 use borrow.Fn.PlainCycle.{Measures, is, falls, and}
-use Rattle.chart_lists.specs.Lists.{put}
 use Rattle.chart_lists.proofs.Put.{put-nil, put-last}
 use Rattle.listing.specs.Text.{decimal}
 use Rattle.listing.specs.Cells.{Written}

@@ -1,7 +1,7 @@
 -- `list`: the text is made in a local buffer; 21 if it does not fit the lent one, else it is copied over its front. Assumes nothing.
 use mathlib.Core.Path.{sym, ap, _∙_}
 use mathlib.Core.List.{List}
-use Prim.Native.Nat.{ℕ, _≤_}
+use Prim.Native.Nat.{ℕ}
 use native.Mathlib.Omega.{arith}
 use lib.ListN.{length}
 use Rattle.chart_lists.specs.Lists.{put}

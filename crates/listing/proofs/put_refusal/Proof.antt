@@ -3,7 +3,7 @@ use Prim.Native.Nat.{_+_}
 use native.Mathlib.Omega.{arith}
 use lib.ListN.{length}
 use Rattle.listing.specs.Text.{decimal, refusedWord}
-use Rattle.writer.proofs.Part.{mid-room}
+use Rattle.chart_lists.proofs.Part.{mid-room}
 use Rattle.listing.proofs.Written.{written-next, written-byte, written-as, written-long, written-below, refused-parts, refused-length}
 use borrow.Author.Needs.{needs}
 use Rattle.listing.proofs.put_refusal.Statement.{statement}

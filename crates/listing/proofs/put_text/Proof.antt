@@ -5,7 +5,7 @@ use Prim.Native.Nat.{ℕ}
 use native.Mathlib.Omega.{arith}
 use lib.ListN.{getD}
 use Rattle.listing.specs.Listing.{accepted, answerText}
-use Rattle.writer.proofs.Part.{mid-all}
+use Rattle.chart_lists.proofs.Part.{mid-all}
 use Rattle.listing.proofs.Written.{written-as}
 use Rattle.listing.proofs.Fits.{refused-fits}
 use Rattle.listing.proofs.Accepted.{text-16, text-1, text-file}

@@ -1,68 +1,75 @@
--- `renamed_set` meets its contract: the numbers of the timers below j are in the set. Assumes nothing.
-use mathlib.Core.Path.{_≡_, refl, sym, _∙_}
-use Prim.Native.Nat.{_-_, _≤_}
-use native.Mathlib.Numerals.{add-one}
+-- `renamed_set` takes the lowest timer that is left, one a turn. Assumes nothing.
+use mathlib.Core.Path.{_≡_, sym, _∙_}
+use Prim.Native.Nat.{_^_, _<_}
 use native.Mathlib.Omega.{arith}
 use borrow.Author.Needs.{needs}
-use Rattle.renaming.specs.Renaming.{renamedSet}
-use Rattle.renaming.proofs.Sets.{set-yes, set-no}
+use borrow.Author.Tests.{eqb-true, eq-eqb, not-true, not-false}
+use Rattle.lists.proofs.Bools.{not-both}
+use Rattle.timer_set.proofs.LowestMember.{lowest-below, lowest-member, without-less}
+use Rattle.timer_set.proofs.Members.{removed-lt}
+use Rattle.renaming.proofs.Sets.{RenamedTo, renamed-none, renamed-more, renamed-all}
 use Rattle.renaming.proofs.renamed_set.Statement.{statement}
 use Rattle.renaming.proofs.renamed_set.Tie as tie
 
 abbrev Inv-loop : tie.InvT-loop
-Inv-loop set numbers q renamed₀ j₀ renamed j = (j ≤ 64) × (renamed .bits ≡ renamedSet numbers q (set .bits) j)
+Inv-loop numbers q renamed₀ left₀ renamed left = (left .bits < 2 ^ 64) × RenamedTo numbers q (left₀ .bits) (left .bits) (renamed .bits)
 
 abbrev μ-loop : tie.MeasureT-loop
-μ-loop set numbers q renamed₀ j₀ renamed j = 64 - j
+μ-loop numbers q renamed₀ left₀ renamed left = left .bits
+
+-- some timer is left in a turn, and the lowest is one of the 64
+some-left : (a : tie.After-lowest Inv-loop μ-loop) → a .before .before .before .loop .left .bits ≡ 0 → ⊥
+some-left a e = not-both (a .before .before .is-empty .ensures ∙ eq-eqb _ _ e) (not-true _ (a .before .if1 .taken))
+
+below : (a : tie.After-lowest Inv-loop μ-loop) → a .lowest .result < 64
+below a = rw (a .lowest .ensures) (lowest-below _ (a .before .before .before .loop .inv .0) (some-left a))
 
 loop-holds : tie.Need-loop-holds Inv-loop μ-loop
-unfolding renamedSet
-loop-holds c = (omega arith, refl)
+loop-holds c = (omega arith, renamed-none _ _ _)
 
-add-j : tie.Need-add-j Inv-loop μ-loop
-add-j c = search needs
+is-empty-requires : tie.Need-is-empty-requires Inv-loop μ-loop
+is-empty-requires c κs = search needs
 
-has-requires : tie.Need-has-requires Inv-loop μ-loop
-has-requires c κs = search needs
+lowest-requires : tie.Need-lowest-requires Inv-loop μ-loop
+lowest-requires c κs = search needs
+
+cast-j : tie.Need-cast-j Inv-loop μ-loop
+cast-j c = search needs
 
 mul-with-number : tie.Need-mul-with-number Inv-loop μ-loop
 mul-with-number c = search needs
 
-cast-with-number : tie.Need-cast-with-number Inv-loop μ-loop
-cast-with-number c = search needs
-
 add-with-number : tie.Need-add-with-number Inv-loop μ-loop
-add-with-number c = search needs
+add-with-number c = omega (arith, below c)
 
 mul-with-number-2 : tie.Need-mul-with-number-2 Inv-loop μ-loop
-mul-with-number-2 c = search needs
+mul-with-number-2 c = omega (arith, below c)
 
 shared-slice-read-with-number : tie.Need-shared-slice-read-with-number Inv-loop μ-loop
-shared-slice-read-with-number c = search needs
+shared-slice-read-with-number c = omega (arith, below (c .before))
 
 with-number-requires : tie.Need-with-number-requires Inv-loop μ-loop
 with-number-requires c κs = search needs
 
+without-lowest-requires : tie.Need-without-lowest-requires Inv-loop μ-loop
+without-lowest-requires c κs = search needs
+
 loop-less : tie.Need-loop-less Inv-loop μ-loop
-loop-less c = search needs
+loop-less c =
+    let a = c .before .before .before in
+    rw (c .without-lowest .ensures) (without-less _ (a .before .before .before .loop .inv .0) (some-left a))
 
 loop-again : tie.Need-loop-again Inv-loop μ-loop
 loop-again c =
-    let l = c .before .before .before .before .before .loop in
-    let a = c .before .before .before .before .before .before .before .args in
-    (omega arith, rw (add-one (l .j), set-yes (a .numbers .now) (a .q) (a .set .bits) (l .j) (sym (c .before .before .before .has .ensures) ∙ c .before .before .if1 .taken), ← l .inv .1) (c .with-number .ensures))
-
-loop-less-2 : tie.Need-loop-less-2 Inv-loop μ-loop
-loop-less-2 c = search needs
-
-loop-again-2 : tie.Need-loop-again-2 Inv-loop μ-loop
-loop-again-2 c =
-    let l = c .before .before .before .loop in
-    let a = c .before .before .before .before .before .args in
-    (omega arith, rw (add-one (l .j), set-no (a .numbers .now) (a .q) (a .set .bits) (l .j) (sym (c .before .has .ensures) ∙ c .if1 .left)) (l .inv .1))
+    let a = c .before .before .before in
+    let l = a .before .before .before .loop in
+    rw (c .without-lowest .ensures, c .before .with-number .ensures, a .lowest .ensures) (
+      removed-lt 64 _ _ (l .inv .0),
+      renamed-more _ _ _ _ _ _ (lowest-below _ (l .inv .0) (some-left a)) (lowest-member _ (l .inv .0) (some-left a)) (l .inv .1),
+    )
 
 returns : tie.Need-returns Inv-loop μ-loop
-returns c = let l = c .before .loop in let e : l .j ≡ 64 = omega arith in rw e at (l .inv .1)
+returns c = let l = c .before .before .loop in renamed-all _ _ _ _ _ (eqb-true _ _ (sym (c .before .is-empty .ensures) ∙ not-false _ (c .if1 .left))) (l .inv .1)
 
 pub renamed-set-spec : {M : Type 1} → statement M
 renamed-set-spec =
@@ -71,16 +78,15 @@ renamed-set-spec =
     Inv-loop
     μ-loop
     loop-holds
-    add-j
-    has-requires
+    is-empty-requires
+    lowest-requires
+    cast-j
     mul-with-number
-    cast-with-number
     add-with-number
     mul-with-number-2
     shared-slice-read-with-number
     with-number-requires
+    without-lowest-requires
     loop-less
     loop-again
-    loop-less-2
-    loop-again-2
     returns)

@@ -4,7 +4,7 @@ use Prim.Native.Nat.{ℕ, _+_, _-_, _≤_, _<_}
 use native.Mathlib.Omega.{arith}
 use lib.ListN.{length, getD, take, length-set}
 use borrow.Author.Needs.{needs}
-use Rattle.steps.specs.InLists.{sumOf}
+use Rattle.lists.specs.Lists.{sumOf}
 use Rattle.steps.proofs.Sums.{sum-next, sum-front, sum-whole, first-stored}
 use Rattle.steps.proofs.find_firsts.Statement.{statement}
 use Rattle.steps.proofs.find_firsts.Tie as tie

@@ -5,10 +5,10 @@ use Prim.Native.Nat.{ℕ}
 use lib.ListN.{length, take}
 use lib.Seq.{length-take-le}
 use Rattle.model.specs.Run.{outcome}
-use Rattle.steps.specs.InLists.{sumOf}
 use Rattle.steps.specs.Fronts.{Fronts}
 use Rattle.steps.proofs.ChartFronts.{found-within, found-long, few-transitions, few-all, sources-long, targets-long, starts-long, tests-long, timers-long, codes-long, constants-long, fronts-in, starting-small, starting-shows}
 use borrow.Author.Needs.{needs}
+use Rattle.lists.specs.Lists.{sumOf}
 use Rattle.steps.proofs.play_steps.Statement.{statement}
 use Rattle.steps.proofs.play_steps.Tie as tie
 

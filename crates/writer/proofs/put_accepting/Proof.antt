@@ -7,7 +7,7 @@ use borrow.Author.Needs.{needs}
 use Rattle.file_format.proofs.Lengths.{length-digits}
 use Rattle.file_format.specs.Parse.{digits}
 use Rattle.writer.specs.Bytes.{numberBytes}
-use Rattle.writer.proofs.Part.{mid-room}
+use Rattle.chart_lists.proofs.Part.{mid-room}
 use Rattle.writer.proofs.Writes.{Wrote, wrote-first, wrote-done, wrote-again, even-room}
 use Rattle.writer.proofs.put_accepting.Statement.{statement}
 use Rattle.writer.proofs.put_accepting.Tie as tie

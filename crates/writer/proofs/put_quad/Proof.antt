@@ -1,7 +1,8 @@
 use lib.ListN.{length-append}
 use borrow.Author.Needs.{needs}
 use Rattle.file_format.proofs.Lengths.{length-digits}
-use Rattle.writer.proofs.Part.{laid-first, laid-next, laid-done, digits-four}
+use Rattle.chart_lists.proofs.Part.{laid-first, laid-next, laid-done}
+use Rattle.writer.proofs.Stores.{digits-four}
 use Rattle.writer.proofs.put_quad.Statement.{statement}
 use Rattle.writer.proofs.put_quad.Tie as tie
 

@@ -3,7 +3,7 @@ use lib.ListN.{length-append}
 use borrow.Author.Needs.{needs}
 use Rattle.file_format.proofs.Lengths.{length-digits}
 use Rattle.writer.specs.Bytes.{testBytes}
-use Rattle.writer.proofs.Part.{laid-first, laid-next, laid-done}
+use Rattle.chart_lists.proofs.Part.{laid-first, laid-next, laid-done}
 use Rattle.writer.proofs.put_test.Statement.{statement}
 use Rattle.writer.proofs.put_test.Tie as tie
 

@@ -7,7 +7,7 @@ use borrow.Author.Needs.{needs}
 use Rattle.writer.specs.Parts.{testLists}
 use Rattle.writer.specs.Bytes.{testAt, testsBytes}
 use Rattle.writer.proofs.Fields.{length-testAt}
-use Rattle.writer.proofs.Part.{mid-room}
+use Rattle.chart_lists.proofs.Part.{mid-room}
 use Rattle.writer.proofs.Writes.{Wrote, wrote-first, wrote-done, wrote-again, even-room}
 use Rattle.writer.proofs.put_tests.Statement.{statement}
 use Rattle.writer.proofs.put_tests.Tie as tie

@@ -1,6 +1,6 @@
 use native.Mathlib.Omega.{arith}
 use borrow.Author.Needs.{needs}
-use Rattle.writer.proofs.Part.{laid-first, laid-next, laid-done}
+use Rattle.chart_lists.proofs.Part.{laid-first, laid-next, laid-done}
 use Rattle.writer.proofs.FileBytes.{length-front, length-accepted, length-counted, judged-room, judged-parts}
 use Rattle.writer.proofs.write_file.Statement.{statement}
 use Rattle.writer.proofs.write_file.Tie as tie

@@ -5,7 +5,7 @@ use lib.ListN.{length}
 use borrow.Author.Needs.{needs}
 use Rattle.timer_set.specs.Members.{members}
 use Rattle.timer_set.proofs.Counts.{ones-members}
-use Rattle.writer.proofs.Part.{laid-first, laid-next, laid-done}
+use Rattle.chart_lists.proofs.Part.{laid-first, laid-next, laid-done}
 use Rattle.writer.proofs.Fields.{length-head, length-front, length-counted, record-parts}
 use Rattle.writer.proofs.Turns.{members-few}
 use Rattle.writer.proofs.write_record.Statement.{statement}

@@ -5,7 +5,7 @@ use denote.Ref.{now}
 use native.Mathlib.Omega.{arith}
 use borrow.Author.Needs.{needs}
 use Rattle.chart_lists.specs.Lists.{Lists, lists}
-use Rattle.writer.proofs.Part.{mid-room}
+use Rattle.chart_lists.proofs.Part.{mid-room}
 use Rattle.writer.proofs.Records.{Writing, writing-first, writing-done, Next, writing-next, writing-again}
 use Rattle.writer.proofs.write_records.Statement.{statement}
 use Rattle.writer.proofs.write_records.Tie as tie

@@ -7,46 +7,10 @@ use Rattle.vectors_file.proofs.input.fill16.Statement.{statement}
 use Rattle.vectors_file.proofs.input.fill16.Tie as tie
 
 abbrev Inv-loop : tie.InvT-loop
-Inv-loop s at list₀ n from₀ i₀ list from i = length list ≡ length list₀
+Inv-loop s at n list₀ i₀ list i = length list ≡ length list₀
 
 abbrev μ-loop : tie.MeasureT-loop
-μ-loop s at list₀ n from₀ i₀ list from i = n - i
-
-pair-requires : tie.Need-pair-requires Inv-loop μ-loop
-pair-requires c κs = search needs
-
-size16-requires : tie.Need-size16-requires Inv-loop μ-loop
-size16-requires c κs = search needs
-
-plus-requires : tie.Need-plus-requires Inv-loop μ-loop
-plus-requires c κs = search needs
-
-loop-holds : tie.Need-loop-holds Inv-loop μ-loop
-loop-holds c = search needs
-
-pair-requires-2 : tie.Need-pair-requires-2 Inv-loop μ-loop
-pair-requires-2 c κs = search needs
-
-put16-requires : tie.Need-put16-requires Inv-loop μ-loop
-put16-requires c κs = search needs
-
-plus-requires-2 : tie.Need-plus-requires-2 Inv-loop μ-loop
-plus-requires-2 c κs = search needs
-
-add-i : tie.Need-add-i Inv-loop μ-loop
-add-i c = search needs
-
-loop-less : tie.Need-loop-less Inv-loop μ-loop
-loop-less c = search needs
-
-loop-again : tie.Need-loop-again Inv-loop μ-loop
-loop-again c = search needs
-
-same-length : tie.Need-same-length Inv-loop μ-loop
-same-length c = search needs
-
-returns : tie.Need-returns Inv-loop μ-loop
-returns c = search needs
+μ-loop s at n list₀ i₀ list i = n - i
 
 pub fill16-spec : {M : Type 1} → statement M
 fill16-spec =
@@ -54,15 +18,13 @@ fill16-spec =
     (tie.spec
     Inv-loop
     μ-loop
-    pair-requires
-    size16-requires
-    plus-requires
-    loop-holds
-    pair-requires-2
-    put16-requires
-    plus-requires-2
-    add-i
-    loop-less
-    loop-again
-    same-length
-    returns)
+    (search needs)
+    (search needs)
+    (search needs)
+    (search needs)
+    (search needs)
+    (search needs)
+    (search needs)
+    (search needs)
+    (search needs)
+    (search needs))

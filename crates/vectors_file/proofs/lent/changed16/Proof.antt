@@ -11,41 +11,17 @@ Inv-loop list from sum₀ i₀ sum i = Unit {0}
 abbrev μ-loop : tie.MeasureT-loop
 μ-loop list from sum₀ i₀ sum i = length list - i
 
-loop-holds : tie.Need-loop-holds Inv-loop μ-loop
-loop-holds c = search needs
-
-entry16-requires : tie.Need-entry16-requires Inv-loop μ-loop
-entry16-requires c κs = search needs
-
-unlike-requires : tie.Need-unlike-requires Inv-loop μ-loop
-unlike-requires c κs = search needs
-
-plus-requires : tie.Need-plus-requires Inv-loop μ-loop
-plus-requires c κs = search needs
-
-add-i : tie.Need-add-i Inv-loop μ-loop
-add-i c = search needs
-
-loop-less : tie.Need-loop-less Inv-loop μ-loop
-loop-less c = search needs
-
-loop-again : tie.Need-loop-again Inv-loop μ-loop
-loop-again c = search needs
-
-returns : tie.Need-returns Inv-loop μ-loop
-returns c = search needs
-
 pub changed16-spec : {M : Type 1} → statement M
 changed16-spec =
     tie.close
     (tie.spec
     Inv-loop
     μ-loop
-    loop-holds
-    entry16-requires
-    unlike-requires
-    plus-requires
-    add-i
-    loop-less
-    loop-again
-    returns)
+    (search needs)
+    (search needs)
+    (search needs)
+    (search needs)
+    (search needs)
+    (search needs)
+    (search needs)
+    (search needs))

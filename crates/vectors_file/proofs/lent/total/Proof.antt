@@ -10,37 +10,16 @@ Inv-loop counts n sum₀ i₀ sum i = Unit {0}
 abbrev μ-loop : tie.MeasureT-loop
 μ-loop counts n sum₀ i₀ sum i = n - i
 
-loop-holds : tie.Need-loop-holds Inv-loop μ-loop
-loop-holds c = search needs
-
-entry8-requires : tie.Need-entry8-requires Inv-loop μ-loop
-entry8-requires c κs = search needs
-
-plus-requires : tie.Need-plus-requires Inv-loop μ-loop
-plus-requires c κs = search needs
-
-add-i : tie.Need-add-i Inv-loop μ-loop
-add-i c = search needs
-
-loop-less : tie.Need-loop-less Inv-loop μ-loop
-loop-less c = search needs
-
-loop-again : tie.Need-loop-again Inv-loop μ-loop
-loop-again c = search needs
-
-returns : tie.Need-returns Inv-loop μ-loop
-returns c = search needs
-
 pub total-spec : {M : Type 1} → statement M
 total-spec =
     tie.close
     (tie.spec
     Inv-loop
     μ-loop
-    loop-holds
-    entry8-requires
-    plus-requires
-    add-i
-    loop-less
-    loop-again
-    returns)
+    (search needs)
+    (search needs)
+    (search needs)
+    (search needs)
+    (search needs)
+    (search needs)
+    (search needs))

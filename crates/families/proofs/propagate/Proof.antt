@@ -1,0 +1,89 @@
+-- `propagate` meets its contract: the sets come by joins from the one set at q, and their sum grows until all links agree. Assumes nothing.
+use borrow.Author.Needs.{needs}
+use mathlib.Core.Path.{sym, _∙_}
+use Prim.Native.Nat.{ℕ, _*_, _-_, _^_, _<_}
+use native.Mathlib.Omega.{arith}
+use lib.ListN.{length, getD, length-set}
+use Rattle.lists.specs.Lists.{sumOf}
+use Rattle.families.specs.Propagation.{Ends, Joins}
+use Rattle.families.specs.Propagation.Joins.{none}
+use Rattle.families.proofs.Sweeps.{ends-long, joins-trans, joins-long, joins-small}
+use Rattle.families.proofs.Propagated.{one-small, propagated-over}
+use Rattle.families.proofs.propagate.Statement.{statement}
+use Rattle.families.proofs.propagate.Tie as tie
+
+abbrev Inv-loop : tie.InvT-loop
+Inv-loop ones others linked q sets₀ sets = Ends (length sets₀) ones others linked × ((s : ℕ) → getD sets₀ s 0 < 2 ^ 64) × Joins ones others linked sets₀ sets
+
+abbrev μ-loop : tie.MeasureT-loop
+μ-loop ones others linked q sets₀ sets = 2 ^ 64 * length sets₀ - sumOf sets
+
+abbrev start : tie.At-loop Inv-loop μ-loop → tie.Start Inv-loop μ-loop
+start l = l .before .before .before .before .before .before .before .before .before
+
+clear-requires : tie.Need-clear-requires Inv-loop μ-loop
+clear-requires c κs = search needs
+
+-- the clearing keeps the number of sets
+inside : (c : tie.After-slice-known2 Inv-loop μ-loop) → c .before .before .before .before .before .before .before .before .args .q < length (c .before .before .clear .last .0)
+inside c = omega (arith, c .before .before .before .before .before .before .before .before .pre .1, c .before .before .clear .kept .0)
+
+mul-sets : tie.Need-mul-sets Inv-loop μ-loop
+mul-sets c = let s = c .before .before .before .before .before .before .before .before in omega (arith, s .pre .1, s .pre .0 .few-locations)
+
+slice-write-sets : tie.Need-slice-write-sets Inv-loop μ-loop
+slice-write-sets c = inside c
+
+loop-holds : tie.Need-loop-holds Inv-loop μ-loop
+loop-holds c =
+    let s = c .before .before .before .before .before .before .before .before in
+    let x = c .before .before .clear in (
+      ends-long (sym (x .kept .0) ∙ sym (length-set (x .last .0) (s .args .q) (s .args .begun .bits))) (s .pre .0),
+      one-small (x .last .0) (s .args .q) (s .args .begun .bits) (inside c) (x .ensures) (search needs),
+      none,
+    )
+
+sweep-requires : tie.Need-sweep-requires Inv-loop μ-loop
+sweep-requires c κs = let i = c .before .loop .inv in ends-long (sym (joins-long _ _ _ (i .0) (i .2))) (i .0)
+
+loop-less : tie.Need-loop-less Inv-loop μ-loop
+loop-less c =
+    let l = c .before .before .before .before .before .loop in
+    let x = c .before .before .before .sweep in
+    omega (arith, x .ensures .grows (c .if1 .taken), joins-small _ _ _ (l .inv .0) (joins-trans _ _ _ (l .inv .2) (x .ensures .joins)) (l .inv .1))
+
+loop-again : tie.Need-loop-again Inv-loop μ-loop
+loop-again c =
+    let l = c .before .before .before .before .before .loop in
+    (l .inv .0, l .inv .1, joins-trans _ _ _ (l .inv .2) (c .before .before .before .sweep .ensures .joins))
+
+same-length : tie.Need-same-length Inv-loop μ-loop
+same-length c =
+    let at = c .before .before .before .before .before in
+    let x = at .before .before .before .clear in
+    joins-long _ _ _ (at .loop .inv .0) (joins-trans _ _ _ (at .loop .inv .2) (c .before .before .before .sweep .ensures .joins))
+    ∙ length-set (x .last .0) _ _ ∙ x .kept .0
+
+returns : tie.Need-returns Inv-loop μ-loop
+returns c = λ p formed long links.
+    let at = c .before .before .before .before .before in
+    let a = start at .args in
+    let x = c .before .before .before .sweep in
+    propagated-over (at .before .before .before .clear .last .0) (a .q) (a .begun .bits) (inside (at .before)) (at .before .before .before .clear .ensures)
+    (at .loop .inv .0) p links _ (joins-trans _ _ _ (at .loop .inv .2) (x .ensures .joins)) (x .ensures .same (c .if1 .left) .1)
+
+pub propagate-spec : {M : Type 1} → statement M
+propagate-spec =
+    tie.close
+    (tie.spec
+    Inv-loop
+    μ-loop
+    clear-requires
+    mul-sets
+    slice-write-sets
+    loop-holds
+    sweep-requires
+    loop-less
+    loop-again
+    same-length
+    returns)
