@@ -232,13 +232,13 @@ pub struct Families(Vec<Family>);
 
 impl Families {
     /// Goes through the locations, rising. The live timers of a location that are in no family yet begin one family
-    /// each, and these spread over their links all at once, as one word at each location.
+    /// each, and these propagate along their links all at once, as one word at each location.
     pub fn of(chart: &Chart, liveness: &Liveness) -> Self {
         let mut families = Vec::new();
-        let mut spreading = Spreading::default();
+        let mut propagation = Propagation::default();
         let mut place = [0; TIMERS];
         for (first, &live) in liveness.sets().iter().enumerate() {
-            let begun = live.minus(spreading.placed[first]);
+            let begun = live.minus(propagation.placed[first]);
             if begun.is_empty() {
                 continue;
             }
@@ -246,9 +246,9 @@ impl Families {
                 place[usize::from(timer)] = families.len();
                 families.push(Family { timer, locations: LocationSet::EMPTY });
             }
-            spreading.from(chart, liveness, first as u8, begun);
-            std::mem::take(&mut spreading.touched).iter().for_each(|location| {
-                for timer in std::mem::take(&mut spreading.members[usize::from(location)]) {
+            propagation.run(chart, liveness, first as u8, begun);
+            std::mem::take(&mut propagation.touched).iter().for_each(|location| {
+                for timer in std::mem::take(&mut propagation.members[usize::from(location)]) {
                     families[place[usize::from(timer)]].locations.add(location);
                 }
             });
@@ -293,7 +293,7 @@ impl Families {
 }
 
 /// Families of different timers that are being found, all from one first location.
-struct Spreading {
+struct Propagation {
     /// At each location the timers that are in a family by now.
     placed: ByLocation<TimerSet>,
     /// At each location the timers that are in one of the families at hand.
@@ -304,9 +304,9 @@ struct Spreading {
     pending: LocationSet,
 }
 
-impl Default for Spreading {
+impl Default for Propagation {
     fn default() -> Self {
-        Spreading {
+        Propagation {
             placed: [TimerSet::EMPTY; LOCATIONS],
             members: [TimerSet::EMPTY; LOCATIONS],
             touched: LocationSet::EMPTY,
@@ -315,9 +315,9 @@ impl Default for Spreading {
     }
 }
 
-impl Spreading {
+impl Propagation {
     /// Follows the links of `begun` from their first location.
-    fn from(&mut self, chart: &Chart, liveness: &Liveness, first: u8, begun: TimerSet) {
+    fn run(&mut self, chart: &Chart, liveness: &Liveness, first: u8, begun: TimerSet) {
         self.add(first, begun);
         while let Some(location) = self.pending.take_lowest() {
             let members = self.members[usize::from(location)];

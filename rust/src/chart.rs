@@ -9,7 +9,7 @@ use crate::limits::{MOST_LOCATIONS, MOST_STARTS, MOST_TESTS, MOST_TIMERS, MOST_T
 use crate::refusal::{Answer, Refusal};
 use crate::sets::{LocationSet, TimerSet};
 
-/// How a timer's count is held to a test's constant. The values are the file's codes.
+/// How a timer's count is compared with a test's constant. The values are the file's codes.
 #[derive(Clone, Copy, Debug, PartialEq, Eq)]
 #[repr(u8)]
 pub enum Comparison {

@@ -25,7 +25,7 @@ pub struct Lists<'a> {
     /// Of each transition the set of the timers that it starts: timer j is bit j.
     pub starts: &'a [u64],
     /// Of each transition the number of its tests; the tests of all transitions stand packed in the last three lists.
-    pub counts: &'a [u8],
+    pub test_counts: &'a [u8],
     pub timers: &'a [u8],
     pub codes: &'a [u8],
     pub constants: &'a [u16],
@@ -39,7 +39,7 @@ pub struct LentLists<'a> {
     pub targets: &'a mut [u16],
     pub events: &'a mut [u8],
     pub starts: &'a mut [u64],
-    pub counts: &'a mut [u8],
+    pub test_counts: &'a mut [u8],
     pub timers: &'a mut [u8],
     pub codes: &'a mut [u8],
     pub constants: &'a mut [u16],
@@ -52,7 +52,7 @@ pub fn read(file: &[u8], lent: &mut LentLists) -> Answer<Header> {
     let transitions = chart.transitions().len();
     let tests: usize = chart.transitions().iter().map(|transition| chart.tests(transition).len()).sum();
     let per_transition =
-        [lent.sources.len(), lent.targets.len(), lent.events.len(), lent.starts.len(), lent.counts.len()];
+        [lent.sources.len(), lent.targets.len(), lent.events.len(), lent.starts.len(), lent.test_counts.len()];
     let per_test = [lent.timers.len(), lent.codes.len(), lent.constants.len()];
     if lent.accepting.len() < usize::from(accepting)
         || per_transition.iter().any(|&length| length < transitions)
@@ -70,7 +70,7 @@ pub fn read(file: &[u8], lent: &mut LentLists) -> Answer<Header> {
         lent.targets[index] = u16::from(transition.target);
         lent.events[index] = transition.event;
         lent.starts[index] = transition.starts.word();
-        lent.counts[index] = tests.len() as u8;
+        lent.test_counts[index] = tests.len() as u8;
         for test in tests {
             lent.timers[next] = test.timer;
             lent.codes[next] = test.comparison as u8;
@@ -118,7 +118,7 @@ fn judge(header: &Header, lists: &Lists) -> Answer<usize> {
         if !starts.minus(TimerSet::below(timers)).is_empty() {
             return Err(Refusal::at(6, place));
         }
-        let count = limited(due(lists.counts, index)?, MOST_TESTS, place)?;
+        let count = limited(due(lists.test_counts, index)?, MOST_TESTS, place)?;
         for test in next..next + usize::from(count) {
             timer(due(lists.timers, test)?, timers, place)?;
             Comparison::from_code(due(lists.codes, test)?).ok_or(Refusal::at(8, place))?;
@@ -151,7 +151,7 @@ pub fn write(header: &Header, lists: &Lists, out: &mut [u8]) -> Answer<usize> {
     let mut next = 0;
     for index in 0..usize::from(header.transitions) {
         let starts = TimerSet::from_word(lists.starts[index]);
-        let count = lists.counts[index];
+        let count = lists.test_counts[index];
         let record = 7 + starts.len() as u16 + 4 * u16::from(count);
         output.put(record.to_be_bytes());
         output.put(lists.sources[index].to_be_bytes());

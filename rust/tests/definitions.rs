@@ -1,4 +1,4 @@
-//! The crate held to a second implementation that spells out the definitions of document 01 one by one, on random
+//! The crate compared with a second implementation that spells out the definitions of document 01 one by one, on random
 //! charts.
 
 use std::collections::BTreeSet;
@@ -44,8 +44,11 @@ fn judged(drawing: &Drawing) -> Answer<()> {
 }
 
 fn is_live(drawing: &Drawing, location: u16, timer: u8) -> bool {
-    let quiet = reached(drawing, location, |transition| !transition.is_start(timer));
-    drawing.transitions.iter().any(|transition| quiet.contains(&transition.source) && transition.is_test(timer))
+    let before_a_start = reached(drawing, location, |transition| !transition.is_start(timer));
+    drawing
+        .transitions
+        .iter()
+        .any(|transition| before_a_start.contains(&transition.source) && transition.is_test(timer))
 }
 
 /// A pair of a location and a timer, ordered as 64 times the location plus the timer.
@@ -297,7 +300,7 @@ struct Owned {
     targets: Vec<u16>,
     events: Vec<u8>,
     starts: Vec<u64>,
-    counts: Vec<u8>,
+    test_counts: Vec<u8>,
     timers: Vec<u8>,
     codes: Vec<u8>,
     constants: Vec<u16>,
@@ -311,7 +314,7 @@ impl Owned {
             targets: vec![9; TRANSITIONS],
             events: vec![9; TRANSITIONS],
             starts: vec![9; TRANSITIONS],
-            counts: vec![9; TRANSITIONS],
+            test_counts: vec![9; TRANSITIONS],
             timers: vec![9; TESTS],
             codes: vec![9; TESTS],
             constants: vec![9; TESTS],
@@ -325,7 +328,7 @@ impl Owned {
             targets: &mut self.targets,
             events: &mut self.events,
             starts: &mut self.starts,
-            counts: &mut self.counts,
+            test_counts: &mut self.test_counts,
             timers: &mut self.timers,
             codes: &mut self.codes,
             constants: &mut self.constants,
@@ -339,7 +342,7 @@ impl Owned {
             targets: &self.targets,
             events: &self.events,
             starts: &self.starts,
-            counts: &self.counts,
+            test_counts: &self.test_counts,
             timers: &self.timers,
             codes: &self.codes,
             constants: &self.constants,
@@ -372,7 +375,7 @@ fn lists_are_judged_in_the_order_of_the_fields() {
     let mut owned = Owned::new();
     let header = lists::read(&file, &mut owned.lent()).unwrap();
     assert_eq!(header, Header { locations: 4, initial: 0, timers: 2, accepting: 1, transitions: 3 });
-    assert_eq!(owned.counts[..4], [0, 1, 1, 9]);
+    assert_eq!(owned.test_counts[..4], [0, 1, 1, 9]);
     assert_eq!(owned.starts[..4], [1, 2, 0, 9]);
     let lists = owned.lists();
     let refused = |number, place| Err(Refusal { number, place });
@@ -405,9 +408,9 @@ fn lists_are_judged_in_the_order_of_the_fields() {
     assert_eq!(write(header, Lists { events: &[1], ..lists }), refused(3, NOWHERE));
     assert_eq!(write(header, Lists { starts: &[1], ..lists }), refused(3, NOWHERE));
     assert_eq!(write(header, Lists { starts: &[1, 1 << 63, 0], ..lists }), refused(6, 1));
-    assert_eq!(write(header, Lists { starts: &[1, 4, 0], counts: &[9], ..lists }), refused(4, 0));
-    assert_eq!(write(header, Lists { counts: &[0, 9], ..lists }), refused(4, 1));
-    assert_eq!(write(header, Lists { counts: &[0, 1], ..lists }), refused(3, NOWHERE));
+    assert_eq!(write(header, Lists { starts: &[1, 4, 0], test_counts: &[9], ..lists }), refused(4, 0));
+    assert_eq!(write(header, Lists { test_counts: &[0, 9], ..lists }), refused(4, 1));
+    assert_eq!(write(header, Lists { test_counts: &[0, 1], ..lists }), refused(3, NOWHERE));
     assert_eq!(write(header, Lists { timers: &[0], ..lists }), refused(3, NOWHERE));
     assert_eq!(write(header, Lists { timers: &[2], codes: &[], ..lists }), refused(6, 1));
     assert_eq!(write(header, Lists { codes: &[0, 5], constants: &[0], ..lists }), refused(8, 2));
@@ -426,7 +429,7 @@ fn lent_lists_too_short_are_21_and_stay_as_they_were() {
         |lent| lent.targets = &mut [],
         |lent| lent.events = &mut [],
         |lent| lent.starts = &mut [],
-        |lent| lent.counts = &mut [],
+        |lent| lent.test_counts = &mut [],
         |lent| lent.timers = &mut [],
         |lent| lent.codes = &mut [],
         |lent| lent.constants = &mut [],
@@ -436,7 +439,7 @@ fn lent_lists_too_short_are_21_and_stay_as_they_were() {
         shorten(&mut lent);
         assert_eq!(lists::read(&file, &mut lent), Err(Refusal { number: 21, place: NOWHERE }));
         assert!(owned.sources.iter().chain(&owned.constants).all(|&entry| entry == 9));
-        assert!(owned.starts.iter().all(|&entry| entry == 9) && owned.counts.iter().all(|&entry| entry == 9));
+        assert!(owned.starts.iter().all(|&entry| entry == 9) && owned.test_counts.iter().all(|&entry| entry == 9));
     }
     assert_eq!(lists::read(&file[..9], &mut owned.lent()), Err(Refusal { number: 1, place: NOWHERE }));
 }

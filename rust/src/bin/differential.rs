@@ -1,5 +1,5 @@
-//! Holds the proved library and the program `allocate` to this crate, on random files, limits, lent memory and step
-//! lists from a seed.
+//! Compares the proved library and the program `allocate` with this crate, on random files, limits, lent memory and
+//! step lists from a seed.
 //!
 //! usage: differential [ROUNDS] [SEED] [--without-program]
 //!
@@ -247,7 +247,7 @@ impl Trial {
             _ => sixty_five_numbers(random.between(1, u64::from(MOST_TIMERS) - 1) as u8),
         };
         if !drawing.transitions.is_empty() && random.chance(1, 4) {
-            // A transition turned: often it is then in the way of 9 or 10, or families change.
+            // One transition is changed: often 9 or 10 then applies, or the families are others.
             let transition = random.below(drawing.transitions.len() as u64) as usize;
             let transition = &mut drawing.transitions[transition];
             match random.below(4) {
