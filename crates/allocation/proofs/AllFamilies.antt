@@ -6,9 +6,8 @@ use native.Mathlib.Omega.{arith}
 use Rattle.lists.specs.Lists.{gather}
 use Rattle.lists.proofs.Bools.{is-no}
 use Rattle.lists.proofs.Flatten.{gather-same, gather-more, gather-rows}
-use Rattle.model.specs.Family.{Pairs, isPair, Family, familyFrom, families}
+use Rattle.model.specs.Family.{Pairs, isPair, Family, familyFrom, families, WellFormed}
 use Rattle.model.specs.FirstFit.{place, firstFit}
-use Rattle.model.proofs.Joined.{WellFormed}
 use Rattle.allocation.specs.Numbering.{familiesTo}
 
 module _ {p : Pairs} (formed : WellFormed p) where

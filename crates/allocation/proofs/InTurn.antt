@@ -7,8 +7,7 @@ use native.Mathlib.Omega.{arith}
 use lib.ListN.{length, getD}
 use Rattle.lists.specs.Lists.{lowest}
 use Rattle.timer_set.specs.Members.{member}
-use Rattle.model.specs.Family.{Pairs, isPair, familyOf}
-use Rattle.model.proofs.Joined.{WellFormed}
+use Rattle.model.specs.Family.{Pairs, isPair, familyOf, WellFormed}
 use Rattle.allocation.specs.Numbering.{taken, given, Unnumbered, begins, NumberedTo, Begun}
 use Rattle.allocation.proofs.Filling.{changed-other}
 use Rattle.allocation.proofs.Placing.{begins-pair, numbered-yes, numbered-no}

@@ -12,8 +12,8 @@ use Rattle.lists.specs.Lists.{memb}
 use Rattle.lists.proofs.Bools.{same-bool, not-both, is-no, or-cases, or-left, or-right, and-left, and-right, and-both, not-true, lt-or-le}
 use Rattle.timer_set.specs.Members.{member, joined, minus}
 use Rattle.timer_set.proofs.Members.{member-empty, member-joined, member-minus}
-use Rattle.model.specs.Family.{Pairs, isPair, Joined, Family, familyOf}
-use Rattle.model.proofs.Joined.{WellFormed, joined-refl, joined-sym, joined-pair}
+use Rattle.model.specs.Family.{Pairs, isPair, Joined, Family, familyOf, WellFormed}
+use Rattle.model.proofs.Joined.{joined-refl, joined-sym, joined-pair}
 use Rattle.model.proofs.Families.{family-has, first-least, first-joined, family-same}
 use Rattle.families.specs.Propagation.{Propagated}
 use Rattle.allocation.specs.Cells.{cell}

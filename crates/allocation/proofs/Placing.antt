@@ -14,9 +14,9 @@ use Rattle.lists.specs.Lists.{memb, gather, lowest, top}
 use Rattle.lists.proofs.Bools.{same-bool, same-number, not-both, is-no, and-left, and-right, and-both}
 use Rattle.lists.proofs.Membership.{any-memb-in, any-memb-out}
 use Rattle.lists.proofs.Lowest.{lowest-is}
-use Rattle.model.specs.Family.{Pairs, isPair, Joined, Family, familyOf, familyFrom, meets}
+use Rattle.model.specs.Family.{Pairs, isPair, Joined, Family, familyOf, familyFrom, meets, WellFormed}
 use Rattle.model.specs.FirstFit.{Placed, held, free, place, usedBy, numberAt}
-use Rattle.model.proofs.Joined.{WellFormed, joined-sym, joined-trans, joined-pair}
+use Rattle.model.proofs.Joined.{joined-sym, joined-trans, joined-pair}
 use Rattle.model.proofs.Families.{family-timer, family-has, family-same}
 use Rattle.model.proofs.FirstFit.{free-not-held, free-least, held-in, held-out}
 use Rattle.model.proofs.NumberAt.{has, has-timer, has-location, has-pair, number-out}

@@ -8,9 +8,8 @@ use lib.Dec.{eqb}
 use lib.ListN.{length, getD}
 use Rattle.timer_set.specs.Members.{member, added}
 use Rattle.lists.specs.Lists.{memb, gather}
-use Rattle.model.specs.Family.{Pairs, isPair, Family, familyOf, familyFrom}
+use Rattle.model.specs.Family.{Pairs, isPair, Family, familyOf, familyFrom, WellFormed}
 use Rattle.model.specs.FirstFit.{place, usedBy}
-use Rattle.model.proofs.Joined.{WellFormed}
 use Rattle.families.specs.Propagation.{LinkLists}
 use Rattle.allocation.specs.Cells.{noNumber, cells}
 

@@ -12,9 +12,9 @@ use Rattle.model.specs.Live.{liveFlow, liveSets}
 use Rattle.model.specs.FirstFit.{used, fullest, floor}
 use Rattle.model.proofs.Settled.{length-settled}
 use Rattle.chart_lists.specs.Lists.{put}
-use Rattle.chart_lists.specs.Numbers.{numbersOf}
-use Rattle.chart_lists.specs.declared.Numbers.{Numbers}
-use Rattle.judgement.specs.Judging.{judgedIn, judgedNumbers}
+use Rattle.chart_lists.specs.Header.{headerOf}
+use Rattle.chart_lists.specs.declared.Header.{Header}
+use Rattle.judgement.specs.Judging.{judgedIn, judgedHeader}
 use Rattle.judgement.proofs.Judging.{listed}
 use Rattle.judgement.proofs.Fronts.{drawn}
 use Rattle.judgement.proofs.Handed.{HandedOn, judged-refused}
@@ -81,7 +81,7 @@ module _ (c : Chart) (before : List ℕ) {n : ℕ} (e : n ≡ c .locations) wher
 -- ---- a file
 
 module _ (bs before : List ℕ) where
-  module _ {n p : ℕ} (e : refused n p ≡ judgedNumbers bs) where
+  module _ {n p : ℕ} (e : refused n p ≡ judgedHeader bs) where
     passed-on : analysedIn (length before) bs ≡ refused n p
     unfolding analysedIn
     passed-on = rw (judged-refused bs e)
@@ -106,14 +106,14 @@ module _ (bs before : List ℕ) where
     chart-list f = rw of-chart f
 
 -- what is handed on is what the analysis of a chart asks for
-module _ {bs : List ℕ} {m : Numbers} {sources targets starts counts timers tested : List ℕ} (h : HandedOn bs m sources targets starts counts timers tested) where
+module _ {bs : List ℕ} {m : Header} {sources targets starts test-counts timers tested : List ℕ} (h : HandedOn bs m sources targets starts test-counts timers tested) where
   pub chart-lists : ListsFor (h .held .chart) (take (m .transitions) sources) (take (m .transitions) targets) (take (m .transitions) starts)
       (take (m .transitions) tested) (m .timers) (m .locations)
-  unfolding numbersOf
+  unfolding headerOf
   chart-lists = let d = drawn (h .held) (h .tested-are) in record {
     width = d .width;
     valid = d .valid;
     listed = listed d;
-    timers-are = ap (λ (k : Numbers). k .timers) (h .held .numbers-are);
+    timers-are = ap (λ (k : Header). k .timers) (h .held .numbers-are);
     locations-are = d .locations-are;
   }

@@ -14,7 +14,7 @@ use Rattle.model.specs.Answer.{result}
 use Rattle.model.specs.Chart.{Chart}
 use Rattle.model.specs.Path.{Live}
 use Rattle.model.specs.Live.{liveSets}
-use Rattle.file_format.proofs.RoundTrip.{Bytes}
+use Rattle.file_format.specs.Parse.{Bytes}
 use Rattle.file_format.proofs.File.{reads-valid}
 use Rattle.chart_lists.specs.Lists.{put}
 use Rattle.judgement.proofs.Corollaries.{Accepts, judged-result}
@@ -23,7 +23,7 @@ use Rattle.analysis.proofs.Entry.{length-live, long-enough}
 use Rattle.analysis.proofs.Refusals.{analysis-result}
 use Rattle.analysis.proofs.Figures.{word-live, floor-most, floor-reached, floor-used, used-none}
 
--- ---- an entry of a list that was laid over the front of another
+-- ---- an entry of a list that was putLists over the front of another
 
 module _ (xs l : List ℕ) (q : ℕ) where
   in-front : q < length xs → getD (put xs l) q 0 ≡ getD xs q 0

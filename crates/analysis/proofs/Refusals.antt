@@ -5,13 +5,13 @@ use mathlib.Core.Logic.{_⊎_, inl, inr, _↔_, Iff·trans}
 use mathlib.Core.List.{List}
 use Prim.Native.Nat.{ℕ, _≤_, _<_}
 use native.Mathlib.Omega.{arith}
+use Rattle.file_format.specs.Parse.{Bytes}
 use Rattle.lists.proofs.Bools.{lt-or-le}
 use Rattle.model.specs.Answer.{Answer, result, refused, nowhere}
 use Rattle.model.specs.Chart.{Chart}
 use Rattle.model.proofs.Answers.{not-result, result-same, refused-same}
 use Rattle.model.proofs.Judgement.{LowestUnreached, LowestUnstarted}
 use Rattle.file_format.specs.File.{chartIn}
-use Rattle.file_format.proofs.RoundTrip.{Bytes}
 use Rattle.judgement.specs.Judging.{judgedIn}
 use Rattle.judgement.specs.Refusals.{RefusalOfJudgement}
 use Rattle.judgement.specs.Refusals.RefusalOfJudgement.{of-file, of-unreached, of-unstarted}

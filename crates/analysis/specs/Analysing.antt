@@ -7,7 +7,7 @@ use Rattle.model.specs.Chart.{Chart}
 use Rattle.model.specs.Live.{liveSets}
 use Rattle.model.specs.FirstFit.{used, floor}
 use Rattle.chart_lists.specs.Lists.{put}
-use Rattle.chart_lists.specs.Numbers.{refusedAs}
+use Rattle.refusal.specs.Refused.{refusedAs}
 use Rattle.judgement.specs.Judging.{judgedIn}
 use Rattle.analysis.specs.declared.Analysis.{Analysis}
 use Rattle.analysis.specs.declared.Analysis.the-variants as analysis
@@ -39,6 +39,6 @@ listAfter (result c) l = put (liveSets c) l
 listAfter (refused n p) l = l
 
 -- what an answer of the code means
-abbrev pub meantAnalysis : Analysis → Answer Figures
-meantAnalysis (analysis.Found u f) = result (record { used = u; floor = f })
-meantAnalysis (analysis.Refused f) = refusedAs f
+abbrev pub analysisAs : Analysis → Answer Figures
+analysisAs (analysis.Found u f) = result (record { used = u; floor = f })
+analysisAs (analysis.Refused f) = refusedAs f

@@ -4,10 +4,10 @@ ghost use lib.ListN.{length};
 ghost use Rattle.model.specs.Chart.{Chart};
 ghost use Rattle.model.specs.FirstFit.{fullest as FirstFit·fullest};
 ghost use Rattle.numbering.specs.Numbered.{ListsFor, OfChart};
-ghost use Rattle.analysis.specs.Analysing.{analysedIn, analysedChart, analyseAnswer, figuresIn, listAfter, meantAnalysis};
-use chart_lists::Numbers;
-use chart_lists::Refusal;
-use reader::Read;
+ghost use Rattle.analysis.specs.Analysing.{analysedIn, analysedChart, analyseAnswer, figuresIn, listAfter, analysisAs};
+use chart_lists::Header;
+use chart_lists::Read;
+use refusal::Refusal;
 use timer_set::TimerSet;
 
 // Used and floor, or a refusal.
@@ -39,21 +39,18 @@ fn analyse_chart<'a>(
     targets: &'a [u16],
     starts: &'a [u64],
     tested: &'a [u64],
-    numbers: Numbers,
+    numbers: Header,
     live: &mut [u64],
 ) -> Analysis
     requires { ⌜ OfChart (now sources) (now targets) (now starts) (now tested) (numbers .timers) (numbers .locations) ⌝ }
     ensures answer { λ r. ⌜ ((c : Chart) → ListsFor c (now (sources .entry)) (now (targets .entry)) (now (starts .entry)) (now (tested .entry)) (numbers .timers) (numbers .locations)
-        → meantAnalysis r ≡ figuresIn (analysedChart (length (now (live .entry))) c)) ⌝ }
+        → analysisAs r ≡ figuresIn (analysedChart (length (now (live .entry))) c)) ⌝ }
     ensures lent { λ _. ⌜ ((c : Chart) → ListsFor c (now (sources .entry)) (now (targets .entry)) (now (starts .entry)) (now (tested .entry)) (numbers .timers) (numbers .locations)
         → now (live .exit) ≡ listAfter (analysedChart (length (now (live .entry))) c) (now (live .entry))) ⌝ }
 {
     let m = numbers.locations as usize;
     if live.len() < m {
-        return Analysis::Refused(Refusal {
-            number: 21,
-            place: 65535,
-        });
+        return Analysis::Refused(refusal::NO_ROOM);
     }
     let mut board = [0u16; 16384];
     let used = numbering::number_chart(
@@ -71,7 +68,7 @@ fn analyse_chart<'a>(
 
 // The live sets of the file's chart over the front of the list, with used and floor; or a refusal, 1 to 10, then 21.
 pub fn analyse(file: &[u8], live: &mut [u64]) -> Analysis
-    ensures answer { λ r. ⌜ meantAnalysis r ≡ analyseAnswer (length (now (live .entry))) (now (file .entry)) ⌝ }
+    ensures answer { λ r. ⌜ analysisAs r ≡ analyseAnswer (length (now (live .entry))) (now (file .entry)) ⌝ }
     ensures lent { λ _. ⌜ now (live .exit) ≡ listAfter (analysedIn (length (now (live .entry))) (now (file .entry))) (now (live .entry)) ⌝ }
 {
     let mut accepting = [0u16; 256];
@@ -79,7 +76,7 @@ pub fn analyse(file: &[u8], live: &mut [u64]) -> Analysis
     let mut targets = [0u16; 512];
     let mut events = [0u8; 512];
     let mut starts = [0u64; 512];
-    let mut counts = [0u8; 512];
+    let mut test_counts = [0u8; 512];
     let mut timers = [0u8; 4096];
     let mut codes = [0u8; 4096];
     let mut constants = [0u16; 4096];
@@ -91,7 +88,7 @@ pub fn analyse(file: &[u8], live: &mut [u64]) -> Analysis
         &mut targets,
         &mut events,
         &mut starts,
-        &mut counts,
+        &mut test_counts,
         &mut timers,
         &mut codes,
         &mut constants,

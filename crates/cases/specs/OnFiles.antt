@@ -5,7 +5,7 @@ use lib.ListN.{replicate}
 use Rattle.model.specs.Answer.{Answer, result, refused}
 use Rattle.model.specs.Chart.{Chart}
 use Rattle.model.specs.FirstFit.{board}
-use Rattle.model.specs.Cases.{Question, Reply, numbersOf}
+use Rattle.model.specs.Cases.{Question, Reply, boardNumbers}
 use Rattle.model.specs.Cases.Question.{live-sets, numbers, rewrite, play}
 use Rattle.model.specs.Cases.Reply.{sets, given, rewriting-is, played-is}
 use Rattle.file_format.specs.File.{fileOf}
@@ -19,7 +19,7 @@ analysedList c = listAfter (analysedIn (c .locations) (fileOf c)) (replicate (c 
 
 -- used and floor as the analysis answers them; a refused chart has none
 abbrev pub figuresReply : Chart → Answer Figures → Reply
-figuresReply c (result f) = given (numbersOf (board c)) (f .used) (f .floor)
+figuresReply c (result f) = given (boardNumbers (board c)) (f .used) (f .floor)
 figuresReply c (refused n p) = sets (analysedList c)
 
 unfoldable pub askFile : Question → Reply

@@ -1,3 +1,5 @@
 pub mod Put
 pub mod Tests
 pub mod Part
+pub mod Begins
+pub mod Holds

@@ -1,4 +1,4 @@
--- A list laid over the front of a lent one grows by stores, one after another. Assumes nothing.
+-- A list putLists over the front of a lent one grows by stores, one after another. Assumes nothing.
 use mathlib.Core.Path.{_≡_, refl, ap, _∙_}
 use mathlib.Core.List.{List, [], _∷_, _++_, map, append-assoc}
 use Prim.Native.Nat.{ℕ, _≤_, _<_}
@@ -29,7 +29,7 @@ put-more xs l v h = rw (drop-cons l (length xs) 0, set-append-seam, append-assoc
 pub put-last : (xs l : List ℕ) (v : ℕ) {out : List ℕ} {k : ℕ} → k < length l → length xs ≡ k → out ≡ put xs l → set out k v ≡ put (xs ++ (v ∷ [])) l
 put-last xs l v h e o = let g : length xs < length l = omega arith in rw (o, ← e) (put-more xs l v g)
 
--- a longer list laid over one that it begins with
+-- a longer list putLists over one that it begins with
 pub put-put : (xs ys l : List ℕ) → put (xs ++ ys) (put xs l) ≡ put (xs ++ ys) l
 unfolding put
 put-put xs ys l = rw (length-append, ← drop-drop (length ys) (length xs) (xs ++ drop (length xs) l), drop-append-seam, drop-drop)

@@ -1,2 +1,6 @@
 pub mod Lists
-pub mod Numbers
+pub mod Header
+pub mod Begins
+pub mod Holds
+pub mod Lent
+pub mod Read

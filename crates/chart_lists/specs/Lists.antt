@@ -16,7 +16,7 @@ pub record Lists : Type 0 where
   pub targets : List ℕ
   pub events : List ℕ
   pub starts : List ℕ
-  pub counts : List ℕ
+  pub test-counts : List ℕ
   pub timers : List ℕ
   pub codes : List ℕ
   pub constants : List ℕ
@@ -33,7 +33,7 @@ listsOf c = record {
   targets = map (λ (r : Transition). r .target) (c .transitions);
   events = map (λ (r : Transition). r .event) (c .transitions);
   starts = map startsSet (c .transitions);
-  counts = map (λ (r : Transition). length (r .tests)) (c .transitions);
+  test-counts = map (λ (r : Transition). length (r .tests)) (c .transitions);
   timers = map (λ (t : Test). t .timer) (allTests (c .transitions));
   codes = map (λ (t : Test). codeOf (t .comparison)) (allTests (c .transitions));
   constants = map (λ (t : Test). t .constant) (allTests (c .transitions));
@@ -44,14 +44,14 @@ unfoldable pub put : List ℕ → List ℕ → List ℕ
 put xs l = xs ++ drop (length xs) l
 
 -- each of the lists over the front of the lent one
-unfoldable pub laid : Lists → Lists → Lists
-laid xs l = record {
+unfoldable pub putLists : Lists → Lists → Lists
+putLists xs l = record {
   accepting = put (xs .accepting) (l .accepting);
   sources = put (xs .sources) (l .sources);
   targets = put (xs .targets) (l .targets);
   events = put (xs .events) (l .events);
   starts = put (xs .starts) (l .starts);
-  counts = put (xs .counts) (l .counts);
+  test-counts = put (xs .test-counts) (l .test-counts);
   timers = put (xs .timers) (l .timers);
   codes = put (xs .codes) (l .codes);
   constants = put (xs .constants) (l .constants);
@@ -65,19 +65,19 @@ roomFor xs l =
     && (leb (length (xs .targets)) (length (l .targets))
     && (leb (length (xs .events)) (length (l .events))
     && (leb (length (xs .starts)) (length (l .starts))
-    && (leb (length (xs .counts)) (length (l .counts))
+    && (leb (length (xs .test-counts)) (length (l .test-counts))
     && (leb (length (xs .timers)) (length (l .timers))
     && (leb (length (xs .codes)) (length (l .codes))
     && leb (length (xs .constants)) (length (l .constants)))))))))
 
-abbrev pub lists : (accepting sources targets events starts counts timers codes constants : List ℕ) → Lists
+abbrev pub lists : (accepting sources targets events starts test-counts timers codes constants : List ℕ) → Lists
 lists a s t e w g j x k = record {
   accepting = a;
   sources = s;
   targets = t;
   events = e;
   starts = w;
-  counts = g;
+  test-counts = g;
   timers = j;
   codes = x;
   constants = k;

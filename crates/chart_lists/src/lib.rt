@@ -1,16 +1,26 @@
-// How a chart is handed over in lent lists (docs/LISTS.md): its numbers in one struct by value, the rest in nine lists. And a refusal.
+// How a chart is handed over in lent lists (docs/LISTS.md): its header in one struct by value, the rest in nine lists.
+use refusal::Refusal;
 
-// A refusal's number and place, as document 01 gives them. A place is wide, since a step's place is never cut.
-pub struct Refusal {
-    pub number: u16,
-    pub place: u64,
-}
-
-// The numbers of a chart: of locations, the initial location, of timers, of accepting locations and of transitions.
-pub struct Numbers {
+// The numbers of locations, of timers, of accepting locations and of transitions, and the initial location.
+pub struct Header {
     pub locations: u16,
     pub initial: u16,
     pub timers: u8,
     pub accepting: u16,
     pub transitions: u16,
 }
+
+// What reading a file gives: the chart's header, its lists being filled, or a refusal.
+pub enum Read {
+    Chart(Header),
+    Refused(Refusal),
+}
+
+// The most that a chart may have.
+pub const MOST_LOCATIONS: usize = 256;
+
+pub const MOST_TIMERS: usize = 64;
+
+pub const MOST_TRANSITIONS: usize = 512;
+
+pub const MOST_TESTS: usize = 4096;

@@ -9,6 +9,7 @@ use Rattle.model.specs.Rewrite.{Numbering, rewrittenBy}
 use Rattle.model.specs.Plan.{Plan}
 use Rattle.model.specs.Judge.{Rewriting, judged, rewriting}
 use Rattle.model.specs.Equivalence.{Alike}
+use Rattle.file_format.specs.Parse.{Bytes}
 use Rattle.model.proofs.Answers.{result-same}
 use Rattle.model.proofs.EqualRuns.{plan-alike}
 use Rattle.model.proofs.RewrittenValid.{rewritten-valid}
@@ -17,7 +18,6 @@ use Rattle.model.proofs.EqualAnswers.{rewritten-judged, equal-behaviour, rewrit
 use Rattle.model.proofs.PlayerLaws.{CountsAllowed, alike-played}
 use Rattle.model.proofs.PlayerAnswer.{player-answer}
 use Rattle.file_format.specs.File.{chartIn, fileOf}
-use Rattle.file_format.proofs.RoundTrip.{Bytes}
 use Rattle.file_format.proofs.File.{chart-survives, file-survives, reads-valid}
 use Rattle.rewriting.specs.Rewriting.{rewriteInto}
 use Rattle.rewriting.proofs.Fits.{rewriting-of}

@@ -11,23 +11,23 @@ use Rattle.model.specs.Chart.{Chart}
 use Rattle.model.specs.Valid.{Valid}
 use Rattle.model.specs.Judge.{Rewriting, rewriting}
 use Rattle.model.specs.Player.{Arrival}
+use Rattle.file_format.specs.Parse.{Bytes}
 use Rattle.model.proofs.Answers.{not-result, result-same, refused-same}
 use Rattle.model.proofs.EqualAnswers.{equal-behaviour}
 use Rattle.file_format.specs.File.{chartIn, fileOf}
 use Rattle.file_format.proofs.Answers.{then-result, unless-result}
 use Rattle.file_format.proofs.File.{reads-valid}
 use Rattle.file_format.proofs.Lengths.{largest-file}
-use Rattle.file_format.proofs.RoundTrip.{Bytes}
 use Rattle.judgement.proofs.Fronts.{front, front-length}
 use Rattle.rewriting.specs.Rewriting.{Figures, figuresOf, rewriteInto, rewriteAnswer, bufferAfter}
-use Rattle.player.specs.Playing.{playAnswer, meantPlayed}
-use Rattle.equivalence.specs.Both.{Claim, largestFile, boardAnswer, meantBoard}
+use Rattle.player.specs.Playing.{playAnswer, playedAs}
+use Rattle.equivalence.specs.Both.{Claim, largestFile, boardAnswer, boardAs}
 use Rattle.equivalence.specs.declared.Both.{Both}
 use Rattle.equivalence.proofs.DemandHolds.{first-fit-plays}
 
 -- the two answers are all that the claim asks: that they are equal is the law on files
-pub claim-of : (K : ℕ) (bs v w is ts : List ℕ) (r : Both) → Bytes bs → meantPlayed (r .drawn) ≡ playAnswer bs v is ts
-    → meantBoard (r .board) ≡ boardAnswer K bs w is ts → Claim K bs v w is ts r
+pub claim-of : (K : ℕ) (bs v w is ts : List ℕ) (r : Both) → Bytes bs → playedAs (r .drawn) ≡ playAnswer bs v is ts
+    → boardAs (r .board) ≡ boardAnswer K bs w is ts → Claim K bs v w is ts r
 unfolding boardAnswer
 claim-of K bs v w is ts r bytes d b = record {
   drawn = d;

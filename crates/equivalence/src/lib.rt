@@ -1,7 +1,7 @@
 // Rewrites a chart file for a board and plays a step list on both files: demand 3 on files.
 ghost use Rattle.equivalence.specs.Both.{Claim};
-use chart_lists::Refusal;
 use player::Played;
+use refusal::Refusal;
 use rewriting::Rewritten;
 
 // What the player answers on the rewritten file, or why there is none.

@@ -6,12 +6,12 @@ use mathlib.Core.Option.{some, Option·none-ne-some, Option·some-injective}
 use mathlib.Core.List.{List, [], _∷_}
 use Prim.Native.Nat.{ℕ, zero, suc, _≤_, _<_}
 use lib.ListN.{length, getD, getElem?, List·getD-eq-default}
+use Rattle.lists.specs.Elements.{Element}
 use Rattle.lists.proofs.Bools.{not-both, and-left, and-right, lt-or-le}
-use Rattle.lists.proofs.Elements.{Element, gather-in, gather-out}
+use Rattle.lists.proofs.Elements.{gather-in, gather-out}
 use Rattle.timer_set.specs.Members.{member, common, minus}
 use Rattle.timer_set.proofs.Members.{member-empty, member-high, member-minus, member-common}
-use Rattle.model.specs.Family.{Link, Pairs, isPair}
-use Rattle.model.proofs.Joined.{WellFormed, WellFormedLink}
+use Rattle.model.specs.Family.{Link, Pairs, isPair, WellFormed, WellFormedLink}
 use Rattle.families.specs.Pairs.{linkAt, pairsOf, Matching}
 
 -- a timer of a link is live at both ends

@@ -7,11 +7,11 @@ use native.Mathlib.Decide.{ℕ-discrete}
 use native.Mathlib.Omega.{arith}
 use lib.ListN.{length, getD, set, take}
 use lib.Seq.{length-take-le, getD-take, getD-set-same, getD-set-other}
-use Rattle.lists.proofs.Elements.{Element}
 use Rattle.timer_set.specs.Members.{common, minus}
 use Rattle.model.specs.Family.{Link}
 use Rattle.families.specs.Pairs.{linkAt, pairsOf, Matching}
 use Rattle.families.specs.Propagation.{linkOn, LinkLists, Ends}
+use Rattle.lists.specs.Elements.{Element}
 use Rattle.families.proofs.CodePairs.{link-in, link-out}
 
 -- ---- links by numbers

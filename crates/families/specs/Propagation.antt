@@ -6,10 +6,10 @@ use mathlib.Core.Option.{some}
 use mathlib.Core.List.{List}
 use Prim.Native.Nat.{ℕ, _≤_, _<_}
 use lib.ListN.{length, getD, getElem?, set}
-use Rattle.lists.proofs.Elements.{Element}
 use Rattle.lists.specs.Lists.{sumOf}
 use Rattle.timer_set.specs.Members.{member, joined, common}
 use Rattle.model.specs.Family.{Link, Pairs, Joined}
+use Rattle.lists.specs.Elements.{Element}
 
 -- the link at place k of the lists
 unfoldable pub linkOn : (ones others linked : List ℕ) → ℕ → Link

@@ -6,20 +6,20 @@ use native.Mathlib.Nat.{pow-suc, mul-assoc, mul-one, add-zero, add-suc, suc-mul,
 use native.Mathlib.Omega.{arith}
 use lib.ListN.{drop}
 use lib.Pow.{pow-add}
-use Rattle.chart_lists.specs.declared.Refusal.{Refusal}
+use Rattle.refusal.specs.declared.Refusal.{Refusal}
 use Rattle.file_format.specs.Parse.{Parsed, value, refusal, bind, byte, number, below}
 use Rattle.file_format.proofs.Reading as reading
 use Rattle.fields.specs.declared.Field.{Field}
 use Rattle.fields.specs.declared.Field.the-variants as field
-use Rattle.fields.specs.Meaning.{meant, refusalAs, refusalOf, NumberAt}
+use Rattle.fields.specs.Meaning.{fieldAs, refusalAs, refusalOf, NumberAt}
 
 -- an answer that is known says what its reader found
 pub told : {A R : Type 0} (m : R → Parsed A) {r q : R} {a : Parsed A} → r ≡ q → m r ≡ a → a ≡ m q
 told m e k = sym k ∙ ap m e
 
 -- the same where the answer is refused and its refusal is taken from it
-pub turned : (s : List ℕ) {a : Field} {f r : Refusal} {p : Parsed ℕ} → a ≡ field.Refused f → r ≡ refusalOf a → meant s a ≡ p → p ≡ refusalAs r
-turned s e k h = told (meant s) e h ∙ ap refusalAs (ap refusalOf (sym e) ∙ sym k)
+pub turned : (s : List ℕ) {a : Field} {f r : Refusal} {p : Parsed ℕ} → a ≡ field.Refused f → r ≡ refusalOf a → fieldAs s a ≡ p → p ≡ refusalAs r
+turned s e k h = told (fieldAs s) e h ∙ ap refusalAs (ap refusalOf (sym e) ∙ sym k)
 
 same-value : {x y n m : ℕ} → field.Value x n ≡ field.Value y m → x ≡ y
 same-value e = cc
@@ -72,29 +72,29 @@ digit-less {x} {y} {a} {b} p q = let h : suc x * b ≤ a * b = mul-le-mul-right 
 -- the answers at two places one after the other, put together
 module _ (w v : ℕ) {s : List ℕ} {at : ℕ} {a : Field} (first : NumberAt w s at a) where
   pub first-refused : {f : Refusal} → a ≡ field.Refused f → NumberAt (w + v) s at a
-  first-refused e = let h = told (meant s) e (first .reads) in number-refused e (rw (number-add w v, h))
+  first-refused e = let h = told (fieldAs s) e (first .reads) in number-refused e (rw (number-add w v, h))
 
   module _ {x m : ℕ} (e : a ≡ field.Value x m) {b : Field} (second : NumberAt v s m b) where
     high : number w (drop at s) ≡ value x (drop m s)
-    high = told (meant s) e (first .reads)
+    high = told (fieldAs s) e (first .reads)
 
     pub second-refused : {f : Refusal} → b ≡ field.Refused f → NumberAt (w + v) s at b
-    second-refused k = let h = told (meant s) k (second .reads) in number-refused k (rw (number-add w v, high, h))
+    second-refused k = let h = told (fieldAs s) k (second .reads) in number-refused k (rw (number-add w v, high, h))
 
     pub both-found : {y n : ℕ} → b ≡ field.Value y n → NumberAt (w + v) s at (field.Value (x * 256 ^ v + y) n)
     both-found {y} {n} k =
-        let h = told (meant s) k (second .reads) in
+        let h = told (fieldAs s) k (second .reads) in
         number-value (rw (number-add w v, high, h)) (rw (pow-add 256 w v) (digit-less (first .small x m e) (second .small y n k)))
 
 -- ---- a number with a limit, from the number's answer
 
 module _ {w : ℕ} {s : List ℕ} {at : ℕ} {a : Field} (read : NumberAt w s at a) (limit n p : ℕ) where
-  pub below-refused : {f : Refusal} → a ≡ field.Refused f → meant s a ≡ below w limit n p (drop at s)
-  below-refused e = let h = told (meant s) e (read .reads) in (read .reads ∙ h) ∙ sym (reading.below-refused w limit n p (drop at s) h)
+  pub below-refused : {f : Refusal} → a ≡ field.Refused f → fieldAs s a ≡ below w limit n p (drop at s)
+  below-refused e = let h = told (fieldAs s) e (read .reads) in (read .reads ∙ h) ∙ sym (reading.below-refused w limit n p (drop at s) h)
 
   module _ {x m : ℕ} (e : a ≡ field.Value x m) where
     pub below-found : x < limit → value x (drop m s) ≡ below w limit n p (drop at s)
-    below-found l = sym (reading.below-in w limit n p (drop at s) (told (meant s) e (read .reads)) l)
+    below-found l = sym (reading.below-in w limit n p (drop at s) (told (fieldAs s) e (read .reads)) l)
 
     pub below-over : limit ≤ x → refusal n p ≡ below w limit n p (drop at s)
-    below-over l = sym (reading.below-over w limit n p (drop at s) (told (meant s) e (read .reads)) l)
+    below-over l = sym (reading.below-over w limit n p (drop at s) (told (fieldAs s) e (read .reads)) l)

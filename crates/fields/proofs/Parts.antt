@@ -15,7 +15,7 @@ use Rattle.file_format.specs.Parse.{Parsed, value, refusal, bind, guard, number
 use Rattle.file_format.specs.Body.{readTest, readTests, readTransition, recordLength}
 use Rattle.file_format.proofs.Parsed.{value-refused, bind-value, guard-value, same-value, kept-value, kept-refused}
 use Rattle.file_format.proofs.Items.{many-length}
-use Rattle.fields.specs.Parts.{Ends, readEnds, readStarts, Head, headOf, readHead, passTests, passTransition}
+use Rattle.fields.specs.Parts.{Ends, readEnds, readStarts, Head, headOf, readHead, skipTests, skipTransition}
 
 -- readers one after another, grouped in another way
 module _ {A B C : Type 0} where
@@ -122,8 +122,8 @@ module _ (W locations timers i : ℕ) (bs : List ℕ) where
       let f = kept-refused frontHead (readFront W locations timers i bs) (sym (head-front W locations timers i bs) ∙ e) in
       transition-front W locations timers i bs ∙ rw f
 
-  pass-front : (f : Front) (b : List ℕ) → readFront W locations timers i bs ≡ value f b → passTests W timers i (f .tests) b ≡ passTransition W locations timers i bs
-  unfolding passTests passTransition
+  pass-front : (f : Front) (b : List ℕ) → readFront W locations timers i bs ≡ value f b → skipTests W timers i (f .tests) b ≡ skipTransition W locations timers i bs
+  unfolding skipTests skipTransition
   pass-front f b e = rw (transition-front W locations timers i bs, e) (step (readTests W timers i (f .tests) b) _ _ _ (λ ts u. refl))
 
   module _ {h : Head} {b : List ℕ} (e : readHead W locations timers i bs ≡ value h b) where
@@ -144,11 +144,11 @@ module _ (W locations timers i : ℕ) (bs : List ℕ) where
         (made (front-found .0) ts, transition-front W locations timers i bs ∙ rw (front-found .1, as-many, k), rw q (front-found .2), refl)
 
     -- a record that is passed over goes on as its tests do
-    pub pass-tests-left : passTests W timers i (h .tests) b ≡ passTransition W locations timers i bs
-    pass-tests-left = ap (λ (g : ℕ). passTests W timers i g b) (sym as-many) ∙ pass-front (front-found .0) b (front-found .1)
+    pub skip-tests-left : skipTests W timers i (h .tests) b ≡ skipTransition W locations timers i bs
+    skip-tests-left = ap (λ (g : ℕ). skipTests W timers i g b) (sym as-many) ∙ pass-front (front-found .0) b (front-found .1)
 
-  pub pass-head-refused : {n p : ℕ} → readHead W locations timers i bs ≡ refusal n p → refusal n p ≡ passTransition W locations timers i bs
-  unfolding passTransition
+  pub pass-head-refused : {n p : ℕ} → readHead W locations timers i bs ≡ refusal n p → refusal n p ≡ skipTransition W locations timers i bs
+  unfolding skipTransition
   pass-head-refused e = rw (transition-head-refused e)
 
   -- a record is refused for its head, or for a test after it
@@ -181,8 +181,8 @@ head-at-most W locations timers i bs {h} {b} e =
     let q : i₄ .0 ≡ h .tests = ap (λ (x : Head). x .tests) (same-value (g₂ .1)) in
     subst (λ (g : ℕ). g ≤ 8) q (leb-true (i₄ .0) 8 (g₂ .0))
 
-pub pass-at-most : (W locations timers i : ℕ) (bs : List ℕ) {n : ℕ} {u : List ℕ} → passTransition W locations timers i bs ≡ value n u → n ≤ 8
-unfolding passTransition headOf
+pub pass-at-most : (W locations timers i : ℕ) (bs : List ℕ) {n : ℕ} {u : List ℕ} → skipTransition W locations timers i bs ≡ value n u → n ≤ 8
+unfolding skipTransition headOf
 pass-at-most W locations timers i bs {n} {u} e =
     let k = kept-value (λ (r : Transition). length (r .tests)) (readTransition W locations timers i bs) e in
     let p = transition-parts W locations timers i bs (k .0) u (k .1) in

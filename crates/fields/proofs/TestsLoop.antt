@@ -8,7 +8,7 @@ use Rattle.model.specs.Chart.{Test}
 use Rattle.file_format.specs.Parse.{value, refusal}
 use Rattle.file_format.specs.Body.{readTest, readTests}
 use Rattle.file_format.proofs.Items.{Turn, tests-first, turn-done, turn-refused, turn-again}
-use Rattle.fields.specs.Parts.{passTests}
+use Rattle.fields.specs.Parts.{skipTests}
 
 -- Of g tests k are read.
 pub record Passing (W timers place : ℕ) (s : List ℕ) (at g here k : ℕ) : Type 0 where
@@ -19,15 +19,15 @@ pub tests-begin : (W timers place : ℕ) (s : List ℕ) (at g : ℕ) → Passing
 tests-begin W timers place s at g = record { done = []; turn = tests-first W timers place g (drop at s) }
 
 module _ {W timers place : ℕ} {s : List ℕ} {at g here k : ℕ} (h : Passing W timers place s at g here k) where
-  pub tests-done : g ≤ k → value g (drop here s) ≡ passTests W timers place g (drop at s)
-  unfolding passTests
+  pub tests-done : g ≤ k → value g (drop here s) ≡ skipTests W timers place g (drop at s)
+  unfolding skipTests
   tests-done l =
       let e : length (h .done) ≡ g = omega (arith, h .turn .count, h .turn .most) in
       rw (turn-done (h .turn) l, e)
 
   module _ (l : k < g) where
-    pub tests-refused : {m q : ℕ} → readTest W timers place (drop here s) ≡ refusal m q → refusal m q ≡ passTests W timers place g (drop at s)
-    unfolding passTests
+    pub tests-refused : {m q : ℕ} → readTest W timers place (drop here s) ≡ refusal m q → refusal m q ≡ skipTests W timers place g (drop at s)
+    unfolding skipTests
     tests-refused e = rw (turn-refused (h .turn) l e)
 
     pub tests-again : {t : Test} {next : ℕ} → readTest W timers place (drop here s) ≡ value t (drop next s) → Passing W timers place s at g next (k + 1)

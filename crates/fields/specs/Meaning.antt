@@ -4,7 +4,7 @@ use mathlib.Core.List.{List}
 use Prim.Native.Nat.{ℕ, _<_, _^_}
 use lib.ListN.{drop}
 use Rattle.model.specs.Chart.{Test}
-use Rattle.chart_lists.specs.declared.Refusal.{Refusal}
+use Rattle.refusal.specs.declared.Refusal.{Refusal}
 use Rattle.file_format.specs.Parse.{Parsed, value, refusal, number}
 use Rattle.fields.specs.declared.Field.{Field}
 use Rattle.fields.specs.declared.Field.the-variants as field
@@ -19,25 +19,25 @@ use Rattle.fields.specs.Parts.{Ends, Head}
 abbrev pub refusalAs : {A : Type 0} → Refusal → Parsed A
 refusalAs f = refusal (f .number) (f .place)
 
-abbrev pub meant : List ℕ → Field → Parsed ℕ
-meant s (field.Value x next) = value x (drop next s)
-meant s (field.Refused f) = refusalAs f
+abbrev pub fieldAs : List ℕ → Field → Parsed ℕ
+fieldAs s (field.Value x next) = value x (drop next s)
+fieldAs s (field.Refused f) = refusalAs f
 
-abbrev pub meantTest : List ℕ → TestField → Parsed Test
-meantTest s (test.Found j x k next) = value (record { timer = j; comparison = x; constant = k }) (drop next s)
-meantTest s (test.Refused f) = refusalAs f
+abbrev pub testAs : List ℕ → TestField → Parsed Test
+testAs s (test.Found j x k next) = value (record { timer = j; comparison = x; constant = k }) (drop next s)
+testAs s (test.Refused f) = refusalAs f
 
-abbrev pub meantEnds : List ℕ → EndsField → Parsed Ends
-meantEnds s (ends.Found len p q e next) = value (record { length = len; source = p; target = q; event = e }) (drop next s)
-meantEnds s (ends.Refused f) = refusalAs f
+abbrev pub endsAs : List ℕ → EndsField → Parsed Ends
+endsAs s (ends.Found len p q e next) = value (record { length = len; source = p; target = q; event = e }) (drop next s)
+endsAs s (ends.Refused f) = refusalAs f
 
-abbrev pub meantHead : List ℕ → HeadField → Parsed Head
-meantHead s (head.Found p q e w g next) = value (record { source = p; target = q; event = e; starts = w; tests = g }) (drop next s)
-meantHead s (head.Refused f) = refusalAs f
+abbrev pub headAs : List ℕ → HeadField → Parsed Head
+headAs s (head.Found p q e w g next) = value (record { source = p; target = q; event = e; starts = w; tests = g }) (drop next s)
+headAs s (head.Refused f) = refusalAs f
 
 -- a number of w bytes at a place, and it has no more than its bytes hold
 pub record NumberAt (w : ℕ) (s : List ℕ) (at : ℕ) (r : Field) : Type 0 where
-  pub reads : meant s r ≡ number w (drop at s)
+  pub reads : fieldAs s r ≡ number w (drop at s)
   pub small : (x next : ℕ) → r ≡ field.Value x next → x < 256 ^ w
 
 -- the refusal of an answer that is one; an answer that is none has none, and no caller asks for it

@@ -51,9 +51,9 @@ readHead W locations timers i bs =
     value (record { source = e .source; target = e .target; event = e .event; starts = starts; tests = g }) b₄))))))
 
 -- tests that are judged and passed over: their number
-unfoldable pub passTests : (W timers i g : ℕ) → List ℕ → Parsed ℕ
-passTests W timers i g bs = bind (readTests W timers i g bs) (λ ts t. value (length ts) t)
+unfoldable pub skipTests : (W timers i g : ℕ) → List ℕ → Parsed ℕ
+skipTests W timers i g bs = bind (readTests W timers i g bs) (λ ts t. value (length ts) t)
 
 -- a record that is judged and passed over: the number of its tests
-unfoldable pub passTransition : (W locations timers i : ℕ) → List ℕ → Parsed ℕ
-passTransition W locations timers i bs = bind (readTransition W locations timers i bs) (λ r t. value (length (r .tests)) t)
+unfoldable pub skipTransition : (W locations timers i : ℕ) → List ℕ → Parsed ℕ
+skipTransition W locations timers i bs = bind (readTransition W locations timers i bs) (λ r t. value (length (r .tests)) t)

@@ -5,18 +5,12 @@ ghost use Prim.Native.Nat.{_≤_, _<_};
 ghost use lib.ListN.{drop};
 ghost use Rattle.file_format.specs.Parse.{below};
 ghost use Rattle.file_format.specs.Body.{readTest};
-ghost use Rattle.fields.specs.Parts.{readEnds, readStarts, readHead, passTests, passTransition};
-ghost use Rattle.fields.specs.Meaning.{meant, meantTest, meantEnds, meantHead, NumberAt, refusalOf, testRefusal, endsRefusal, headRefusal};
-use chart_lists::Refusal;
+ghost use Rattle.fields.specs.Parts.{readEnds, readStarts, readHead, skipTests, skipTransition};
+ghost use Rattle.fields.specs.Meaning.{fieldAs, testAs, endsAs, headAs, NumberAt, refusalOf, testRefusal, endsRefusal, headRefusal};
 use comparison::Comparison;
 use comparison::Decoded;
+use refusal::Refusal;
 use timer_set::TimerSet;
-
-// The file ends inside a field, or a record's length is wrong.
-const CUT: Refusal = Refusal {
-    number: 3,
-    place: 65535,
-};
 
 // A number or a set, as a word, with the place after it.
 pub enum Field {
@@ -49,7 +43,7 @@ pub fn byte_at(s: &[u8], at: usize) -> Field
     if at < s.len() {
         Field::Value(wide(s[at]), at + 1)
     } else {
-        Field::Refused(CUT)
+        Field::Refused(refusal::CUT_OFF)
     }
 }
 
@@ -85,7 +79,7 @@ pub fn quad_at(s: &[u8], at: usize) -> Field
 
 // A byte below a limit, or the refusal given.
 pub fn byte_below(s: &[u8], at: usize, limit: u64, number: u16, place: u64) -> Field
-    ensures { λ r. ⌜ meant (now (s .entry)) r ≡ below 1 limit number place (drop at (now (s .entry))) ⌝ }
+    ensures { λ r. ⌜ fieldAs (now (s .entry)) r ≡ below 1 limit number place (drop at (now (s .entry))) ⌝ }
 {
     let a = byte_at(s, at);
     let Field::Value(x, _) = a else {
@@ -99,7 +93,7 @@ pub fn byte_below(s: &[u8], at: usize, limit: u64, number: u16, place: u64) -> F
 
 // Two bytes, a number below a limit, or the refusal given.
 pub fn pair_below(s: &[u8], at: usize, limit: u64, number: u16, place: u64) -> Field
-    ensures { λ r. ⌜ meant (now (s .entry)) r ≡ below 2 limit number place (drop at (now (s .entry))) ⌝ }
+    ensures { λ r. ⌜ fieldAs (now (s .entry)) r ≡ below 2 limit number place (drop at (now (s .entry))) ⌝ }
 {
     let a = pair_at(s, at);
     let Field::Value(x, _) = a else {
@@ -114,7 +108,7 @@ pub fn pair_below(s: &[u8], at: usize, limit: u64, number: u16, place: u64) -> F
 // n started timers, strictly rising and below the number of timers: their set.
 pub fn starts_at(s: &[u8], at: usize, n: u64, timers: u8, place: u64) -> Field
     requires { ⌜ timers ≤ 64 ⌝ }
-    ensures { λ r. ⌜ meant (now (s .entry)) r ≡ readStarts timers place n (drop at (now (s .entry))) ⌝ }
+    ensures { λ r. ⌜ fieldAs (now (s .entry)) r ≡ readStarts timers place n (drop at (now (s .entry))) ⌝ }
 {
     let mut set = TimerSet::EMPTY;
     let mut lowest: u64 = 0;
@@ -165,7 +159,7 @@ pub fn test_refusal(a: TestField) -> Refusal
 }
 
 pub fn test_at(s: &[u8], at: usize, timers: u8, place: u64) -> TestField
-    ensures { λ r. ⌜ meantTest (now (s .entry)) r ≡ readTest 2 timers place (drop at (now (s .entry))) ⌝ }
+    ensures { λ r. ⌜ testAs (now (s .entry)) r ≡ readTest 2 timers place (drop at (now (s .entry))) ⌝ }
 {
     let a = byte_below(s, at, timers as u64, 6, place);
     let Field::Value(timer, at1) = a else {
@@ -192,8 +186,8 @@ pub fn test_at(s: &[u8], at: usize, timers: u8, place: u64) -> TestField
 }
 
 // g tests, judged and passed over: their number, with the place after them.
-pub fn pass_tests(s: &[u8], at: usize, g: u8, timers: u8, place: u64) -> Field
-    ensures { λ r. ⌜ meant (now (s .entry)) r ≡ passTests 2 timers place g (drop at (now (s .entry))) ⌝ }
+pub fn skip_tests(s: &[u8], at: usize, g: u8, timers: u8, place: u64) -> Field
+    ensures { λ r. ⌜ fieldAs (now (s .entry)) r ≡ skipTests 2 timers place g (drop at (now (s .entry))) ⌝ }
 {
     let mut here = at;
     let mut k: u8 = 0;
@@ -233,7 +227,7 @@ fn ends_refusal(a: EndsField) -> Refusal
 }
 
 fn ends_at(s: &[u8], at: usize, locations: u16, place: u64) -> EndsField
-    ensures { λ r. ⌜ meantEnds (now (s .entry)) r ≡ readEnds locations place (drop at (now (s .entry))) ⌝ }
+    ensures { λ r. ⌜ endsAs (now (s .entry)) r ≡ readEnds locations place (drop at (now (s .entry))) ⌝ }
 {
     let a = pair_at(s, at);
     let Field::Value(length, at1) = a else {
@@ -294,7 +288,7 @@ pub fn head_refusal(a: HeadField) -> Refusal
 
 pub fn head_at(s: &[u8], at: usize, locations: u16, timers: u8, place: u64) -> HeadField
     requires { ⌜ timers ≤ 64 ⌝ }
-    ensures { λ r. ⌜ meantHead (now (s .entry)) r ≡ readHead 2 locations timers place (drop at (now (s .entry))) ⌝ }
+    ensures { λ r. ⌜ headAs (now (s .entry)) r ≡ readHead 2 locations timers place (drop at (now (s .entry))) ⌝ }
 {
     let a = ends_at(s, at, locations, place);
     let EndsField::Found(length, source, target, event, at1) = a else {
@@ -313,7 +307,7 @@ pub fn head_at(s: &[u8], at: usize, locations: u16, timers: u8, place: u64) -> H
         return HeadField::Refused(refusal_of(e));
     };
     if length as u64 != 7 + n + 4 * g {
-        return HeadField::Refused(CUT);
+        return HeadField::Refused(refusal::CUT_OFF);
     }
     if g > 8 {
         return HeadField::Refused(Refusal { number: 4, place });
@@ -329,9 +323,9 @@ pub fn head_at(s: &[u8], at: usize, locations: u16, timers: u8, place: u64) -> H
 }
 
 // A whole record, judged and passed over: the number of its tests, with the place after it.
-pub fn pass_record(s: &[u8], at: usize, locations: u16, timers: u8, place: u64) -> Field
+pub fn skip_record(s: &[u8], at: usize, locations: u16, timers: u8, place: u64) -> Field
     requires { ⌜ timers ≤ 64 ⌝ }
-    ensures { λ r. ⌜ meant (now (s .entry)) r ≡ passTransition 2 locations timers place (drop at (now (s .entry))) ⌝ }
+    ensures { λ r. ⌜ fieldAs (now (s .entry)) r ≡ skipTransition 2 locations timers place (drop at (now (s .entry))) ⌝ }
 {
     let a = head_at(s, at, locations, timers, place);
     let HeadField::Found {
@@ -345,5 +339,5 @@ pub fn pass_record(s: &[u8], at: usize, locations: u16, timers: u8, place: u64) 
     else {
         return Field::Refused(head_refusal(a));
     };
-    pass_tests(s, next, tests, timers, place)
+    skip_tests(s, next, tests, timers, place)
 }

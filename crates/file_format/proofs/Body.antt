@@ -10,14 +10,14 @@ use Rattle.lists.specs.Rising.{Rising, All}
 use Rattle.model.specs.Answer.{nowhere}
 use Rattle.model.specs.Chart.{Chart}
 use Rattle.model.specs.Valid.{ValidTransition, Valid}
-use Rattle.file_format.specs.Parse.{Parsed, value, refusal, bind, guard, digits, writeAll}
-use Rattle.file_format.specs.Body.{Header, readHeader, readTransitions, chartOf, isEnd, readBody, writeHeader, writeBody}
+use Rattle.file_format.specs.Parse.{Parsed, value, refusal, bind, guard, digits, writeAll, Bytes}
+use Rattle.file_format.specs.Body.{FileHeader, readHeader, readTransitions, chartOf, isEnd, readBody, writeHeader, writeBody}
 use Rattle.file_format.proofs.Parsed.{same-value, value-refused}
-use Rattle.file_format.proofs.RoundTrip.{Bytes, RoundTrip, restated, field, field-as, condition, end}
+use Rattle.file_format.proofs.RoundTrip.{RoundTrip, restated, field, field-as, condition, end}
 use Rattle.file_format.proofs.Fields.{number-trip, below-trip, rising-trip, rising-most}
 use Rattle.file_format.proofs.Transitions.{transitions-trip}
 
-pub record ValidHeader (h : Header) : Type 0 where
+pub record ValidHeader (h : FileHeader) : Type 0 where
   pub some-location : 1 ≤ h .locations
   pub few-locations : h .locations ≤ 256
   pub initial : h .initial < h .locations
@@ -25,11 +25,11 @@ pub record ValidHeader (h : Header) : Type 0 where
   pub accepting : Rising (h .locations) 0 (h .accepting)
   pub few-transitions : h .count ≤ 512
 
-abbrev headerOf : Chart → Header
+abbrev headerOf : Chart → FileHeader
 headerOf c = record { locations = c .locations; initial = c .initial; timers = c .timers; accepting = c .accepting; count = length (c .transitions) }
 
 -- a header written, as the chart's writer writes it
-abbrev written : Header → List ℕ
+abbrev written : FileHeader → List ℕ
 written h =
     digits 2 (h .locations)
     ++ (digits 2 (h .initial)
@@ -73,16 +73,16 @@ header-trip =
       ),
     ))
     (λ h. simp append-nil)
-    (field (λ h. Unit {0}) (λ (h : Header). h .locations) _ (below-trip 2 257 4 nowhere (omega arith))
+    (field (λ h. Unit {0}) (λ (h : FileHeader). h .locations) _ (below-trip 2 257 4 nowhere (omega arith))
     (λ locations p₁. condition _ 4 nowhere (λ h. leb 1 (h .locations)) _ (λ h c. ap (leb 1) (c .1))
-    (λ q. field-as _ (λ (h : Header). h .initial) (λ h. h .initial < h .locations) _
+    (λ q. field-as _ (λ (h : FileHeader). h .initial) (λ h. h .initial < h .locations) _
     (λ h c p. subst (λ l. h .initial < l) (sym (c .1)) p) (λ h c p. subst (λ l. h .initial < l) (c .1) p) (below-trip 2 locations 5 nowhere (omega arith))
-    (λ initial p₂. field _ (λ (h : Header). h .timers) _ (below-trip 1 65 4 nowhere (omega arith))
-    (λ timers p₃. field _ (λ (h : Header). length (h .accepting)) _ (number-trip 2)
-    (λ a p₄. field-as _ (λ (h : Header). h .accepting) (λ h. Rising (h .locations) 0 (h .accepting)) _
+    (λ initial p₂. field _ (λ (h : FileHeader). h .timers) _ (below-trip 1 65 4 nowhere (omega arith))
+    (λ timers p₃. field _ (λ (h : FileHeader). length (h .accepting)) _ (number-trip 2)
+    (λ a p₄. field-as _ (λ (h : FileHeader). h .accepting) (λ h. Rising (h .locations) 0 (h .accepting)) _
     (λ h c p. subst (λ l. Rising l 0 (h .accepting)) (sym (c .0 .0 .0 .1)) (p .1)) (λ h c p. (c .1, subst (λ l. Rising l 0 (h .accepting)) (c .0 .0 .0 .1) p))
     (rising-trip 2 locations 5 nowhere a (omega arith))
-    (λ accepting p₅. field _ (λ (h : Header). h .count) _ (below-trip 2 513 4 nowhere (omega arith))
+    (λ accepting p₅. field _ (λ (h : FileHeader). h .count) _ (below-trip 2 513 4 nowhere (omega arith))
     (λ count p₆. end _ (record { locations = locations; initial = initial; timers = timers; accepting = accepting; count = count })
     ((((((tt, refl), refl), refl), p₅ .0), refl), refl)
     (λ h c j. record { locations = c .0 .0 .0 .0 .0 .1 j; initial = c .0 .0 .0 .0 .1 j; timers = c .0 .0 .0 .1 j; accepting = c .0 .1 j; count = c .1 j })))))))))
@@ -123,8 +123,8 @@ chart-trip W narrow =
     (λ c. simp append-nil)
     (field (λ c. Unit {0}) headerOf _ header-trip
     (λ h v. field-as _ (λ (c : Chart). c .transitions) (λ c. All (ValidTransition W (c .locations) (c .timers)) (c .transitions)) _
-    (λ c q p. subst (λ (h : Header). All (ValidTransition W (h .locations) (h .timers)) (c .transitions)) (sym (q .1)) (p .1))
-    (λ c q p. (ap (λ (h : Header). h .count) (q .1), subst (λ (h : Header). All (ValidTransition W (h .locations) (h .timers)) (c .transitions)) (q .1) p))
+    (λ c q p. subst (λ (h : FileHeader). All (ValidTransition W (h .locations) (h .timers)) (c .transitions)) (sym (q .1)) (p .1))
+    (λ c q p. (ap (λ (h : FileHeader). h .count) (q .1), subst (λ (h : FileHeader). All (ValidTransition W (h .locations) (h .timers)) (c .transitions)) (q .1) p))
     (transitions-trip W (h .locations) (h .timers) narrow (v .few-locations) (v .few-timers) (h .count))
     (λ rs p. end _ (chartOf h rs) ((tt, λ j. record { locations = h .locations; initial = h .initial; timers = h .timers; accepting = h .accepting; count = p .0 j }), refl)
     (λ c q j. record {

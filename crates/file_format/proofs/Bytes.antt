@@ -9,10 +9,9 @@ use Rattle.comparison.specs.Comparison.{codeOf}
 use Rattle.model.specs.Answer.{result}
 use Rattle.model.specs.Chart.{Test, Transition, Chart}
 use Rattle.model.specs.Valid.{Valid}
-use Rattle.file_format.specs.Parse.{digits, writeAll}
+use Rattle.file_format.specs.Parse.{digits, writeAll, Bytes}
 use Rattle.file_format.specs.Body.{recordLength, writeTest, writeTransition, writeHeader, writeBody}
 use Rattle.file_format.specs.File.{writeFile, chartIn, fileOf}
-use Rattle.file_format.proofs.RoundTrip.{Bytes}
 use Rattle.file_format.proofs.File.{chart-survives, reads-valid}
 
 bytes-append : (xs ys : List ℕ) → Bytes xs → Bytes ys → Bytes (xs ++ ys)

@@ -13,10 +13,10 @@ use Rattle.comparison.specs.Comparison.{comparisonOf, codeOf}
 use Rattle.comparison.proofs.Comparisons.{comparison-code, code-below, code-comparison}
 use Rattle.lists.specs.Rising.{Rising}
 use Rattle.lists.proofs.Gather.{rising-length}
-use Rattle.file_format.specs.Parse.{value, byte, number, below, entry, rising, digits, writeAll}
+use Rattle.file_format.specs.Parse.{value, byte, number, below, entry, rising, digits, writeAll, Bytes}
 use Rattle.file_format.specs.Body.{known, readComparison}
 use Rattle.file_format.proofs.Parsed.{value-refused, same-value, same-rest}
-use Rattle.file_format.proofs.RoundTrip.{Bytes, RoundTrip, restated, field, condition, end, items}
+use Rattle.file_format.proofs.RoundTrip.{RoundTrip, restated, field, condition, end, items}
 
 byte-trip : RoundTrip (λ b. b < 256) (λ b. b ∷ []) byte
 byte-trip = record { reads = λ b t h. refl; written = written }

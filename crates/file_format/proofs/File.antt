@@ -10,12 +10,12 @@ use Rattle.lists.proofs.Bools.{eqb-self, same-number}
 use Rattle.model.specs.Answer.{result, nowhere}
 use Rattle.model.specs.Chart.{Chart}
 use Rattle.model.specs.Valid.{Valid}
-use Rattle.file_format.specs.Parse.{Parsed, value, refusal, digits}
+use Rattle.file_format.specs.Parse.{Parsed, value, refusal, digits, Bytes}
 use Rattle.file_format.specs.Body.{readBody, writeBody}
 use Rattle.file_format.specs.File.{Frame, readFrame, judgeFrame, readFile, writeFile, chartIn, fileOf}
 use Rattle.file_format.specs.Lengths.{fileLength}
 use Rattle.file_format.proofs.Answers.{result-refused, then-result, unless-result, answered-result}
-use Rattle.file_format.proofs.RoundTrip.{Bytes, bytes-rest, RoundTrip, restated, field, end}
+use Rattle.file_format.proofs.RoundTrip.{bytes-rest, RoundTrip, restated, field, end}
 use Rattle.file_format.proofs.Fields.{number-trip}
 use Rattle.file_format.proofs.Body.{body-reads, body-written}
 use Rattle.file_format.proofs.Lengths.{length-body, file-most}

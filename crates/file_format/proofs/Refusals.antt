@@ -15,7 +15,7 @@ use Rattle.comparison.specs.Comparison.{comparisonOf}
 use Rattle.model.specs.Answer.{Answer, result, refused, then, unless, nowhere}
 use Rattle.model.specs.Chart.{Test, Transition}
 use Rattle.file_format.specs.Parse.{Parsed, value, refusal, bind, guard, byte, number, below, many, entry, rising}
-use Rattle.file_format.specs.Body.{known, readComparison, readTest, readTests, recordLength, readTransition, readTransitions, isEnd, Header, readHeader, chartOf, readBody}
+use Rattle.file_format.specs.Body.{known, readComparison, readTest, readTests, recordLength, readTransition, readTransitions, isEnd, FileHeader, readHeader, chartOf, readBody}
 use Rattle.file_format.specs.File.{Frame, readFrame, judgeFrame, answered, readFile, chartIn}
 use Rattle.file_format.specs.Refusals.{RefusalOfFile, RefusalOfBody}
 use Rattle.file_format.proofs.Parsed.{value-refused, same-value}
@@ -122,7 +122,7 @@ module _ (i : ℕ) (few : i < 512) where
       (λ tests b₈ u₈. found _ b₈ tt))))))))))
 
 -- with few transitions to come
-header-refuses : (bs : List ℕ) → Reads (λ (h : Header). h .count < 513) (readHeader bs)
+header-refuses : (bs : List ℕ) → Reads (λ (h : FileHeader). h .count < 513) (readHeader bs)
 unfolding readHeader
 header-refuses bs =
     at-bind (below 2 257 4 nowhere bs) (at-below nowhere (inl refl) 2 257 4 (omega arith) (omega arith) bs)

@@ -5,12 +5,8 @@ use mathlib.Core.List.{List, [], _∷_, _++_, append-assoc}
 use Prim.Native.Nat.{ℕ, zero, suc, _<_}
 use lib.ListN.{length}
 use Rattle.lists.specs.Rising.{All}
-use Rattle.file_format.specs.Parse.{Parsed, value, bind, guard, many, writeAll}
+use Rattle.file_format.specs.Parse.{Parsed, value, bind, guard, many, writeAll, Bytes}
 use Rattle.file_format.proofs.Parsed.{bind-value, guard-value, same-value, same-rest}
-
--- each element is a byte
-abbrev pub Bytes : List ℕ → Type 0
-Bytes bs = All (λ b. b < 256) bs
 
 pub bytes-rest : (xs t : List ℕ) → Bytes (xs ++ t) → Bytes t
 bytes-rest [] t h = h

@@ -58,14 +58,14 @@ isEnd [] = true
 isEnd (b ∷ bs) = false
 
 -- what stands before the transitions, with their count
-pub record Header : Type 0 where
+pub record FileHeader : Type 0 where
   pub locations : ℕ
   pub initial : ℕ
   pub timers : ℕ
   pub accepting : List ℕ
   pub count : ℕ
 
-unfoldable pub readHeader : List ℕ → Parsed Header
+unfoldable pub readHeader : List ℕ → Parsed FileHeader
 readHeader bs =
     bind (below 2 257 4 nowhere bs) (λ locations b₁.
     guard (leb 1 locations) 4 nowhere (
@@ -76,7 +76,7 @@ readHeader bs =
     bind (below 2 513 4 nowhere b₅) (λ count b₆.
     value (record { locations = locations; initial = initial; timers = timers; accepting = accepting; count = count }) b₆)))))))
 
-unfoldable pub chartOf : Header → List Transition → Chart
+unfoldable pub chartOf : FileHeader → List Transition → Chart
 chartOf h rs = record { locations = h .locations; initial = h .initial; timers = h .timers; accepting = h .accepting; transitions = rs }
 
 -- 3, bytes remain after the last transition

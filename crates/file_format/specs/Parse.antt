@@ -1,9 +1,14 @@
 -- Reading a list of bytes front to back: the first field that fails ends the reading (document 01, "The chart file"). Assumes nothing.
 use mathlib.Core.Bool.{Bool, true, false}
 use mathlib.Core.List.{List, [], _∷_, _++_}
-use Prim.Native.Nat.{ℕ, zero, suc, _+_, _*_, _/_, _%_}
+use Prim.Native.Nat.{ℕ, zero, suc, _+_, _*_, _/_, _%_, _<_}
 use lib.Dec.{leb, ltb}
+use Rattle.lists.specs.Rising.{All}
 use Rattle.model.specs.Answer.{nowhere}
+
+-- each element is a byte
+abbrev pub Bytes : List ℕ → Type 0
+Bytes bs = All (λ b. b < 256) bs
 
 -- a value with the bytes that are left, or a refusal's number and place
 pub data Parsed (A : Type 0) : Type 0 where

@@ -8,11 +8,11 @@ use lib.ListN.{length, getD, getElem?, set}
 use lib.Seq.{ext-getD}
 use Rattle.timer_set.specs.Members.{joined, minus}
 use Rattle.lists.specs.Lists.{upTo}
+use Rattle.model.specs.Comes.{Shaped}
 use Rattle.lists.proofs.Gather.{length-upTo, getD-upTo}
 use Rattle.lists.proofs.Nth.{nth-below, below-nth, getD-nth}
 use Rattle.model.specs.Flow.{Edge, brings, round}
 use Rattle.model.proofs.Edges.{roundTo, roundTo-start, roundTo-step, roundTo-end}
-use Rattle.model.proofs.Flow.{Shaped}
 use Rattle.model.proofs.Rounds.{Words}
 use Rattle.model.proofs.Settled.{Changes, few-changes}
 use Rattle.flow.specs.Edges.{edgeAt, flowOf, Matching}

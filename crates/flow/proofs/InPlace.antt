@@ -10,14 +10,14 @@ use native.Mathlib.Decide.{ℕ-discrete}
 use native.Mathlib.Omega.{arith}
 use lib.ListN.{length, getD, getElem?, set}
 use lib.Seq.{ext-getD, getD-set-same, getD-set-other}
+use Rattle.model.specs.Comes.{EdgeInto, Comes, Shaped}
 use Rattle.lists.proofs.Bools.{same-bool, or-cases, or-left, or-right, and-left, and-right, and-both, not-true, not-false}
 use Rattle.lists.specs.Lists.{sumOf}
 use Rattle.lists.proofs.Sums.{sum-small}
 use Rattle.timer_set.specs.Members.{member}
 use Rattle.timer_set.proofs.Members.{member-joined, member-minus, member-ext, joined-lt, minus-lt}
 use Rattle.model.specs.Flow.{Edge, Flow, brings, sameSets, settled}
-use Rattle.model.proofs.Flow.{EdgeInto, Comes, Shaped}
-use Rattle.model.proofs.Flow.Comes.{owned, gained, along}
+use Rattle.model.specs.Comes.Comes.{owned, gained, along}
 use Rattle.model.proofs.Rounds.{Words}
 use Rattle.model.proofs.Settled.{length-settled, settled-words, settled-iff}
 use Rattle.flow.specs.Edges.{edgeAt, flowOf, Matching}

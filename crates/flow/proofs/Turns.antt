@@ -5,9 +5,9 @@ use mathlib.Core.List.{List}
 use Prim.Native.Nat.{ℕ, _+_}
 use native.Mathlib.Numerals.{add-one}
 use borrow.Author.Count.{below-more}
+use Rattle.model.specs.Comes.{Shaped}
 use Rattle.lists.proofs.Bools.{not-both}
 use Rattle.model.specs.Flow.{Flow, round, roundsOf, sameSets, settled, rounds}
-use Rattle.model.proofs.Flow.{Shaped}
 use Rattle.model.proofs.Settled.{Changes, ends, same-sets-self, same-sets-equal}
 
 pub record Turn (f : Flow) (k : ℕ) (before after : List ℕ) : Type 0 where

@@ -5,6 +5,7 @@ use mathlib.Core.Logic.{_↔_}
 use mathlib.Core.List.{List}
 use Prim.Native.Nat.{ℕ, _≤_}
 use native.Mathlib.Omega.{arith}
+use Rattle.file_format.specs.Parse.{Bytes}
 use Rattle.lists.proofs.Nth.{below-nth}
 use Rattle.model.specs.Answer.{Answer, result, refused}
 use Rattle.model.specs.Chart.{Chart}
@@ -13,7 +14,6 @@ use Rattle.model.specs.Judge.{judged}
 use Rattle.model.proofs.Judgement.{LowestUnreached, LowestUnstarted, Accepted, Judgement, refused-9, refused-10, accepted as judged-accepted, judged-cases}
 use Rattle.model.proofs.Judgement.Judgement.{is-unreached, is-unstarted, is-accepted}
 use Rattle.file_format.specs.File.{chartIn}
-use Rattle.file_format.proofs.RoundTrip.{Bytes}
 use Rattle.file_format.proofs.File.{reads-valid}
 use Rattle.file_format.proofs.Answers.{result-refused}
 use Rattle.file_format.proofs.Refusals.{refusals-of-chartIn}

@@ -6,22 +6,22 @@ use native.Mathlib.Omega.{arith}
 use lib.ListN.{length, getD, take, drop, replicate, length-append, length-map, length-replicate}
 use lib.Seq.{getD-drop}
 use Rattle.lists.specs.Rising.{All}
+use Rattle.file_format.specs.Parse.{Bytes}
 use Rattle.lists.proofs.Zeros.{getD-zeros}
 use Rattle.model.specs.Answer.{Answer, result, refused}
 use Rattle.model.specs.Chart.{Test, Transition, Chart}
 use Rattle.model.specs.Valid.{ValidTest, ValidTransition}
 use Rattle.model.specs.Live.{testsSet}
 use Rattle.file_format.specs.File.{chartIn}
-use Rattle.file_format.proofs.RoundTrip.{Bytes}
 use Rattle.file_format.proofs.File.{reads-valid}
 use Rattle.file_format.proofs.Answers.{result-refused}
-use Rattle.chart_lists.specs.Lists.{Lists, lists, listsOf, laid, allTests, put}
-use Rattle.chart_lists.specs.Numbers.{numbersOf}
-use Rattle.chart_lists.specs.declared.Numbers.{Numbers}
+use Rattle.chart_lists.specs.Lists.{Lists, lists, listsOf, putLists, allTests, put}
+use Rattle.chart_lists.specs.Header.{headerOf}
+use Rattle.chart_lists.specs.declared.Header.{Header}
 use Rattle.chart_lists.proofs.Put.{length-put, take-put}
 use Rattle.flow.proofs.ChartFlows.{unstarted-matching}
 use Rattle.reader.specs.Reading.{listsAfter}
-use Rattle.judgement.specs.Judging.{largest, numbersRead, numbersJudged, judgedNumbers, judgedIn, testedAfter}
+use Rattle.judgement.specs.Judging.{largest, headerRead, headerJudged, judgedHeader, judgedIn, testedAfter}
 use Rattle.judgement.specs.Drawn.{Drawable, Drawn}
 use Rattle.judgement.specs.Holds.{Holds}
 use Rattle.judgement.specs.Tested.{total, TimersFor, TestsOf}
@@ -67,32 +67,32 @@ total-tests (r ∷ rs) = rw (total-tests rs, length-append)
 
 -- ---- the arrays that hold a chart's lists
 
-pub holds : (bs : List ℕ) → Bytes bs → {m : Numbers} (a s t e w g j x k : List ℕ) → result m ≡ numbersRead bs
+pub holds : (bs : List ℕ) → Bytes bs → {m : Header} (a s t e w g j x k : List ℕ) → result m ≡ headerRead bs
     → lists a s t e w g j x k ≡ listsAfter (chartIn bs) largest → Holds bs m s t w g j
-unfolding numbersRead laid listsOf largest
+unfolding headerRead putLists listsOf largest
 holds bs bytes {m} a s t e w g j x k f l = go (chartIn bs) refl
   where
     go : (y : Answer Chart) → chartIn bs ≡ y → Holds bs m s t w g j
-    go (result c) p = let q : lists a s t e w g j x k ≡ laid (listsOf c) largest = rw p at l in record {
+    go (result c) p = let q : lists a s t e w g j x k ≡ putLists (listsOf c) largest = rw p at l in record {
       chart = c;
       reads = p;
       valid = reads-valid bs c bytes p;
-      numbers-are = let z : result m ≡ result (numbersOf c) = rw p at f in cc;
+      numbers-are = let z : result m ≡ result (headerOf c) = rw p at f in cc;
       sources-are = ap (λ (y : Lists). y .sources) q;
       targets-are = ap (λ (y : Lists). y .targets) q;
       starts-are = ap (λ (y : Lists). y .starts) q;
-      counts-are = ap (λ (y : Lists). y .counts) q;
+      test-counts-are = ap (λ (y : Lists). y .test-counts) q;
       timers-are = ap (λ (y : Lists). y .timers) q;
     }
     go (refused n p) q = let z : result m ≡ refused n p = rw q at f in absurd (result-refused refl z)
 
-module _ {bs : List ℕ} {m : Numbers} {sources targets starts counts timers : List ℕ} (h : Holds bs m sources targets starts counts timers) where
+module _ {bs : List ℕ} {m : Header} {sources targets starts test-counts timers : List ℕ} (h : Holds bs m sources targets starts test-counts timers) where
   abbrev ts : List Transition
   ts = h .chart .transitions
 
   transitions-are : m .transitions ≡ length ts
-  unfolding numbersOf
-  transitions-are = ap (λ (k : Numbers). k .transitions) (h .numbers-are)
+  unfolding headerOf
+  transitions-are = ap (λ (k : Header). k .transitions) (h .numbers-are)
 
   pub few : m .transitions ≤ 512
   few = omega (arith, transitions-are, h .valid .few-transitions)
@@ -108,26 +108,26 @@ module _ {bs : List ℕ} {m : Numbers} {sources targets starts counts timers : L
     pub lent-part : length (take (m .transitions) l) ≡ m .transitions
     lent-part = ap length of-all ∙ length-map ts f ∙ sym transitions-are
 
-  pub tests-of : TestsOf ts (take (m .transitions) counts) timers
+  pub tests-of : TestsOf ts (take (m .transitions) test-counts) timers
   unfolding put
-  tests-of = record { counts-are = of-all _ (h .counts-are); beyond = _; timers-are = h .timers-are }
+  tests-of = record { test-counts-are = of-all _ (h .test-counts-are); beyond = _; timers-are = h .timers-are }
 
-  pub timers-for : TimersFor (take (m .transitions) counts) timers
+  pub timers-for : TimersFor (take (m .transitions) test-counts) timers
   unfolding put
   timers-for = record {
-    enough = rw (of-all _ (h .counts-are), total-tests ts) (omega (arith, all-tests (h .valid), front-length (map (λ (t : Test). t .timer) (allTests ts)) 4096 (length-map (allTests ts) _) (all-tests (h .valid)) (h .timers-are)));
+    enough = rw (of-all _ (h .test-counts-are), total-tests ts) (omega (arith, all-tests (h .valid), front-length (map (λ (t : Test). t .timer) (allTests ts)) 4096 (length-map (allTests ts) _) (all-tests (h .valid)) (h .timers-are)));
     small = λ i. rw (h .timers-are) (small-append (map (λ (t : Test). t .timer) (allTests ts)) _ (all-small 2 (h .chart .locations) (h .chart .timers) (h .valid .few-timers) ts (h .valid .transitions)) (zeros-small 4096 (length (map (λ (t : Test). t .timer) (allTests ts)))) i);
   }
 
   -- with the tested sets
   module _ {tested : List ℕ} (e : tested ≡ put (map testsSet ts) (replicate 512 0)) where
     pub drawn : Drawn (h .chart) (m .initial) (m .locations) (take (m .transitions) sources) (take (m .transitions) targets) (take (m .transitions) starts) (take (m .transitions) tested)
-    unfolding numbersOf
+    unfolding headerOf
     drawn = record {
       width = 2;
       valid = h .valid;
-      initial-is = ap (λ (k : Numbers). k .initial) (h .numbers-are);
-      locations-are = ap (λ (k : Numbers). k .locations) (h .numbers-are);
+      initial-is = ap (λ (k : Header). k .initial) (h .numbers-are);
+      locations-are = ap (λ (k : Header). k .locations) (h .numbers-are);
       sources-are = of-all _ (h .sources-are);
       targets-are = of-all _ (h .targets-are);
       starts-are = of-all _ (h .starts-are);
@@ -147,27 +147,27 @@ module _ {bs : List ℕ} {m : Numbers} {sources targets starts counts timers : L
     pub tested-after : tested ≡ testedAfter (chartIn bs)
     tested-after = rw (h .reads) e
 
-  pub judged-after : {a : Answer Numbers} → a ≡ numbersJudged (h .chart) → a ≡ judgedNumbers bs
-  unfolding numbersJudged judgedNumbers judgedIn
+  pub judged-after : {a : Answer Header} → a ≡ headerJudged (h .chart) → a ≡ judgedHeader bs
+  unfolding headerJudged judgedHeader judgedIn
   judged-after e = rw (h .reads) e
 
 -- ---- nothing is read
 
-module _ (bs : List ℕ) {n p : ℕ} (e : refused n p ≡ numbersRead bs) where
+module _ (bs : List ℕ) {n p : ℕ} (e : refused n p ≡ headerRead bs) where
   none-read : chartIn bs ≡ refused n p
-  unfolding numbersRead
+  unfolding headerRead
   none-read = go (chartIn bs) refl
     where
       go : (y : Answer Chart) → chartIn bs ≡ y → chartIn bs ≡ refused n p
-      go (result c) q = let z : refused n p ≡ result (numbersOf c) = rw q at e in absurd (result-refused refl (sym z))
+      go (result c) q = let z : refused n p ≡ result (headerOf c) = rw q at e in absurd (result-refused refl (sym z))
       go (refused k i) q =
-          let z : _≡_ {A = Answer Numbers} (refused n p) (refused k i) = rw q at e in
+          let z : _≡_ {A = Answer Header} (refused n p) (refused k i) = rw q at e in
           let a : n ≡ k = cc in
           let b : p ≡ i = cc in
           rw (a, b) q
 
-  pub refused-answer : refused n p ≡ judgedNumbers bs
-  unfolding judgedNumbers judgedIn
+  pub refused-answer : refused n p ≡ judgedHeader bs
+  unfolding judgedHeader judgedIn
   refused-answer = rw none-read
 
   pub refused-tested : {tested : List ℕ} → tested ≡ replicate 512 0 → tested ≡ testedAfter (chartIn bs)

@@ -17,9 +17,9 @@ use Rattle.model.specs.Judge.{judged}
 use Rattle.model.proofs.Settled.{length-settled}
 use Rattle.flow.specs.Edges.{flowOf}
 use Rattle.flow.proofs.ChartFlows.{Listed, initialSets, reached-flow, unstarted-flow}
-use Rattle.chart_lists.specs.declared.Numbers.{Numbers}
-use Rattle.chart_lists.specs.Numbers.{numbersOf}
-use Rattle.judgement.specs.Judging.{numbersJudged}
+use Rattle.chart_lists.specs.declared.Header.{Header}
+use Rattle.chart_lists.specs.Header.{headerOf}
+use Rattle.judgement.specs.Judging.{headerJudged}
 use Rattle.judgement.specs.Drawn.{ownSets, Drawn}
 use Rattle.judgement.specs.Tested.{testsIn}
 
@@ -62,18 +62,18 @@ module _ {c : Chart} {initial locations : ℕ} {sources targets starts tested : 
   transitions-are = ap length (d .sources-are) ∙ length-map (c .transitions) _
 
   module _ {lost : ℕ} (l : lost ≡ firstUnreached c) where
-    pub answer-9 : lost < locations → refused 9 lost ≡ numbersJudged c
-    unfolding numbersJudged judged
+    pub answer-9 : lost < locations → refused 9 lost ≡ headerJudged c
+    unfolding headerJudged judged
     answer-9 h = rw (← l, lt-leb (c .locations) lost (omega (arith, d .locations-are)))
 
     module _ (h : locations ≤ lost) {early : ℕ} (e : early ≡ firstUnstarted c) where
       reached : leb (c .locations) (firstUnreached c) ≡ true
       reached = rw (← l) (le-leb (c .locations) lost (omega (arith, d .locations-are)))
 
-      pub answer-10 : early < length sources → refused 10 early ≡ numbersJudged c
-      unfolding numbersJudged judged
+      pub answer-10 : early < length sources → refused 10 early ≡ headerJudged c
+      unfolding headerJudged judged
       answer-10 g = rw (reached, ← e, lt-leb (length (c .transitions)) early (omega (arith, transitions-are)))
 
-      pub answer-chart : {m : Numbers} → length sources ≤ early → m ≡ numbersOf c → result m ≡ numbersJudged c
-      unfolding numbersJudged judged
+      pub answer-chart : {m : Header} → length sources ≤ early → m ≡ headerOf c → result m ≡ headerJudged c
+      unfolding headerJudged judged
       answer-chart g k = rw (reached, ← e, le-leb (length (c .transitions)) early (omega (arith, transitions-are))) (ap result k)

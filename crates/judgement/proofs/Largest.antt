@@ -1,4 +1,4 @@
--- Lists of the largest size have room for every chart that a file can hold, so that 21 never comes; and what is laid over them. Assumes nothing.
+-- Lists of the largest size have room for every chart that a file can hold, so that 21 never comes; and what is putLists over them. Assumes nothing.
 use mathlib.Core.Path.{_≡_}
 use mathlib.Core.Bool.{true}
 use mathlib.Core.List.{List, [], _∷_, map}

@@ -6,12 +6,12 @@ use lib.ListN.{getD}
 use Rattle.model.specs.Answer.{Answer, result, refused}
 use Rattle.model.specs.Chart.{Chart}
 use Rattle.file_format.specs.File.{chartIn}
-use Rattle.file_format.proofs.RoundTrip.{Bytes}
+use Rattle.file_format.specs.Parse.{Bytes}
 use Rattle.file_format.proofs.File.{reads-valid}
 use Rattle.chart_lists.specs.Lists.{Lists}
-use Rattle.chart_lists.specs.declared.Numbers.{Numbers}
+use Rattle.chart_lists.specs.declared.Header.{Header}
 use Rattle.reader.specs.Reading.{readInto, readAnswer, listsAfter}
-use Rattle.judgement.specs.Judging.{largest, numbersRead, Cleared}
+use Rattle.judgement.specs.Judging.{largest, headerRead, Cleared}
 use Rattle.judgement.proofs.Largest.{largest-fits}
 
 -- a slice of bytes holds bytes
@@ -29,8 +29,8 @@ module _ {l : Lists} {tested : List ℕ} (cleared : Cleared l tested) (bs : List
       go (result c) e = rw (e, cleared .lists-are, largest-fits (reads-valid bs c bytes e))
       go (refused n p) e = rw e
 
-  pub loaded-answer : {a : Answer Numbers} → a ≡ readAnswer l bs → a ≡ numbersRead bs
-  unfolding readAnswer numbersRead
+  pub loaded-answer : {a : Answer Header} → a ≡ readAnswer l bs → a ≡ headerRead bs
+  unfolding readAnswer headerRead
   loaded-answer e = rw read-largest at e
 
   pub loaded-lists : {after : Lists} → after ≡ listsAfter (readInto l bs) l → after ≡ listsAfter (chartIn bs) largest

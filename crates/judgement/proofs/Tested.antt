@@ -75,7 +75,7 @@ sets-are (r ∷ rs) beyond =
     rw (map-append, append-assoc, take-at _ _ _ e, drop-at _ _ _ e, sets-are rs beyond)
 
 pub tested-are : (rs : List Transition) (ns ts : List ℕ) → TestsOf rs ns ts → setsIn (take (length ns) ns) ts ≡ map testsSet rs
-tested-are rs ns ts t = rw (take-length, t .counts-are, t .timers-are) (sets-are rs (t .beyond))
+tested-are rs ns ts t = rw (take-length, t .test-counts-are, t .timers-are) (sets-are rs (t .beyond))
 
 -- ---- the first transition that tests a timer of its source's set
 

@@ -10,22 +10,22 @@ use Rattle.model.specs.Live.{testsSet}
 use Rattle.model.specs.Judge.{judged}
 use Rattle.file_format.specs.File.{chartIn}
 use Rattle.chart_lists.specs.Lists.{Lists, lists, put}
-use Rattle.chart_lists.specs.declared.Numbers.{Numbers}
-use Rattle.chart_lists.specs.Numbers.{numbersOf}
+use Rattle.chart_lists.specs.declared.Header.{Header}
+use Rattle.chart_lists.specs.Header.{headerOf}
 
 -- the chart of a file, or its refusal, 1 to 10
 unfoldable pub judgedIn : List ℕ → Answer Chart
 judgedIn bs = then (chartIn bs) judged
 
-unfoldable pub judgedNumbers : List ℕ → Answer Numbers
-judgedNumbers bs = then (judgedIn bs) (λ c. result (numbersOf c))
+unfoldable pub judgedHeader : List ℕ → Answer Header
+judgedHeader bs = then (judgedIn bs) (λ c. result (headerOf c))
 
 -- the same by parts: of a file 1 to 8 alone, and of a chart 9 and 10
-unfoldable pub numbersRead : List ℕ → Answer Numbers
-numbersRead bs = then (chartIn bs) (λ c. result (numbersOf c))
+unfoldable pub headerRead : List ℕ → Answer Header
+headerRead bs = then (chartIn bs) (λ c. result (headerOf c))
 
-unfoldable pub numbersJudged : Chart → Answer Numbers
-numbersJudged c = then (judged c) (λ d. result (numbersOf d))
+unfoldable pub headerJudged : Chart → Answer Header
+headerJudged c = then (judged c) (λ d. result (headerOf d))
 
 -- lists of the largest size, with zeros
 unfoldable pub largest : Lists

@@ -14,18 +14,18 @@ total [] = 0
 total (n ∷ ns) = n + total ns
 
 -- the set of the first n timers, then that of the next, ..
-unfoldable pub setsIn : (counts timers : List ℕ) → List ℕ
+unfoldable pub setsIn : (test-counts timers : List ℕ) → List ℕ
 setsIn [] ts = []
 setsIn (n ∷ ns) ts = setOf (take n ts) ∷ setsIn ns (drop n ts)
 
 -- what the code asks for its safety: so many timers are there, and a set holds every one
-pub record TimersFor (counts timers : List ℕ) : Type 0 where
-  pub enough : total counts ≤ length timers
+pub record TimersFor (test-counts timers : List ℕ) : Type 0 where
+  pub enough : total test-counts ≤ length timers
   pub small : (i : ℕ) → getD timers i 0 < 64
 
 -- the numbers of the transitions' tests, and the tests' timers in front
-pub record TestsOf (rs : List Transition) (counts timers : List ℕ) : Type 0 where
-  pub counts-are : counts ≡ map (λ (r : Transition). length (r .tests)) rs
+pub record TestsOf (rs : List Transition) (test-counts timers : List ℕ) : Type 0 where
+  pub test-counts-are : test-counts ≡ map (λ (r : Transition). length (r .tests)) rs
   pub beyond : List ℕ
   pub timers-are : timers ≡ map (λ (t : Test). t .timer) (allTests rs) ++ beyond
 

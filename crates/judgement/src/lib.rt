@@ -10,16 +10,17 @@ ghost use Rattle.model.specs.Live.{testsSet, isEmpty, unstartedSets, firstUnrea
 ghost use Rattle.model.specs.Flow.{settled};
 ghost use Rattle.flow.specs.Edges.{flowOf};
 ghost use Rattle.chart_lists.specs.Lists.{lists, put};
-ghost use Rattle.chart_lists.specs.Numbers.{numbersOf};
+ghost use Rattle.chart_lists.specs.Header.{headerOf};
 ghost use Rattle.file_format.specs.File.{chartIn};
-ghost use Rattle.reader.specs.Reading.{listsAfter, meantRead};
-ghost use Rattle.judgement.specs.Judging.{judgedNumbers, numbersJudged, largest, testedAfter, Cleared};
+ghost use Rattle.chart_lists.specs.Read.{readAs};
+ghost use Rattle.reader.specs.Reading.{listsAfter};
+ghost use Rattle.judgement.specs.Judging.{judgedHeader, headerJudged, largest, testedAfter, Cleared};
 ghost use Rattle.judgement.specs.Drawn.{Drawable, Drawn, ownSets};
 ghost use Rattle.judgement.specs.Holds.{Holds};
 ghost use Rattle.judgement.specs.Tested.{TimersFor, TestsOf, testsIn};
-use chart_lists::Numbers;
-use chart_lists::Refusal;
-use reader::Read;
+use chart_lists::Header;
+use chart_lists::Read;
+use refusal::Refusal;
 use timer_set::TimerSet;
 
 // The set of so many timers from the entry base on.
@@ -37,15 +38,15 @@ fn set_of(timers: &[u8], base: usize, count: u8) -> u64
 }
 
 // The set of the timers that each transition tests, over the front of `tested`.
-fn tested_sets(counts: &[u8], timers: &[u8], tested: &mut [u64])
-    requires { ⌜ TimersFor (now counts) (now timers) × (length (now counts) ≤ length (now tested)) ⌝ }
-    ensures { λ _. ⌜ ((rs : List Transition) → TestsOf rs (now (counts .entry)) (now (timers .entry)) → now (tested .exit) ≡ put (map testsSet rs) (now (tested .entry))) ⌝ }
+fn tested_sets(test_counts: &[u8], timers: &[u8], tested: &mut [u64])
+    requires { ⌜ TimersFor (now «test_counts») (now timers) × (length (now «test_counts») ≤ length (now tested)) ⌝ }
+    ensures { λ _. ⌜ ((rs : List Transition) → TestsOf rs (now («test_counts» .entry)) (now (timers .entry)) → now (tested .exit) ≡ put (map testsSet rs) (now (tested .entry))) ⌝ }
 {
-    let n = counts.len();
+    let n = test_counts.len();
     let mut base: usize = 0;
     let mut i: usize = 0;
     while i < n {
-        let count = counts[i];
+        let count = test_counts[i];
         tested[i] = set_of(timers, base, count);
         base += count as usize;
         i += 1;
@@ -134,10 +135,10 @@ fn judge_lists<'a>(
     targets: &'a [u16],
     starts: &'a [u64],
     tested: &'a [u64],
-    numbers: Numbers,
+    numbers: Header,
 ) -> Read
     requires { ⌜ Drawable (numbers .initial) (numbers .locations) (now sources) (now targets) (now starts) × (length (now tested) ≡ length (now sources)) ⌝ }
-    ensures { λ r. ⌜ ((c : Chart) → Drawn c (numbers .initial) (numbers .locations) (now (sources .entry)) (now (targets .entry)) (now (starts .entry)) (now (tested .entry)) → numbers ≡ numbersOf c → meantRead r ≡ numbersJudged c) ⌝ }
+    ensures { λ r. ⌜ ((c : Chart) → Drawn c (numbers .initial) (numbers .locations) (now (sources .entry)) (now (targets .entry)) (now (starts .entry)) (now (tested .entry)) → numbers ≡ headerOf c → readAs r ≡ headerJudged c) ⌝ }
 {
     let initial = numbers.initial as usize;
     let m = numbers.locations as usize;
@@ -181,17 +182,17 @@ fn judge_chart<'a>(
     sources: &'a [u16],
     targets: &'a [u16],
     starts: &'a [u64],
-    counts: &'a [u8],
+    test_counts: &'a [u8],
     timers: &'a [u8],
-    numbers: Numbers,
+    numbers: Header,
     tested: &mut [u64],
 ) -> Read
-    requires { ⌜ ((bs : List ℕ) × Holds bs numbers (now sources) (now targets) (now starts) (now counts) (now timers)) × (now tested ≡ replicate 512 0) ⌝ }
-    ensures answer { λ r. ⌜ ((bs : List ℕ) → Holds bs numbers (now (sources .entry)) (now (targets .entry)) (now (starts .entry)) (now (counts .entry)) (now (timers .entry)) → meantRead r ≡ judgedNumbers bs) ⌝ }
-    ensures tested { λ _. ⌜ ((bs : List ℕ) → Holds bs numbers (now (sources .entry)) (now (targets .entry)) (now (starts .entry)) (now (counts .entry)) (now (timers .entry)) → now (tested .exit) ≡ testedAfter (chartIn bs)) ⌝ }
+    requires { ⌜ ((bs : List ℕ) × Holds bs numbers (now sources) (now targets) (now starts) (now «test_counts») (now timers)) × (now tested ≡ replicate 512 0) ⌝ }
+    ensures answer { λ r. ⌜ ((bs : List ℕ) → Holds bs numbers (now (sources .entry)) (now (targets .entry)) (now (starts .entry)) (now («test_counts» .entry)) (now (timers .entry)) → readAs r ≡ judgedHeader bs) ⌝ }
+    ensures tested { λ _. ⌜ ((bs : List ℕ) → Holds bs numbers (now (sources .entry)) (now (targets .entry)) (now (starts .entry)) (now («test_counts» .entry)) (now (timers .entry)) → now (tested .exit) ≡ testedAfter (chartIn bs)) ⌝ }
 {
     let n = numbers.transitions as usize;
-    tested_sets(&counts[..n], timers, tested);
+    tested_sets(&test_counts[..n], timers, tested);
     judge_lists(
         &sources[..n],
         &targets[..n],
@@ -209,15 +210,15 @@ pub fn judge(
     targets: &mut [u16],
     events: &mut [u8],
     starts: &mut [u64],
-    counts: &mut [u8],
+    test_counts: &mut [u8],
     timers: &mut [u8],
     codes: &mut [u8],
     constants: &mut [u16],
     tested: &mut [u64],
 ) -> Read
-    requires { ⌜ Cleared (lists (now accepting) (now sources) (now targets) (now events) (now starts) (now counts) (now timers) (now codes) (now constants)) (now tested) ⌝ }
-    ensures answer { λ r. ⌜ meantRead r ≡ judgedNumbers (now (file .entry)) ⌝ }
-    ensures lists { λ _. ⌜ lists (now (accepting .exit)) (now (sources .exit)) (now (targets .exit)) (now (events .exit)) (now (starts .exit)) (now (counts .exit)) (now (timers .exit)) (now (codes .exit)) (now (constants .exit)) ≡ listsAfter (chartIn (now (file .entry))) largest ⌝ }
+    requires { ⌜ Cleared (lists (now accepting) (now sources) (now targets) (now events) (now starts) (now «test_counts») (now timers) (now codes) (now constants)) (now tested) ⌝ }
+    ensures answer { λ r. ⌜ readAs r ≡ judgedHeader (now (file .entry)) ⌝ }
+    ensures lists { λ _. ⌜ lists (now (accepting .exit)) (now (sources .exit)) (now (targets .exit)) (now (events .exit)) (now (starts .exit)) (now («test_counts» .exit)) (now (timers .exit)) (now (codes .exit)) (now (constants .exit)) ≡ listsAfter (chartIn (now (file .entry))) largest ⌝ }
     ensures tested { λ _. ⌜ now (tested .exit) ≡ testedAfter (chartIn (now (file .entry))) ⌝ }
 {
     let answer = reader::read_chart(
@@ -227,7 +228,7 @@ pub fn judge(
         targets,
         events,
         starts,
-        counts,
+        test_counts,
         timers,
         codes,
         constants,
@@ -235,5 +236,13 @@ pub fn judge(
     let Read::Chart(numbers) = answer else {
         return answer;
     };
-    judge_chart(sources, targets, starts, counts, timers, numbers, tested)
+    judge_chart(
+        sources,
+        targets,
+        starts,
+        test_counts,
+        timers,
+        numbers,
+        tested,
+    )
 }

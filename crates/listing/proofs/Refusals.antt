@@ -5,11 +5,11 @@ use mathlib.Core.List.{List, [], _∷_}
 use Prim.Native.Nat.{ℕ, _^_, _≤_, _<_}
 use native.Mathlib.Omega.{arith}
 use lib.ListN.{length}
+use Rattle.file_format.specs.Parse.{Bytes}
 use Rattle.lists.proofs.Bools.{lt-or-le}
 use Rattle.model.specs.Answer.{refused, nowhere}
 use Rattle.model.specs.Chart.{Chart}
 use Rattle.model.proofs.Judgement.{LowestUnreached, LowestUnstarted}
-use Rattle.file_format.proofs.RoundTrip.{Bytes}
 use Rattle.judgement.specs.Judging.{judgedIn}
 use Rattle.judgement.specs.Refusals.RefusalOfJudgement.{of-file, of-unreached, of-unstarted}
 use Rattle.judgement.proofs.Corollaries.{HoldsChart, judged-9, judged-10, refusals-of-judgedIn}

@@ -12,7 +12,7 @@ use Rattle.model.specs.FirstFit.{Placed, board, numberAt, usedBy, floor}
 use Rattle.model.specs.Judge.{rewriting}
 use Rattle.file_format.specs.File.{chartIn}
 use Rattle.chart_lists.specs.Lists.{put}
-use Rattle.chart_lists.specs.Numbers.{refusedAs}
+use Rattle.refusal.specs.Refused.{refusedAs}
 use Rattle.listing.specs.Text.{decimal, space, lineFeed, refusedWord, usedWord, floorWord, limitWord, atWord, greater}
 use Rattle.listing.specs.declared.Listed.{Listed}
 use Rattle.listing.specs.declared.Listed.the-variants as listed
@@ -59,6 +59,6 @@ bufferAfter (result text) out = put text out
 bufferAfter (refused n p) out = out
 
 -- what an answer of the code means
-abbrev pub meantListed : Listed → Answer ℕ
-meantListed (listed.Text n) = result n
-meantListed (listed.Refused f) = refusedAs f
+abbrev pub listedAs : Listed → Answer ℕ
+listedAs (listed.Text n) = result n
+listedAs (listed.Refused f) = refusedAs f

@@ -7,11 +7,11 @@ ghost use Rattle.model.specs.Chart.{Chart};
 ghost use Rattle.model.specs.FirstFit.{fullest};
 ghost use Rattle.numbering.specs.Numbered.{ListsFor, OfChart};
 ghost use Rattle.listing.specs.Text.{decimal};
-ghost use Rattle.listing.specs.Listing.{refusedText, firstLine, entryText, accepted, answerText, textOf, listInto, listAnswer, bufferAfter, meantListed};
+ghost use Rattle.listing.specs.Listing.{refusedText, firstLine, entryText, accepted, answerText, textOf, listInto, listAnswer, bufferAfter, listedAs};
 ghost use Rattle.listing.specs.Cells.{Written, inCell, entriesIn, lineIn, linesIn, listedChart};
-use chart_lists::Numbers;
-use chart_lists::Refusal;
-use reader::Read;
+use chart_lists::Header;
+use chart_lists::Read;
+use refusal::Refusal;
 
 // The length of the text, or a refusal.
 pub enum Listed {
@@ -175,7 +175,7 @@ fn put_judged<'a>(
     targets: &'a [u16],
     starts: &'a [u64],
     tested: &'a [u64],
-    numbers: Numbers,
+    numbers: Header,
 ) -> usize
     requires { ⌜ OfChart (now sources) (now targets) (now starts) (now tested) (numbers .timers) (numbers .locations) × (131072 ≤ length (now out)) ⌝ }
     ensures { λ r. ⌜ ((c : Chart) → ListsFor c (now (sources .entry)) (now (targets .entry)) (now (starts .entry)) (now (tested .entry)) (numbers .timers) (numbers .locations)
@@ -210,7 +210,7 @@ fn put_file(out: &mut [u8], limit: u8, file: &[u8]) -> usize
     let mut targets = [0u16; 512];
     let mut events = [0u8; 512];
     let mut starts = [0u64; 512];
-    let mut counts = [0u8; 512];
+    let mut test_counts = [0u8; 512];
     let mut timers = [0u8; 4096];
     let mut codes = [0u8; 4096];
     let mut constants = [0u16; 4096];
@@ -222,7 +222,7 @@ fn put_file(out: &mut [u8], limit: u8, file: &[u8]) -> usize
         &mut targets,
         &mut events,
         &mut starts,
-        &mut counts,
+        &mut test_counts,
         &mut timers,
         &mut codes,
         &mut constants,
@@ -261,16 +261,13 @@ fn put_text(out: &mut [u8], input: &[u8]) -> usize
 
 // The text of the whole input over the front of the lent buffer, or 21.
 pub fn list(input: &[u8], out: &mut [u8]) -> Listed
-    ensures answer { λ r. ⌜ meantListed r ≡ listAnswer (length (now (out .entry))) (now (input .entry)) ⌝ }
+    ensures answer { λ r. ⌜ listedAs r ≡ listAnswer (length (now (out .entry))) (now (input .entry)) ⌝ }
     ensures lent { λ _. ⌜ now (out .exit) ≡ bufferAfter (listInto (length (now (out .entry))) (now (input .entry))) (now (out .entry)) ⌝ }
 {
     let mut text = [0u8; 131072];
     let n = put_text(&mut text, input);
     if out.len() < n {
-        return Listed::Refused(Refusal {
-            number: 21,
-            place: 65535,
-        });
+        return Listed::Refused(refusal::NO_ROOM);
     }
     put_word(out, &text[..n]);
     Listed::Text(n)

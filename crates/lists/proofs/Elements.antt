@@ -10,15 +10,11 @@ use native.Mathlib.Omega.{arith}
 use lib.ListN.{getElem?}
 use Rattle.lists.specs.Lists.{memb, gather}
 use Rattle.lists.specs.Rising.{Rising}
+use Rattle.lists.specs.Elements.{Element}
 use Rattle.lists.proofs.Membership.{memb-cases, memb-head, memb-tail, memb-nil}
 use Rattle.lists.proofs.Gather.{rising-append}
 
 module _ {A : Type 0} where
-  -- a is an element of the list
-  pub record Element (l : List A) (a : A) : Type 0 where
-    pub place : ℕ
-    pub is-nth : getElem? l place ≡ some a
-
   element-later : {x a : A} {l : List A} → Element l a → Element (x ∷ l) a
   element-later e = record { place = suc (e .place); is-nth = e .is-nth }
 

@@ -10,15 +10,15 @@ use lib.ListN.{getElem?}
 use Rattle.lists.specs.Lists.{memb}
 use Rattle.lists.proofs.Bools.{yes-or-no, not-both, is-no, same-number}
 use Rattle.model.specs.Chart.{Transition, Chart, Nth}
-use Rattle.model.specs.Run.{Counts, State, Step, grown, restarted, allMet, after, attempt, begin}
+use Rattle.model.specs.Run.{Counts, State, Step, grown, restarted, after, enabled, attempt, begin}
 use Rattle.model.specs.Path.{Reached}
 use Rattle.model.specs.Rewrite.{Numbering, newTests, newStarts, newTransition, rewrittenBy}
-use Rattle.model.specs.Plan.{Has, Plan}
+use Rattle.model.specs.Plan.{Has, Plan, Numbered}
 use Rattle.model.specs.Equivalence.{Starts}
 use Rattle.model.proofs.Answers.{Matching, match-unless}
 use Rattle.model.proofs.Steps.{judgedStep, attempt-none, attempt-some}
 use Rattle.model.proofs.Paths.{reached-initial, reached-step}
-use Rattle.model.proofs.Rewritten.{Numbered, new-nth, new-none, all-met, starts-in, starts-out}
+use Rattle.model.proofs.Rewritten.{new-nth, new-none, all-met, starts-in, starts-out}
 
 pub restarted-yes : (j : ℕ) (l : List ℕ) (v : Counts) → memb j l ≡ true → restarted l v j ≡ 0
 unfolding restarted
@@ -89,8 +89,8 @@ module _ (c : Chart) (N : Numbering) (P : Plan c N) where
     started-at j k h = a .started j k (rw from at h)
 
     tests-alike : (t : ℕ)
-        → allMet (r .tests) (grown (t - s .time) (s .counts)) ≡ allMet (newTests N (r .source) (r .tests)) (grown (t - s′ .time) (s′ .counts))
-    unfolding grown
+        → enabled c r (grown (t - s .time) (s .counts)) ≡ enabled (rewrittenBy N c) (newTransition N r) (grown (t - s′ .time) (s′ .counts))
+    unfolding enabled newTransition grown
     tests-alike t =
         all-met N (r .source) _ _ (r .tests) (tests-numbered n reach)
         (λ j k h. ap₂ (λ (x y : ℕ). x + (t - y)) (shows-at j k h) (a .time))
@@ -135,7 +135,7 @@ module _ (c : Chart) (N : Numbering) (P : Plan c N) where
           inr (record { transition = newTransition N r; is-nth = new-nth N c (e .transition) m; starts-it = unfold newTransition in y })
 
       judged : (r : Transition) → Nth c (e .transition) r
-          → Matching (Agree c N Earlier) (judgedStep n r s (e .time)) (judgedStep n (newTransition N r) s′ (e .time))
+          → Matching (Agree c N Earlier) (judgedStep c n r s (e .time)) (judgedStep (rewrittenBy N c) n (newTransition N r) s′ (e .time))
       judged r m = unfold newTransition in (
           match-unless _ 22 n _ _ (ap (eqb (r .source)) (a .location)) (λ here.
           match-unless _ 23 n _ _ (ap (λ (x : ℕ). leb x (e .time)) (a .time)) (λ x.

@@ -17,13 +17,12 @@ use Rattle.model.specs.Chart.{Transition, Chart, Nth}
 use Rattle.model.specs.Valid.{Valid}
 use Rattle.model.specs.Path.{Live, Born, UnstartedTest}
 use Rattle.model.specs.Live.{startsSet, liveSets, live}
-use Rattle.model.specs.Family.{Link, isPair, livePairs, Linked, families}
+use Rattle.model.specs.Family.{Link, isPair, livePairs, Linked, families, WellFormed, WellFormedLink}
 use Rattle.model.specs.FirstFit.{firstFit, usedBy, numberAt, blocked, board, used}
 use Rattle.model.specs.Rewrite.{numbering, newStarts}
 use Rattle.model.specs.Plan.{Plan}
 use Rattle.model.proofs.Transitions.{nth-valid}
 use Rattle.model.proofs.Paths.{live-here, live-back, live-inside, live-unstarted}
-use Rattle.model.proofs.Joined.{WellFormed, WellFormedLink}
 use Rattle.model.proofs.FirstFit.{blocked-iff}
 use Rattle.model.proofs.NumberAt.{number-below}
 use Rattle.model.proofs.PairNumbers.{number-of-pair, number-pair, linked-same, apart, below}

@@ -16,8 +16,8 @@ use Rattle.lists.proofs.Lowest.{lowest-passes, lowest-most}
 use Rattle.lists.proofs.Gather.{pick-in, pick-out, pick-rising}
 use Rattle.lists.proofs.Rising.{rising-same}
 use Rattle.model.specs.Flow.{settled}
-use Rattle.model.specs.Family.{Pairs, isPair, Joined, Family, familyNumber, linkFlow, familyOf, meets}
-use Rattle.model.proofs.Joined.{WellFormed, joined-refl, joined-trans, joined-sym, joined-pair}
+use Rattle.model.specs.Family.{Pairs, isPair, Joined, Family, familyNumber, linkFlow, familyOf, meets, WellFormed}
+use Rattle.model.proofs.Joined.{joined-refl, joined-trans, joined-sym, joined-pair}
 use Rattle.model.proofs.LinkFlow.{link-flow-iff}
 pub use Rattle.model.specs.SharingRule.{NumberOfFamily, Meet}
 

@@ -11,16 +11,13 @@ use lib.ListN.{getElem?}
 use borrow.Author.Tests.{eq-eqb}
 use Rattle.lists.specs.Lists.{gather}
 use Rattle.lists.specs.Rising.{Rising}
+use Rattle.lists.specs.Elements.{Element}
+use Rattle.model.specs.SharingRule.{FamilyOfPair}
 use Rattle.lists.proofs.Bools.{same-number}
-use Rattle.lists.proofs.Elements.{Element, gather-in, gather-out, gather-rising, rising-wider}
-use Rattle.model.specs.Family.{Pairs, isPair, Joined, Family, familyNumber, familyOf, familyFrom, families}
-use Rattle.model.proofs.Joined.{WellFormed, joined-pair}
+use Rattle.lists.proofs.Elements.{gather-in, gather-out, gather-rising, rising-wider}
+use Rattle.model.specs.Family.{Pairs, isPair, Joined, Family, familyNumber, familyOf, familyFrom, families, WellFormed}
+use Rattle.model.proofs.Joined.{joined-pair}
 use Rattle.model.proofs.Families.{family-timer, first-joined, family-same}
-
--- f is the family of a pair, the pair of its first location
-pub record FamilyOfPair (p : Pairs) (f : Family) : Type 0 where
-  pub pair : isPair p (f .first) (f .timer) ≡ true
-  pub whole : f ≡ familyOf p (f .first) (f .timer)
 
 module _ (p : Pairs) (q j : ℕ) where
   from-in : isPair p q j ≡ true → familyOf p q j .first ≡ q → Element (familyFrom p q j) (familyOf p q j)

@@ -9,6 +9,7 @@ use lib.Dec.{eqb}
 use lib.ListN.{getD, getElem?}
 use borrow.Author.Tests.{not-true}
 use Rattle.timer_set.specs.Members.{member, joined, minus}
+use Rattle.model.specs.Comes.{EdgeInto, Comes, Shaped}
 use Rattle.timer_set.proofs.Members.{member-joined, member-minus}
 use Rattle.lists.specs.Lists.{anyOf}
 use Rattle.lists.proofs.Bools.{or-cases, or-left, or-right, and-left, and-right, and-both, same-number, eqb-self}
@@ -16,30 +17,11 @@ use Rattle.lists.proofs.Membership.{any-in, any-out}
 use Rattle.model.specs.Flow.{Edge, Flow, brings, made}
 use Rattle.model.proofs.Edges.{withEdge, withEdges}
 
--- edge number `number` is e, and leads into q
-pub record EdgeInto (f : Flow) (q : ℕ) (e : Edge) : Type 0 where
-  pub number : ℕ
-  pub is-nth : getElem? (f .edges) number ≡ some e
-  pub leads : e .into ≡ q
-
--- j comes to q: from q's own set, from what an edge into q gains, or along an edge into q that does not cut it, from where it comes
-pub data Comes (f : Flow) (j : ℕ) : ℕ → Type 0 where
-  owned : {q : ℕ} → member (f .own q) j ≡ true → Comes f j q
-  gained : {q : ℕ} {e : Edge} → EdgeInto f q e → member (e .gain) j ≡ true → Comes f j q
-  along : {q : ℕ} {e : Edge} → EdgeInto f q e → member (e .cut) j ≡ false → Comes f j (e .from) → Comes f j q
-
 -- the same of one round, where P says where it stands before
 pub data Way (f : Flow) (j : ℕ) (P : ℕ → Type 0) (q : ℕ) : Type 0 where
   by-own : member (f .own q) j ≡ true → Way f j P q
   by-gain : {e : Edge} → EdgeInto f q e → member (e .gain) j ≡ true → Way f j P q
   by-edge : {e : Edge} → EdgeInto f q e → member (e .cut) j ≡ false → P (e .from) → Way f j P q
-
--- locations are in range, and sets are words of 64
-pub record Shaped (f : Flow) : Type 0 where
-  pub into-below : (i : ℕ) {e : Edge} → getElem? (f .edges) i ≡ some e → e .into < f .locations
-  pub from-below : (i : ℕ) {e : Edge} → getElem? (f .edges) i ≡ some e → e .from < f .locations
-  pub own-word : (q : ℕ) → f .own q < 2 ^ 64
-  pub gain-word : (i : ℕ) {e : Edge} → getElem? (f .edges) i ≡ some e → e .gain < 2 ^ 64
 
 or-none : (b : Bool) → b ≡ (b || false)
 or-none true = refl

@@ -8,6 +8,7 @@ use lib.Dec.{eqb, lit<}
 use lib.ListN.{getD}
 use borrow.Author.Tests.{eqb-false, eqb-true, ne-eqb}
 use Rattle.timer_set.specs.Members.{member, everyTimer}
+use Rattle.model.specs.Comes.{EdgeInto, Comes, Shaped}
 use Rattle.timer_set.proofs.Members.{member-empty, member-every, some-member}
 use Rattle.lists.proofs.Bools.{not-both, eqb-self}
 use Rattle.lists.proofs.Membership.{nth-map}
@@ -19,8 +20,7 @@ use Rattle.model.specs.Live.{startsSet, atInitial, unstartedFlow, reache
 use Rattle.model.proofs.Transitions.{nth-valid}
 use Rattle.model.proofs.TransitionSets.{member-starts, edge-of}
 use Rattle.model.proofs.Paths.{reached-initial, reached-step, reached-least, unstarted-initial, unstarted-step, unstarted-least}
-use Rattle.model.proofs.Flow.{EdgeInto, Comes, Shaped}
-use Rattle.model.proofs.Flow.Comes.{owned, gained, along}
+use Rattle.model.specs.Comes.Comes.{owned, gained, along}
 use Rattle.model.proofs.Settled.{settled-words, settled-iff}
 
 -- ---- a set that is not empty has a member

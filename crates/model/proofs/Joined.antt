@@ -7,20 +7,7 @@ use mathlib.Core.List.{List, [], _∷_, _++_}
 use Prim.Native.Nat.{ℕ, _≤_, _<_}
 use lib.ListN.{getElem?}
 use Rattle.timer_set.specs.Members.{member}
-use Rattle.model.specs.Family.{Link, Pairs, isPair, Linked, Chain, Joined}
-
--- the link's ends are locations, and each of its timers is a pair at both
-pub record WellFormedLink (p : Pairs) (l : Link) : Type 0 where
-  pub one : l .one < p .locations
-  pub other : l .other < p .locations
-  pub pair-one : (j : ℕ) → member (l .timers) j ≡ true → isPair p (l .one) j ≡ true
-  pub pair-other : (j : ℕ) → member (l .timers) j ≡ true → isPair p (l .other) j ≡ true
-
-pub record WellFormed (p : Pairs) : Type 0 where
-  pub few-timers : p .timers ≤ 64
-  pub location : (q j : ℕ) → isPair p q j ≡ true → q < p .locations
-  pub timer : (q j : ℕ) → isPair p q j ≡ true → j < p .timers
-  pub link : (i : ℕ) (l : Link) → getElem? (p .links) i ≡ some l → WellFormedLink p l
+use Rattle.model.specs.Family.{Link, Pairs, isPair, Linked, Chain, Joined, WellFormed, WellFormedLink}
 
 pub chain-append : (p : Pairs) (j : ℕ) (v w : List ℕ) (q s t : ℕ) → Chain p j q v s → Chain p j s w t → Chain p j q (v ++ w) t
 chain-append p j [] w q s t a b = subst (λ (x : ℕ). Chain p j x w t) (sym a) b

@@ -9,17 +9,18 @@ use native.Mathlib.Omega.{arith}
 use lib.Dec.{eqb}
 use lib.ListN.{getD, getElem?}
 use Rattle.timer_set.specs.Members.{member, minus, everyTimer}
+use Rattle.lists.specs.Elements.{Element}
+use Rattle.model.specs.Comes.{Comes, Shaped}
 use Rattle.timer_set.proofs.Members.{member-empty, member-minus, member-one, member-every}
 use lib.Pow.{pow-lt, pow-pos}
 use Rattle.lists.proofs.Bools.{not-both, not-false, eqb-self, same-number}
 use Rattle.lists.proofs.Membership.{nth-map, nth-unmap}
-use Rattle.lists.proofs.Elements.{Element, element-left, element-right, element-cases}
+use Rattle.lists.proofs.Elements.{element-left, element-right, element-cases}
 use Rattle.model.specs.Flow.{Edge, settled}
-use Rattle.model.specs.Family.{Link, Pairs, isPair, Linked, Joined, linkFlow}
-use Rattle.model.proofs.Flow.{Comes, Shaped}
-use Rattle.model.proofs.Flow.Comes.{owned, gained, along}
+use Rattle.model.specs.Family.{Link, Pairs, isPair, Linked, Joined, linkFlow, WellFormed, WellFormedLink}
+use Rattle.model.specs.Comes.Comes.{owned, gained, along}
 use Rattle.model.proofs.Settled.{settled-iff}
-use Rattle.model.proofs.Joined.{WellFormed, WellFormedLink, joined-refl, joined-one, joined-trans, joined-carries}
+use Rattle.model.proofs.Joined.{joined-refl, joined-one, joined-trans, joined-carries}
 
 -- the edges of a link, to and fro
 abbrev edge : (into from timers : ℕ) → Edge

@@ -5,6 +5,7 @@ use mathlib.Core.Bool.{true}
 use Prim.Native.Nat.{ℕ, _≤_, _<_, _^_}
 use lib.Dec.{lit<}
 use Rattle.timer_set.specs.Members.{member}
+use Rattle.model.specs.Comes.{EdgeInto, Comes, Shaped}
 use Rattle.timer_set.proofs.Members.{member-empty}
 use Rattle.lists.proofs.Bools.{not-both, lt-or-le}
 use Rattle.lists.proofs.Membership.{nth-map}
@@ -16,8 +17,7 @@ use Rattle.model.specs.Live.{startsSet, testsSet, liveFlow, liveSets, li
 use Rattle.model.proofs.Transitions.{nth-valid}
 use Rattle.model.proofs.TransitionSets.{member-starts, member-tests, tests-word, edge-of}
 use Rattle.model.proofs.Paths.{live-test, live-back, live-least, live-inside}
-use Rattle.model.proofs.Flow.{EdgeInto, Comes, Shaped}
-use Rattle.model.proofs.Flow.Comes.{owned, gained, along}
+use Rattle.model.specs.Comes.Comes.{owned, gained, along}
 use Rattle.model.proofs.Settled.{settled-beyond, settled-iff}
 
 -- the edge of a transition, backwards

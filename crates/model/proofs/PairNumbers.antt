@@ -8,23 +8,15 @@ use mathlib.Core.List.{[]}
 use Prim.Native.Nat.{ℕ, _<_}
 use lib.ListN.{getElem?}
 use Rattle.lists.specs.Lists.{memb}
+use Rattle.model.specs.SharingRule.{FamilyOfPair, PairNumber}
 use Rattle.lists.proofs.Bools.{same-bool}
-use Rattle.model.specs.Family.{Pairs, isPair, Linked, Joined, Family, familyOf, families}
+use Rattle.model.specs.Family.{Pairs, isPair, Linked, Joined, Family, familyOf, families, WellFormed}
 use Rattle.model.specs.FirstFit.{Placed, place, firstFit, usedBy, numberAt}
 use Rattle.model.proofs.FirstFit.{FirstFitRule, Fitted, first-fit-rule, place-fitted}
 use Rattle.model.proofs.NumberAt.{has, has-timer, has-location, has-pair, number-in, number-out, number-same, number-apart, number-below, place-in, place-out}
-use Rattle.model.proofs.Joined.{WellFormed, joined-refl, joined-one, joined-sym, joined-pair, linked-sym, linked-pair}
+use Rattle.model.proofs.Joined.{joined-refl, joined-one, joined-sym, joined-pair, linked-sym, linked-pair}
 use Rattle.model.proofs.Families.{family-timer, family-has, family-same}
-use Rattle.model.proofs.FamilyList.{FamilyOfPair, families-have, families-are}
-
--- the family of the pair (q, j) was given the number k
-pub record PairNumber (p : Pairs) (q j k : ℕ) : Type 0 where
-  pub pair : isPair p q j ≡ true
-  pub place : ℕ
-  pub placed : Placed
-  pub is-nth : getElem? (firstFit p) place ≡ some placed
-  pub family : placed .family ≡ familyOf p q j
-  pub number : placed .number ≡ k
+use Rattle.model.proofs.FamilyList.{families-have, families-are}
 
 pub first-fit-fitted : (p : Pairs) → Fitted (firstFit p)
 unfolding firstFit

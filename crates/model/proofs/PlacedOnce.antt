@@ -7,10 +7,9 @@ use Prim.Native.Nat.{ℕ, zero, suc, _*_, _≤_, _<_}
 use native.Mathlib.Omega.{arith}
 use lib.ListN.{getElem?}
 use Rattle.lists.specs.Rising.{Rising}
-use Rattle.model.specs.Family.{Pairs, Family, familyNumber, families}
+use Rattle.model.specs.Family.{Pairs, Family, familyNumber, families, WellFormed}
 use Rattle.model.specs.FirstFit.{Placed, held, free, place, firstFit, numberAt}
 use Rattle.model.proofs.NumberAt.{has}
-use Rattle.model.proofs.Joined.{WellFormed}
 use Rattle.model.proofs.FamilyList.{families-rising}
 use Rattle.model.proofs.PairNumbers.{placed-family, has-whole}
 

@@ -14,7 +14,7 @@ use Rattle.lists.specs.Lists.{memb}
 use Rattle.lists.proofs.Bools.{lt-or-le}
 use Rattle.model.specs.Answer.{Answer, result, refused, then, unless}
 use Rattle.model.specs.Chart.{Transition, Chart, Nth}
-use Rattle.model.specs.Run.{Counts, State, Step, attempt, steps, begin, outcome, everyTime, playerTime}
+use Rattle.model.specs.Run.{Counts, State, Step, attempt, steps, begin, outcome, everyTime, playerTime, largestTime}
 use Rattle.model.specs.Player.{arrival, answerOf}
 use Rattle.model.specs.Equivalence.{IsRun}
 use Rattle.model.proofs.Answers.{not-result, refused-same, number-is}
@@ -23,15 +23,15 @@ use Rattle.model.proofs.PlayerNumbers.{list-numbers}
 pub use Rattle.model.specs.PlayerTerms.{TooLate, LateStep, PlayerAnswer}
 
 module _ {c : Chart} where
-  late-here : (e : Step) (es : List Step) {r : Transition} → Nth c (e .transition) r → 16777215 < e .time → TooLate c (e ∷ es) 0
+  late-here : (e : Step) (es : List Step) {r : Transition} → Nth c (e .transition) r → largestTime < e .time → TooLate c (e ∷ es) 0
   late-here e es {r} n l = record { step = e; is-step = refl; transition = r; names = n; over = l; first = λ i e k x. absurd (omega arith) }
 
-  late-later : (e : Step) (es : List Step) (n : ℕ) → e .time ≤ 16777215 → TooLate c es n → TooLate c (e ∷ es) (suc n)
+  late-later : (e : Step) (es : List Step) (n : ℕ) → e .time ≤ largestTime → TooLate c es n → TooLate c (e ∷ es) (suc n)
   late-later e es n l x =
       record { step = x .step; is-step = x .is-step; transition = x .transition; names = x .names; over = x .over; first = before }
     where
-      before : (i : ℕ) (d : Step) → i < suc n → getElem? (e ∷ es) i ≡ some d → d .time ≤ 16777215
-      before zero d k h = subst (λ (y : Step). y .time ≤ 16777215) (Option·some-injective _ _ h) l
+      before : (i : ℕ) (d : Step) → i < suc n → getElem? (e ∷ es) i ≡ some d → d .time ≤ largestTime
+      before zero d k h = subst (λ (y : Step). y .time ≤ largestTime) (Option·some-injective _ _ h) l
       before (suc i) d k h = x .first i d (omega arith) h
 
   late-tail : (e : Step) (es : List Step) (n : ℕ) → TooLate c (e ∷ es) (suc n) → TooLate c es n
@@ -47,25 +47,25 @@ module _ {c : Chart} where
 -- ---- one step
 
 module _ (c : Chart) (n : ℕ) (s : State) (e : Step) where
-  player-some : {r : Transition} → Nth c (e .transition) r → attempt playerTime c n s e ≡ unless (leb (e .time) 16777215) 15 n (judgedStep n r s (e .time))
+  player-some : {r : Transition} → Nth c (e .transition) r → attempt playerTime c n s e ≡ unless (leb (e .time) largestTime) 15 n (judgedStep c n r s (e .time))
   unfolding playerTime
   player-some m = attempt-some playerTime c n s e m
 
-  every-some : {r : Transition} → Nth c (e .transition) r → attempt everyTime c n s e ≡ judgedStep n r s (e .time)
+  every-some : {r : Transition} → Nth c (e .transition) r → attempt everyTime c n s e ≡ judgedStep c n r s (e .time)
   unfolding everyTime
   every-some m = attempt-some everyTime c n s e m
 
   -- a time that the player allows is judged alike
-  allowed-alike : e .time ≤ 16777215 → attempt playerTime c n s e ≡ attempt everyTime c n s e
+  allowed-alike : e .time ≤ largestTime → attempt playerTime c n s e ≡ attempt everyTime c n s e
   allowed-alike l = go (getElem? (c .transitions) (e .transition)) refl
     where
       go : (o : Option Transition) → getElem? (c .transitions) (e .transition) ≡ o → attempt playerTime c n s e ≡ attempt everyTime c n s e
       go none h = attempt-none playerTime c n s e h ∙ sym (attempt-none everyTime c n s e h)
       go (some r) h = let m : Nth c (e .transition) r = record { there = h } in
-          player-some m ∙ rw (le-leb (e .time) 16777215 l) (sym (every-some m))
+          player-some m ∙ rw (le-leb (e .time) largestTime l) (sym (every-some m))
 
-  late-refused : {r : Transition} → Nth c (e .transition) r → 16777215 < e .time → attempt playerTime c n s e ≡ refused 15 n
-  late-refused m l = player-some m ∙ rw (lt-leb (e .time) 16777215 l) refl
+  late-refused : {r : Transition} → Nth c (e .transition) r → largestTime < e .time → attempt playerTime c n s e ≡ refused 15 n
+  late-refused m l = player-some m ∙ rw (lt-leb (e .time) largestTime l) refl
 
 -- ---- a list of steps
 
@@ -95,17 +95,17 @@ module _ (c : Chart) where
   late-or-same : (es : List Step) (n : ℕ) (s : State) → LateOrSame n s es
   unfolding steps
   late-or-same [] n s = inr refl
-  late-or-same (e ∷ es) n s = named (getElem? (c .transitions) (e .transition)) refl (lt-or-le 16777215 (e .time)) (late-or-same es (suc n))
+  late-or-same (e ∷ es) n s = named (getElem? (c .transitions) (e .transition)) refl (lt-or-le largestTime (e .time)) (late-or-same es (suc n))
     where
-      onward : e .time ≤ 16777215 → (t : State) → attempt everyTime c n s e ≡ result t → LateOrSame (suc n) t es → LateOrSame n s (e ∷ es)
+      onward : e .time ≤ largestTime → (t : State) → attempt everyTime c n s e ≡ result t → LateOrSame (suc n) t es → LateOrSame n s (e ∷ es)
       onward l t h (inl x) = inl (suc (x .0), late-later e es (x .0) l (x .1), (x .2 .0, rw h (x .2 .1)))
       onward l t h (inr p) = inr (rw (allowed-alike c n s e l, h) p)
 
-      allowed : e .time ≤ 16777215 → (y : Answer State) → attempt everyTime c n s e ≡ y → ((t : State) → LateOrSame (suc n) t es) → LateOrSame n s (e ∷ es)
+      allowed : e .time ≤ largestTime → (y : Answer State) → attempt everyTime c n s e ≡ y → ((t : State) → LateOrSame (suc n) t es) → LateOrSame n s (e ∷ es)
       allowed l (result t) h ih = onward l t h (ih t)
       allowed l (refused i p) h ih = inr (rw (allowed-alike c n s e l, h) refl)
 
-      named : (o : Option Transition) → getElem? (c .transitions) (e .transition) ≡ o → (16777215 < e .time) ⊎ (e .time ≤ 16777215)
+      named : (o : Option Transition) → getElem? (c .transitions) (e .transition) ≡ o → (largestTime < e .time) ⊎ (e .time ≤ largestTime)
           → ((t : State) → LateOrSame (suc n) t es) → LateOrSame n s (e ∷ es)
       named none h d ih = inr (rw (attempt-none playerTime c n s e h, attempt-none everyTime c n s e h) refl)
       named (some r) h (inl l) ih = inl (0, late-here e es (record { there = h }) l, (s, refl))

@@ -11,7 +11,7 @@ use Rattle.lists.specs.Lists.{lowest}
 use Rattle.lists.proofs.Lowest.{lowest-before, lowest-is}
 use Rattle.model.specs.Answer.{Answer, result, unless, nowhere}
 use Rattle.model.specs.Chart.{Chart}
-use Rattle.model.specs.Run.{playerTime}
+use Rattle.model.specs.Run.{playerTime, largestTime}
 use Rattle.model.specs.Rewrite.{Numbering, rewrittenBy}
 use Rattle.model.specs.Plan.{Plan}
 use Rattle.model.specs.Judge.{judged}
@@ -29,7 +29,7 @@ module _ (c : Chart) (counts : List ℕ) where
   counts-pass x a =
       let none : lowest (tooLarge counts) (c .timers) ≡ c .timers =
       lowest-is (tooLarge counts) (c .timers) (c .timers) (omega arith) (λ l. absurd (omega arith))
-      (λ j l. ap not (le-leb (getD counts j 0) 16777215 (a .small j l))) in
+      (λ j l. ap not (le-leb (getD counts j 0) largestTime (a .small j l))) in
       rw (eq-eqb (length counts) (c .timers) (a .one-each), none, le-leb (c .timers) (c .timers) (omega arith)) refl
 
   pub pass-counts : {A : Type 0} (x : Answer A) (y : A) → countsJudged c counts x ≡ result y → CountsAllowed c counts
@@ -40,7 +40,7 @@ module _ (c : Chart) (counts : List ℕ) where
       let two = unless-passed (leb (c .timers) first) 12 first x (one .1) in
       record {
         one-each = eqb-true (length counts) (c .timers) (one .0);
-        small = λ j l. leb-true (getD counts j 0) 16777215
+        small = λ j l. leb-true (getD counts j 0) largestTime
             (not-false _ (lowest-before (tooLarge counts) (c .timers) j (omega (arith, leb-true (c .timers) first (two .0)))));
       }
 

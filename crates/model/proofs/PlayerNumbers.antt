@@ -12,10 +12,10 @@ use Rattle.lists.proofs.Bools.{or-left, or-right}
 use Rattle.lists.proofs.Membership.{memb-cases, memb-nil, memb-append}
 use Rattle.model.specs.Answer.{Answer, result, refused, unless, nowhere}
 use Rattle.model.specs.Chart.{Transition, Chart}
-use Rattle.model.specs.Run.{Counts, State, Step, grown, allMet, after, attempt, steps, begin, outcome, everyTime, playerTime}
+use Rattle.model.specs.Run.{Counts, State, Step, grown, after, enabled, attempt, steps, begin, outcome, everyTime, playerTime}
 use Rattle.model.specs.Live.{firstUnreached, firstUnstarted}
 use Rattle.model.specs.Judge.{judged}
-use Rattle.model.specs.Player.{Arrival, arrival, answerOf, tooLarge, countsJudged, stepsOf, played}
+use Rattle.model.specs.Player.{Arrival, arrival, answerOf, tooLarge, countsJudged, stepsOf, played, playedOn}
 use Rattle.model.proofs.Answers.{not-result, refused-same, NumberIn, number-unless, number-then, number-is}
 use Rattle.model.proofs.Steps.{judgedStep, attempt-none, attempt-some}
 
@@ -36,8 +36,8 @@ module _ (l : List ℕ) (allowed : ℕ → Bool) (has-15 : (t : ℕ) → allowed
       go none h = rw (attempt-none allowed c n s e h) (has .0)
       go (some r) h =
           rw (attempt-some allowed c n s e (record { there = h }))
-          (number-unless l (allowed (e .time)) 15 n (judgedStep n r s (e .time)) (has-15 (e .time))
-          (three-tests (eqb (r .source) (s .location)) (leb (s .time) (e .time)) (allMet (r .tests) (grown (e .time - s .time) (s .counts))) n (after r s (e .time))))
+          (number-unless l (allowed (e .time)) 15 n (judgedStep c n r s (e .time)) (has-15 (e .time))
+          (three-tests (eqb (r .source) (s .location)) (leb (s .time) (e .time)) (enabled c r (grown (e .time - s .time) (s .counts))) n (after r s (e .time))))
 
   steps-numbers : (es : List Step) (n : ℕ) (s : State) → NumberIn l (steps allowed c n s es)
   unfolding steps
@@ -54,13 +54,6 @@ unfolding memb everyTime
 list-numbers c v es = answer-numbers _ everyTime (λ t e. absurd (true≢false e)) (refl, refl, refl, refl) c v es
 
 -- ---- the player
-
--- what the player makes of a chart that is judged
-abbrev pub playedOn : (counts is ts : List ℕ) → Chart → Answer Arrival
-playedOn counts is ts c =
-    countsJudged c counts (
-    unless (eqb (length is) (length ts)) 13 nowhere (
-    answerOf playerTime c (λ j. getD counts j 0) (stepsOf is ts)))
 
 -- the numbers that follow on 9 and 10
 abbrev later : List ℕ

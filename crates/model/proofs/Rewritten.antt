@@ -16,7 +16,7 @@ use Rattle.lists.proofs.Elements.{filter-in, filter-out}
 use Rattle.model.specs.Chart.{Test, Transition, Chart, Nth, tested}
 use Rattle.model.specs.Run.{Counts, allMet}
 use Rattle.model.specs.Rewrite.{Numbering, renamed, newTests, newStarts, newTransition, rewrittenBy}
-use Rattle.model.specs.Plan.{Has}
+use Rattle.model.specs.Plan.{Has, Numbered}
 
 module _ (N : Numbering) (c : Chart) (i : ℕ) where
   pub new-nth : {r : Transition} → Nth c i r → Nth (rewrittenBy N c) i (newTransition N r)
@@ -59,11 +59,7 @@ unfolding tested anyOf
 tested-tail j t ts h = or-right (eqb j (t .timer)) h
 
 module _ (N : Numbering) (q : ℕ) where
-  -- every timer that a test of the list reads has a number
-  abbrev pub Numbered : List Test → Type 0
-  Numbered ts = (j : ℕ) → tested j ts ≡ true → (k : ℕ) × Has N q j k
-
-  numbered-tail : (t : Test) (ts : List Test) → Numbered (t ∷ ts) → Numbered ts
+  numbered-tail : (t : Test) (ts : List Test) → Numbered N q (t ∷ ts) → Numbered N q ts
   numbered-tail t ts h j m = h j (tested-tail j t ts m)
 
   pub tests-none : (t : Test) (ts : List Test) → N .number q (t .timer) ≡ none → newTests N q (t ∷ ts) ≡ newTests N q ts
@@ -75,7 +71,7 @@ module _ (N : Numbering) (q : ℕ) where
   tests-some t ts e = filterMap-cons-some _ t ts (ap (renamed t) e)
 
   -- where all have numbers, all tests stay, in their order
-  pub new-test : (ts : List Test) → Numbered ts → (n : ℕ) {t : Test} {k : ℕ} → getElem? ts n ≡ some t → Has N q (t .timer) k
+  pub new-test : (ts : List Test) → Numbered N q ts → (n : ℕ) {t : Test} {k : ℕ} → getElem? ts n ≡ some t → Has N q (t .timer) k
       → getElem? (newTests N q ts) n ≡ some (onTimer t k)
   new-test [] h n e a = absurd (Option·none-ne-some _ e)
   new-test (x ∷ ts) h zero {t} {k} e a =
@@ -85,7 +81,7 @@ module _ (N : Numbering) (q : ℕ) where
       rw (tests-some x ts (h (x .timer) (tested-head x ts) .1)) (new-test ts (numbered-tail x ts h) n e a)
 
   -- counts that agree where the tests read them meet the same tests
-  pub all-met : (v w : Counts) (ts : List Test) → Numbered ts → ((j k : ℕ) → Has N q j k → v j ≡ w k)
+  pub all-met : (v w : Counts) (ts : List Test) → Numbered N q ts → ((j k : ℕ) → Has N q j k → v j ≡ w k)
       → allMet ts v ≡ allMet (newTests N q ts) w
   unfolding allMet newTests filterMap
   all-met v w [] h e = refl

@@ -11,18 +11,13 @@ use Rattle.lists.specs.Rising.{All}
 use Rattle.lists.proofs.Gather.{pick-rising}
 use Rattle.model.specs.Chart.{Test, Transition, Chart, Nth, tested}
 use Rattle.model.specs.Valid.{Valid, ValidTest, ValidTransition}
-use Rattle.model.specs.Rewrite.{Numbering, newTests, newStarts, newTransition, rewrittenBy}
+use Rattle.model.specs.Rewrite.{Numbering, newTests, newStarts, newTransition, rewrittenBy, NamesBelow}
 use Rattle.model.specs.Plan.{Plan}
 use Rattle.model.proofs.Rewritten.{old-nth, tests-none, tests-some, tested-old, starts-below}
 
 all-map : {A B : Type 0} (P : A → Type 0) (Q : B → Type 0) (f : A → B) (l : List A) → ((a : A) → P a → Q (f a)) → All P l → All Q (map f l)
 all-map P Q f [] h x = tt
 all-map P Q f (a ∷ l) h x = (h a (x .0), all-map P Q f l h (x .1))
-
--- the timers that the transition names are below the limit
-pub record NamesBelow (limit : ℕ) (r : Transition) : Type 0 where
-  pub starts : (k : ℕ) → memb k (r .starts) ≡ true → k < limit
-  pub tests : (k : ℕ) → tested k (r .tests) ≡ true → k < limit
 
 module _ (c : Chart) (N : Numbering) (P : Plan c N) where
   -- a new list of tests is as valid as the old one, and no longer

@@ -9,14 +9,15 @@ use native.Mathlib.Omega.{arith}
 use lib.Dec.{eqb, lit<}
 use lib.ListN.{length, getD, getElem?, length-replicate, List·getD-eq-default}
 use Rattle.timer_set.specs.Members.{member, joined}
+use Rattle.model.specs.Comes.{Comes, Shaped}
 use Rattle.timer_set.proofs.Members.{member-empty, joined-lt, minus-lt}
 use Rattle.lists.proofs.Bools.{lt-or-le, not-both}
 use Rattle.lists.proofs.Gather.{length-upTo, getD-upTo}
 use Rattle.lists.proofs.Zeros.{getD-zeros}
 use Rattle.model.specs.Flow.{Edge, Flow, brings, made, round, roundsOf}
 use Rattle.model.proofs.Edges.{withEdge, withEdges}
-use Rattle.model.proofs.Flow.{Comes, Way, Shaped, made-out, made-in}
-use Rattle.model.proofs.Flow.Comes.{owned, gained, along}
+use Rattle.model.proofs.Flow.{Way, made-out, made-in}
+use Rattle.model.specs.Comes.Comes.{owned, gained, along}
 use Rattle.model.proofs.Flow.Way.{by-own, by-gain, by-edge}
 
 -- each timer of each set of a is in the same set of b

@@ -11,11 +11,11 @@ use lib.Count.{ones, ones-le}
 use lib.Dec.{eqb}
 use lib.ListN.{length, getD, List·getD-eq-default}
 use Rattle.timer_set.specs.Members.{member}
+use Rattle.model.specs.Comes.{Comes, Shaped}
 use Rattle.timer_set.proofs.Counts.{ones-grow}
 use Rattle.lists.proofs.Bools.{lt-or-le, not-both, is-no, and-left, and-right, and-both, eqb-self, same-number}
 use Rattle.lists.proofs.Lowest.{lowest-le, lowest-passes, lowest-before, lowest-is}
 use Rattle.model.specs.Flow.{Flow, round, roundsOf, sameSets, changing, settled, rounds}
-use Rattle.model.proofs.Flow.{Comes, Shaped}
 use Rattle.model.proofs.Rounds.{Under, Words, length-rounds, rounds-grow, sound, complete, rounds-words}
 
 -- ---- how many timers stand in the sets

@@ -8,16 +8,16 @@ use lib.Dec.{leb, eqb}
 use lib.ListN.{getElem?}
 use Rattle.model.specs.Answer.{Answer, result, refused, then, unless}
 use Rattle.model.specs.Chart.{Transition, Chart, Nth}
-use Rattle.model.specs.Run.{Counts, State, Step, grown, allMet, after, attempt, steps, begin, outcome, everyTime}
+use Rattle.model.specs.Run.{Counts, State, Step, grown, after, enabled, attempt, steps, begin, outcome, everyTime}
 use Rattle.model.specs.Equivalence.{IsRun}
 use Rattle.model.proofs.Answers.{not-result}
 
 -- the judgement of a step that names the transition r, once its time is allowed
-abbrev pub judgedStep : (n : ℕ) → Transition → State → (time : ℕ) → Answer State
-judgedStep n r s t =
+abbrev pub judgedStep : Chart → (n : ℕ) → Transition → State → (time : ℕ) → Answer State
+judgedStep c n r s t =
     unless (eqb (r .source) (s .location)) 22 n (
     unless (leb (s .time) t) 23 n (
-    unless (allMet (r .tests) (grown (t - s .time) (s .counts))) 24 n (
+    unless (enabled c r (grown (t - s .time) (s .counts))) 24 n (
     result (after r s t))))
 
 module _ (allowed : ℕ → Bool) (c : Chart) (n : ℕ) (s : State) (e : Step) where
@@ -25,7 +25,7 @@ module _ (allowed : ℕ → Bool) (c : Chart) (n : ℕ) (s : State) (e : Step) w
   unfolding attempt
   attempt-none h = rw (h, attempt) refl
 
-  pub attempt-some : {r : Transition} → Nth c (e .transition) r → attempt allowed c n s e ≡ unless (allowed (e .time)) 15 n (judgedStep n r s (e .time))
+  pub attempt-some : {r : Transition} → Nth c (e .transition) r → attempt allowed c n s e ≡ unless (allowed (e .time)) 15 n (judgedStep c n r s (e .time))
   unfolding attempt
   attempt-some m = rw (m .there, attempt) refl
 

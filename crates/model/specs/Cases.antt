@@ -105,12 +105,12 @@ pub data Reply : Type 0 where
   played-is : Answer Arrival → Reply
 
 -- the families' numbers with their board numbers, rising
-unfoldable pub numbersOf : List Placed → List (ℕ × ℕ)
-numbersOf ps = reverse (map (λ g. (familyNumber (g .family), g .number)) ps)
+unfoldable pub boardNumbers : List Placed → List (ℕ × ℕ)
+boardNumbers ps = reverse (map (λ g. (familyNumber (g .family), g .number)) ps)
 
 unfoldable pub ask : Question → Reply
 ask (live-sets c) = sets (liveSets c)
-ask (numbers c) = let placed = board c in given (numbersOf placed) (usedBy placed) (floor c)
+ask (numbers c) = let placed = board c in given (boardNumbers placed) (usedBy placed) (floor c)
 ask (rewrite c k) = rewriting-is (rewriting k c)
 ask (play c v is ts) = played-is (played c v is ts)
 

@@ -3,7 +3,7 @@ use mathlib.Core.Path.{_≡_}
 use mathlib.Core.Logic.{_⊎_}
 use mathlib.Core.Bool.{Bool, true, false}
 use mathlib.Core.List.{List, [], _∷_, _++_, map}
-use Prim.Native.Nat.{ℕ, _+_, _*_, _^_}
+use Prim.Native.Nat.{ℕ, _+_, _*_, _^_, _≤_, _<_}
 use lib.Dec.{eqb}
 use lib.ListN.{getD, getElem?}
 use mathlib.Core.Option.{some}
@@ -41,6 +41,21 @@ livePairs c = let sets = liveSets c in record {
     timers = minus (common (getD sets (r .source) 0) (getD sets (r .target) 0)) (startsSet r);
   }) (c .transitions);
 }
+
+-- ---- pairs that are well formed: their locations and timers are in range, and so are the links
+
+-- the link's ends are locations, and each of its timers is a pair at both
+pub record WellFormedLink (p : Pairs) (l : Link) : Type 0 where
+  pub one : l .one < p .locations
+  pub other : l .other < p .locations
+  pub pair-one : (j : ℕ) → member (l .timers) j ≡ true → isPair p (l .one) j ≡ true
+  pub pair-other : (j : ℕ) → member (l .timers) j ≡ true → isPair p (l .other) j ≡ true
+
+pub record WellFormed (p : Pairs) : Type 0 where
+  pub few-timers : p .timers ≤ 64
+  pub location : (q j : ℕ) → isPair p q j ≡ true → q < p .locations
+  pub timer : (q j : ℕ) → isPair p q j ≡ true → j < p .timers
+  pub link : (i : ℕ) (l : Link) → getElem? (p .links) i ≡ some l → WellFormedLink p l
 
 -- ---- a family, by chains of links
 

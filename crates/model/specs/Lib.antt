@@ -16,3 +16,4 @@ pub mod Equivalence
 pub mod Places
 pub mod SharingRule
 pub mod PlayerTerms
+pub mod Comes

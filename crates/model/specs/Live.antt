@@ -16,6 +16,10 @@ startsSet r = setOf (r .starts)
 unfoldable pub testsSet : Transition → ℕ
 testsSet r = setOf (map (λ (t : Test). t .timer) (r .tests))
 
+-- of each transition the set that it tests
+unfoldable pub testedSets : Chart → List ℕ
+testedSets c = map testsSet (c .transitions)
+
 -- w at the initial location, nothing elsewhere
 unfoldable pub atInitial : Chart → ℕ → ℕ → ℕ
 atInitial c w q = elim (eqb q (c .initial)) [ true ↦ w | false ↦ 0 ]

@@ -1,17 +1,22 @@
 -- What a numbering has to keep for the rewritten chart to behave as the drawn one. First fit keeps it; so would any other plan. The laws ask
 -- nothing of transitions that leave a location which no path reaches. Assumes nothing.
 use mathlib.Core.Path.{_≡_}
-use mathlib.Core.Bool.{false}
+use mathlib.Core.Bool.{true, false}
 use mathlib.Core.Option.{some}
+use mathlib.Core.List.{List}
 use Prim.Native.Nat.{ℕ, _<_}
 use Rattle.lists.specs.Lists.{memb}
-use Rattle.model.specs.Chart.{Transition, Chart, Nth}
+use Rattle.model.specs.Chart.{Test, Transition, Chart, Nth, tested}
 use Rattle.model.specs.Path.{ReadAt, Reached}
 use Rattle.model.specs.Rewrite.{Numbering}
 
 -- timer j has the number k at q
 abbrev pub Has : Numbering → (q j k : ℕ) → Type 0
 Has N q j k = N .number q j ≡ some k
+
+-- every timer that a test of the list reads has a number at q
+abbrev pub Numbered : Numbering → (q : ℕ) → List Test → Type 0
+Numbered N q ts = (j : ℕ) → tested j ts ≡ true → (k : ℕ) × Has N q j k
 
 -- every transition that leaves a reached location starts both or neither
 abbrev pub Together : Chart → (j k : ℕ) → Type 0

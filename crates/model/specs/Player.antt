@@ -8,7 +8,7 @@ use lib.ListN.{length, getD}
 use Rattle.lists.specs.Lists.{lowest}
 use Rattle.model.specs.Answer.{Answer, result, then, unless, nowhere}
 use Rattle.model.specs.Chart.{Chart}
-use Rattle.model.specs.Run.{Counts, State, Step, outcome, playerTime, accepts}
+use Rattle.model.specs.Run.{Counts, State, Step, outcome, largestTime, playerTime, accepts}
 use Rattle.model.specs.Judge.{judged}
 
 -- where a list of steps ends
@@ -26,7 +26,7 @@ answerOf allowed c v es = then (outcome allowed c v es) (arrival c)
 
 -- a count over 16,777,215
 unfoldable pub tooLarge : List ℕ → ℕ → Bool
-tooLarge counts j = not (leb (getD counts j 0) 16777215)
+tooLarge counts j = not (leb (getD counts j 0) largestTime)
 
 -- 12 without a place of its own for a wrong number of counts, else at the lowest timer whose count is too large
 unfoldable pub countsJudged : {A : Type 0} → Chart → (counts : List ℕ) → Answer A → Answer A
@@ -40,9 +40,12 @@ stepsOf [] ts = []
 stepsOf (i ∷ is) [] = []
 stepsOf (i ∷ is) (t ∷ ts) = record { transition = i; time = t } ∷ stepsOf is ts
 
-unfoldable pub played : Chart → (counts transitions times : List ℕ) → Answer Arrival
-played c counts is ts =
-    then (judged c) (λ c′.
-    countsJudged c′ counts (
+-- what the player makes of a chart that is judged
+abbrev pub playedOn : (counts is ts : List ℕ) → Chart → Answer Arrival
+playedOn counts is ts c =
+    countsJudged c counts (
     unless (eqb (length is) (length ts)) 13 nowhere (
-    answerOf playerTime c′ (λ j. getD counts j 0) (stepsOf is ts))))
+    answerOf playerTime c (λ j. getD counts j 0) (stepsOf is ts)))
+
+unfoldable pub played : Chart → (counts transitions times : List ℕ) → Answer Arrival
+played c counts is ts = then (judged c) (playedOn counts is ts)

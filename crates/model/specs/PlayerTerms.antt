@@ -7,14 +7,14 @@ use Prim.Native.Nat.{ℕ, _≤_, _<_}
 use lib.ListN.{length, getD, getElem?, take}
 use Rattle.model.specs.Answer.{refused}
 use Rattle.model.specs.Chart.{Transition, Chart, Nth}
-use Rattle.model.specs.Run.{Counts, Step, everyTime, playerTime}
+use Rattle.model.specs.Run.{Counts, Step, largestTime, everyTime, playerTime}
 use Rattle.model.specs.Player.{answerOf}
 use Rattle.model.specs.Equivalence.{IsRun}
 
 -- one count for each timer, none over 16,777,215
 pub record CountsAllowed (c : Chart) (counts : List ℕ) : Type 0 where
   pub one-each : length counts ≡ c .timers
-  pub small : (j : ℕ) → j < c .timers → getD counts j 0 ≤ 16777215
+  pub small : (j : ℕ) → j < c .timers → getD counts j 0 ≤ largestTime
 
 -- step n of the list names a transition, and is the first whose time is over 16,777,215
 pub record TooLate (c : Chart) (es : List Step) (n : ℕ) : Type 0 where
@@ -22,8 +22,8 @@ pub record TooLate (c : Chart) (es : List Step) (n : ℕ) : Type 0 where
   pub is-step : getElem? es n ≡ some step
   pub transition : Transition
   pub names : Nth c (step .transition) transition
-  pub over : 16777215 < step .time
-  pub first : (i : ℕ) (e : Step) → i < n → getElem? es i ≡ some e → e .time ≤ 16777215
+  pub over : largestTime < step .time
+  pub first : (i : ℕ) (e : Step) → i < n → getElem? es i ≡ some e → e .time ≤ largestTime
 
 -- and the steps before it are taken
 pub record LateStep (c : Chart) (v : Counts) (es : List Step) (n : ℕ) : Type 0 where

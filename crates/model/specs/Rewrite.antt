@@ -1,9 +1,11 @@
 -- The chart rewritten by a numbering (document 01, "Live, born, family, board number"). Assumes nothing.
+use mathlib.Core.Path.{_≡_}
+use mathlib.Core.Bool.{true}
 use mathlib.Core.Option.{Option, none, some}
 use mathlib.Core.List.{List, map, filterMap}
-use Prim.Native.Nat.{ℕ}
+use Prim.Native.Nat.{ℕ, _<_}
 use Rattle.lists.specs.Lists.{memb, pick}
-use Rattle.model.specs.Chart.{Test, Transition, Chart}
+use Rattle.model.specs.Chart.{Test, Transition, Chart, tested}
 use Rattle.model.specs.FirstFit.{Placed, numberAt, usedBy, board}
 
 -- a board number for each timer that is live at a location, none for the others, and how many numbers are used
@@ -47,3 +49,8 @@ rewrittenBy N c = record {
 -- the rewritten chart: by the board numbers of first fit
 unfoldable pub rewritten : Chart → Chart
 rewritten c = let N = numbering (board c) in rewrittenBy N c
+
+-- the timers that the transition names are below the limit
+pub record NamesBelow (limit : ℕ) (r : Transition) : Type 0 where
+  pub starts : (k : ℕ) → memb k (r .starts) ≡ true → k < limit
+  pub tests : (k : ℕ) → tested k (r .tests) ≡ true → k < limit

@@ -40,6 +40,10 @@ pub record Step : Type 0 where
 unfoldable pub after : Transition → State → ℕ → State
 after r s t = record { location = r .target; time = t; counts = restarted (r .starts) (grown (t - s .time) (s .counts)) }
 
+-- the condition of 24: the counts, grown by the time that passed, meet every test of the transition
+unfoldable pub enabled : Chart → Transition → Counts → Bool
+enabled c r v = allMet (r .tests) v
+
 -- Step number n. `allowed` says which times are taken at all: a step list takes every time, the player those up to 16,777,215 (15).
 unfoldable pub attempt : (allowed : ℕ → Bool) → Chart → (n : ℕ) → State → Step → Answer State
 attempt allowed c n s e = elim (getElem? (c .transitions) (e .transition)) [
@@ -48,7 +52,7 @@ attempt allowed c n s e = elim (getElem? (c .transitions) (e .transition)) [
       unless (allowed (e .time)) 15 n (
       unless (eqb (r .source) (s .location)) 22 n (
       unless (leb (s .time) (e .time)) 23 n (
-      unless (allMet (r .tests) (grown (e .time - s .time) (s .counts))) 24 n (
+      unless (enabled c r (grown (e .time - s .time) (s .counts))) 24 n (
       result (after r s (e .time))))))
 ]
 
@@ -68,8 +72,12 @@ outcome allowed c v es = steps allowed c 0 (begin c v) es
 unfoldable pub everyTime : ℕ → Bool
 everyTime t = true
 
+-- the latest time that the player takes, and the largest starting count (15, 12)
+abbrev pub largestTime : ℕ
+largestTime = 16777215
+
 unfoldable pub playerTime : ℕ → Bool
-playerTime t = leb t 16777215
+playerTime t = leb t largestTime
 
 -- a run is a list with no step refused; s is the state that it leaves
 pub record Run (c : Chart) (v : Counts) (es : List Step) (s : State) : Type 0 where

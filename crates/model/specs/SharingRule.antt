@@ -6,8 +6,8 @@ use mathlib.Core.Option.{some}
 use mathlib.Core.List.{List, _∷_, _++_}
 use Prim.Native.Nat.{ℕ, _+_, _*_, _≤_, _<_}
 use lib.ListN.{getElem?}
-use Rattle.model.specs.Family.{Pairs, Joined, Family, meets}
-use Rattle.model.specs.FirstFit.{Placed}
+use Rattle.model.specs.Family.{Pairs, isPair, Joined, Family, familyOf, meets}
+use Rattle.model.specs.FirstFit.{Placed, firstFit}
 
 -- n is the number of the family of (q, j): the smallest 64 times location plus timer among its pairs
 pub record NumberOfFamily (p : Pairs) (q j n : ℕ) : Type 0 where
@@ -36,3 +36,17 @@ pub record FirstFitRule (ps : List Placed) : Type 0 where
       → (i : ℕ) (h : Placed) → getElem? earlier i ≡ some h → meets (g .family) (h .family) ≡ true → h .number ≡ g .number → ⊥
   pub smallest : (later : List Placed) (g : Placed) (earlier : List Placed) → ps ≡ later ++ (g ∷ earlier)
       → (k : ℕ) → k < g .number → HeldBy (g .family) k earlier
+
+-- f is the family of a pair, the pair of its first location
+pub record FamilyOfPair (p : Pairs) (f : Family) : Type 0 where
+  pub pair : isPair p (f .first) (f .timer) ≡ true
+  pub whole : f ≡ familyOf p (f .first) (f .timer)
+
+-- the family of the pair (q, j) was given the number k
+pub record PairNumber (p : Pairs) (q j k : ℕ) : Type 0 where
+  pub pair : isPair p q j ≡ true
+  pub place : ℕ
+  pub placed : Placed
+  pub is-nth : getElem? (firstFit p) place ≡ some placed
+  pub family : placed .family ≡ familyOf p q j
+  pub number : placed .number ≡ k

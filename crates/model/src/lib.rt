@@ -1,1 +1,4 @@
-// No code: what charts, runs, live timers, families and board numbers are stands in specs/, what follows from it in proofs/.
+// What charts, runs, live timers, families and board numbers are stands in specs/, what follows from it in proofs/.
+
+// The latest time that the player takes, and the largest starting count (15, 12).
+pub const LARGEST_TIME: u64 = 16777215;

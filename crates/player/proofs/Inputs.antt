@@ -10,9 +10,8 @@ use Rattle.lists.proofs.Bools.{not-false}
 use Rattle.lists.proofs.Lowest.{lowest-before}
 use Rattle.model.specs.Answer.{Answer, refused, nowhere}
 use Rattle.model.specs.Chart.{Chart}
-use Rattle.model.specs.Run.{playerTime}
-use Rattle.model.specs.Player.{Arrival, answerOf, tooLarge, countsJudged, stepsOf}
-use Rattle.model.proofs.PlayerNumbers.{playedOn}
+use Rattle.model.specs.Run.{playerTime, largestTime}
+use Rattle.model.specs.Player.{Arrival, answerOf, tooLarge, countsJudged, stepsOf, playedOn}
 use Rattle.model.proofs.PlayerLaws.{counts-pass}
 use Rattle.steps.specs.Fronts.{Allowed}
 
@@ -32,9 +31,9 @@ module _ (c : Chart) (counts is ts : List ℕ) where
     count-refused h = rw (eq-eqb (length counts) (c .timers) one-each, first-is, lt-leb (c .timers) first (omega arith)) refl
 
     module _ (h : length counts ≤ first) where
-      small : (j : ℕ) → j < length counts → getD counts j 0 ≤ 16777215
+      small : (j : ℕ) → j < length counts → getD counts j 0 ≤ largestTime
       unfolding tooLarge
-      small j l = leb-true (getD counts j 0) 16777215 (not-false _ (lowest-before (tooLarge counts) (length counts) j (omega arith)))
+      small j l = leb-true (getD counts j 0) largestTime (not-false _ (lowest-before (tooLarge counts) (length counts) j (omega arith)))
 
       pub allowed : c .timers ≤ 64 → Allowed counts
       allowed few = record { few = omega arith; small = small }

@@ -10,17 +10,17 @@ use lib.ListN.{length, getD}
 use borrow.Author.Tests.{leb-false}
 use Rattle.lists.specs.Lists.{memb, lowest}
 use Rattle.lists.specs.Rising.{All}
+use Rattle.file_format.specs.Parse.{Bytes}
 use Rattle.lists.proofs.Membership.{memb-nil, memb-cases, memb-tail}
 use Rattle.model.specs.Answer.{Answer, result, refused, then, unless, nowhere}
 use Rattle.model.specs.Chart.{Chart}
 use Rattle.model.specs.Run.{playerTime}
 use Rattle.model.specs.Judge.{judged}
-use Rattle.model.specs.Player.{Arrival, answerOf, tooLarge, countsJudged, stepsOf, played}
+use Rattle.model.specs.Player.{Arrival, answerOf, tooLarge, countsJudged, stepsOf, played, playedOn}
 use Rattle.model.proofs.Answers.{refused-same, number-is}
-use Rattle.model.proofs.PlayerNumbers.{playedOn, after-numbers}
+use Rattle.model.proofs.PlayerNumbers.{after-numbers}
 use Rattle.model.proofs.Judgement.{LowestUnreached, LowestUnstarted}
 use Rattle.file_format.specs.File.{chartIn}
-use Rattle.file_format.proofs.RoundTrip.{Bytes}
 use Rattle.judgement.specs.Judging.{judgedIn}
 use Rattle.judgement.specs.Refusals.{RefusalOfJudgement}
 use Rattle.judgement.specs.Refusals.RefusalOfJudgement.{of-file, of-unreached, of-unstarted}

@@ -10,7 +10,7 @@ use lib.ListN.{length, getElem?}
 use Rattle.lists.specs.Lists.{memb}
 use Rattle.model.specs.Answer.{Answer, result, refused, then, unless}
 use Rattle.model.specs.Chart.{Transition, Chart}
-use Rattle.model.specs.Run.{Counts, State, Step, grown, allMet, after, attempt, steps, begin, outcome, playerTime}
+use Rattle.model.specs.Run.{Counts, State, Step, grown, after, enabled, attempt, steps, begin, outcome, playerTime}
 use Rattle.model.specs.Player.{arrival, answerOf, stepsOf}
 use Rattle.model.proofs.Steps.{judgedStep, attempt-none, attempt-some}
 
@@ -44,10 +44,10 @@ module _ (c : Chart) where
       go none h = rw (attempt-none playerTime c k s e h) (refl, here)
       go (some r) h =
           rw (attempt-some playerTime c k s e (record { there = h }))
-          (unless-place k (suc k) (playerTime (e .time)) 15 k (judgedStep k r s (e .time)) (refl, here)
+          (unless-place k (suc k) (playerTime (e .time)) 15 k (judgedStep c k r s (e .time)) (refl, here)
           (unless-place k (suc k) (eqb (r .source) (s .location)) 22 k _ (refl, here)
           (unless-place k (suc k) (leb (s .time) (e .time)) 23 k _ (refl, here)
-          (unless-place k (suc k) (allMet (r .tests) (grown (e .time - s .time) (s .counts))) 24 k (result (after r s (e .time))) (refl, here) tt))))
+          (unless-place k (suc k) (enabled c r (grown (e .time - s .time) (s .counts))) 24 k (result (after r s (e .time))) (refl, here) tt))))
 
   steps-place : (es : List Step) (k : ℕ) (s : State) → StepRefusal k (k + length es) (steps playerTime c k s es)
   unfolding steps

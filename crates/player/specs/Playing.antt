@@ -4,10 +4,10 @@ use Prim.Native.Nat.{ℕ}
 use Rattle.model.specs.Answer.{Answer, result, then}
 use Rattle.model.specs.Player.{Arrival, played}
 use Rattle.file_format.specs.File.{chartIn}
-use Rattle.chart_lists.specs.declared.Refusal.{Refusal}
-use Rattle.chart_lists.specs.Numbers.{refusedAs}
-use Rattle.reader.specs.declared.Read.{Read}
-use Rattle.reader.specs.declared.Read.the-variants as read
+use Rattle.refusal.specs.declared.Refusal.{Refusal}
+use Rattle.refusal.specs.Refused.{refusedAs}
+use Rattle.chart_lists.specs.declared.Read.{Read}
+use Rattle.chart_lists.specs.declared.Read.the-variants as read
 use Rattle.player.specs.declared.Played.{Played}
 use Rattle.player.specs.declared.Played.the-variants as played·
 
@@ -16,9 +16,9 @@ unfoldable pub playAnswer : (file counts transitions times : List ℕ) → Answe
 playAnswer bs counts is ts = then (chartIn bs) (λ c. played c counts is ts)
 
 -- what an answer of the code means
-abbrev pub meantPlayed : Played → Answer Arrival
-meantPlayed (played·.Arrived q t b) = result (record { location = q; time = t; accepting = b })
-meantPlayed (played·.Refused f) = refusedAs f
+abbrev pub playedAs : Played → Answer Arrival
+playedAs (played·.Arrived q t b) = result (record { location = q; time = t; accepting = b })
+playedAs (played·.Refused f) = refusedAs f
 
 -- the refusal of an answer that is one
 abbrev pub readRefusal : Read → Refusal

@@ -3,14 +3,13 @@ ghost use mathlib.Core.Path.{_≡_};
 ghost use mathlib.Core.List.{List};
 ghost use Rattle.model.specs.Chart.{Chart};
 ghost use Rattle.model.specs.Run.{Counts, Step, outcome, playerTime};
-ghost use Rattle.model.specs.Player.{answerOf};
+ghost use Rattle.model.specs.Player.{answerOf, playedOn};
 ghost use Rattle.steps.specs.Stepping.{Answered};
-ghost use Rattle.model.proofs.PlayerNumbers.{playedOn};
-ghost use Rattle.player.specs.Playing.{playAnswer, meantPlayed, readRefusal};
+ghost use Rattle.player.specs.Playing.{playAnswer, playedAs, readRefusal};
 ghost use Rattle.player.specs.Lent.{Lent, SomeLent};
-use chart_lists::Numbers;
-use chart_lists::Refusal;
-use reader::Read;
+use chart_lists::Header;
+use chart_lists::Read;
+use refusal::Refusal;
 use steps::Stepped;
 use steps::Verdict;
 
@@ -40,7 +39,7 @@ fn read_refusal(a: Read) -> Refusal
 // Where the steps ended, with whether that location accepts.
 fn arrived(accepting: &[u16], out: Stepped) -> Played
     ensures { λ r. ⌜ ((c : Chart) (v : Counts) (es : List Step) → now (accepting .entry) ≡ c .accepting → Answered out (outcome playerTime c v es)
-        → meantPlayed r ≡ answerOf playerTime c v es) ⌝ }
+        → playedAs r ≡ answerOf playerTime c v es) ⌝ }
 {
     let verdict = out.verdict;
     match verdict {
@@ -66,20 +65,17 @@ fn play_chart<'a>(
     timers: &'a [u8],
     codes: &'a [u8],
     constants: &'a [u16],
-    numbers: Numbers,
+    numbers: Header,
     counts: &[u32],
     transitions: &[u32],
     times: &[u64],
 ) -> Played
     requires { ⌜ SomeLent numbers (now accepting) (now sources) (now targets) (now starts) (now tests) (now timers) (now codes) (now constants) ⌝ }
     ensures { λ r. ⌜ ((c : Chart) → Lent c numbers (now (accepting .entry)) (now (sources .entry)) (now (targets .entry)) (now (starts .entry)) (now (tests .entry)) (now (timers .entry)) (now (codes .entry)) (now (constants .entry))
-        → meantPlayed r ≡ playedOn (now (counts .entry)) (now (transitions .entry)) (now (times .entry)) c) ⌝ }
+        → playedAs r ≡ playedOn (now (counts .entry)) (now (transitions .entry)) (now (times .entry)) c) ⌝ }
 {
     if counts.len() != numbers.timers as usize {
-        return Played::Refused(Refusal {
-            number: 12,
-            place: 65535,
-        });
+        return Played::Refused(refusal::WRONG_COUNTS);
     }
     let first = steps::first_too_large(counts);
     if first < counts.len() {
@@ -89,10 +85,7 @@ fn play_chart<'a>(
         });
     }
     if transitions.len() != times.len() {
-        return Played::Refused(Refusal {
-            number: 13,
-            place: 65535,
-        });
+        return Played::Refused(refusal::UNEQUAL_LISTS);
     }
     let n = numbers.transitions as usize;
     let out = steps::play_steps(
@@ -115,7 +108,7 @@ fn play_chart<'a>(
 
 // The player, called on a chart file.
 pub fn play(file: &[u8], counts: &[u32], transitions: &[u32], times: &[u64]) -> Played
-    ensures { λ r. ⌜ meantPlayed r ≡ playAnswer (now (file .entry)) (now (counts .entry)) (now (transitions .entry)) (now (times .entry)) ⌝ }
+    ensures { λ r. ⌜ playedAs r ≡ playAnswer (now (file .entry)) (now (counts .entry)) (now (transitions .entry)) (now (times .entry)) ⌝ }
 {
     let mut accepting = [0u16; 256];
     let mut sources = [0u16; 512];

@@ -1,4 +1,4 @@
--- The loop that fills the list of the accepting locations, on plain values: what is read so far is laid over its front. Assumes nothing.
+-- The loop that fills the list of the accepting locations, on plain values: what is read so far is putLists over its front. Assumes nothing.
 use mathlib.Core.Path.{_≡_, sym, _∙_}
 use mathlib.Core.List.{List, [], _∷_, _++_}
 use Prim.Native.Nat.{ℕ, suc, _+_, _≤_, _<_}

@@ -1,4 +1,4 @@
--- The loop that fills the lists of the transitions and of their tests, on plain values: what is read so far is laid over their fronts. Assumes nothing.
+-- The loop that fills the lists of the transitions and of their tests, on plain values: what is read so far is putLists over their fronts. Assumes nothing.
 use mathlib.Core.Path.{_≡_, refl, sym, ap, _∙_, subst}
 use mathlib.Core.List.{List, [], _∷_, _++_}
 use Prim.Native.Nat.{ℕ, suc, _+_, _≤_, _<_}
@@ -18,7 +18,7 @@ use Rattle.file_format.proofs.Items.{Turn, transitions-first, turn-done, turn-r
 use Rattle.fields.specs.Parts.{Head, headOf, readHead}
 use Rattle.fields.proofs.Parts.{Parts, transition-parts}
 use Rattle.reader.specs.declared.RecordHead.{RecordHead}
-use Rattle.reader.specs.Meaning.{meantRecord}
+use Rattle.reader.specs.Meaning.{recordAs}
 use Rattle.reader.specs.Stored.{HeadsStored, TestsStored}
 use Rattle.reader.proofs.Store.{stored-none, stored-after}
 
@@ -37,7 +37,7 @@ records-first locations timers n start a₁ a₂ a₃ a₄ a₅ a₆ a₇ a₈ =
   done = [];
   turn = transitions-first 2 locations timers n start;
   used = refl;
-  heads = record { sources = sym (put-nil a₁); targets = sym (put-nil a₂); events = sym (put-nil a₃); starts = sym (put-nil a₄); counts = sym (put-nil a₅) };
+  heads = record { sources = sym (put-nil a₁); targets = sym (put-nil a₂); events = sym (put-nil a₃); starts = sym (put-nil a₄); test-counts = sym (put-nil a₅) };
   tests = stored-none 0 a₆ a₇ a₈ (omega arith) (omega arith) (omega arith);
 }
 
@@ -50,7 +50,7 @@ heads-more {k} {done} {a₁} {a₂} {a₃} {a₄} {a₅} f e h₁ h₂ h₃ h₄
   targets = put-next (λ (r : Transition). r .target) done r a₂ h₂ e (f .targets);
   events = put-next (λ (r : Transition). r .event) done r a₃ h₃ e (f .events);
   starts = put-next startsSet done r a₄ h₄ e (f .starts);
-  counts = put-next (λ (r : Transition). length (r .tests)) done r a₅ h₅ e (f .counts);
+  test-counts = put-next (λ (r : Transition). length (r .tests)) done r a₅ h₅ e (f .test-counts);
 }
 
 module _ {locations timers n k base : ℕ} {start bs a₁ a₂ a₃ a₄ a₅ a₆ a₇ a₈ b₁ b₂ b₃ b₄ b₅ b₆ b₇ b₈ : List ℕ}
@@ -81,8 +81,8 @@ module _ {locations timers n k base : ℕ} {start bs a₁ a₂ a₃ a₄ a₅ a�
     used-next = rw (tests-more, length-append, ← f .used)
 
     -- its head, as the code found it
-    module _ (s : List ℕ) (y : RecordHead) (found : (x : Head) (t : List ℕ) → readHead 2 locations timers k bs ≡ value x t → meantRecord s y ≡ value x t) where
-      same-head : meantRecord s y ≡ value (headOf next) (parts .rest)
+    module _ (s : List ℕ) (y : RecordHead) (found : (x : Head) (t : List ℕ) → readHead 2 locations timers k bs ≡ value x t → recordAs s y ≡ value x t) where
+      same-head : recordAs s y ≡ value (headOf next) (parts .rest)
       same-head = found (headOf next) (parts .rest) (parts .head)
 
       as-many : y .tests ≡ length (next .tests)

@@ -9,11 +9,11 @@ use lib.ListN.{length, drop}
 use borrow.Author.Tests.{le-leb, lt-leb}
 use Rattle.model.specs.Answer.{nowhere}
 use Rattle.file_format.specs.Parse.{Parsed, value, refusal, bind, guard, number, below, rising, entry}
-use Rattle.file_format.specs.Body.{Header, readHeader}
+use Rattle.file_format.specs.Body.{FileHeader, readHeader}
 use Rattle.file_format.proofs.Parsed.{bind-value, guard-value, same-value, below-limit, kept-value, kept-refused}
 use Rattle.file_format.proofs.Items.{many-length}
-use Rattle.reader.specs.Parts.{Limits, readLimits, passAccepting}
-use Rattle.reader.specs.Meaning.{HeaderIs, headerNumbers}
+use Rattle.reader.specs.Parts.{Limits, readLimits, skipAccepting}
+use Rattle.reader.specs.Meaning.{HeaderIs, chartHeader}
 
 -- ---- the first numbers
 
@@ -67,7 +67,7 @@ bind-guard : {A B : Type 0} (c : Bool) (n p : ℕ) (x : Parsed A) (g : A → Lis
 bind-guard true n p x g = refl
 bind-guard false n p x g = refl
 
-abbrev headerFrom : Limits → List ℕ → Parsed Header
+abbrev headerFrom : Limits → List ℕ → Parsed FileHeader
 headerFrom l b₁ =
     bind (rising 2 (l .locations) 5 nowhere (l .accepting) b₁) (λ accepting b₂.
     bind (below 2 513 4 nowhere b₂) (λ count b₃.
@@ -91,13 +91,13 @@ module _ (bs : List ℕ) where
     abbrev entries-read : Parsed (List ℕ)
     entries-read = rising 2 (l .locations) 5 nowhere (l .accepting) b₁
 
-    pub header-accepting : {n p : ℕ} → passAccepting (l .locations) (l .accepting) b₁ ≡ refusal n p → readHeader bs ≡ refusal n p
-    unfolding passAccepting
+    pub header-accepting : {n p : ℕ} → skipAccepting (l .locations) (l .accepting) b₁ ≡ refusal n p → readHeader bs ≡ refusal n p
+    unfolding skipAccepting
     header-accepting e = let h = kept-refused length entries-read e in sym (header-parts bs) ∙ rw (e₀, h)
 
-    module _ {x : ℕ} {b₂ : List ℕ} (e₁ : passAccepting (l .locations) (l .accepting) b₁ ≡ value x b₂) where
+    module _ {x : ℕ} {b₂ : List ℕ} (e₁ : skipAccepting (l .locations) (l .accepting) b₁ ≡ value x b₂) where
       accepting-found : (xs : List ℕ) × (entries-read ≡ value xs b₂) × (length xs ≡ x)
-      unfolding passAccepting
+      unfolding skipAccepting
       accepting-found = kept-value length entries-read e₁
 
       pub header-count : {n p : ℕ} → below 2 513 4 nowhere b₂ ≡ refusal n p → readHeader bs ≡ refusal n p
@@ -105,7 +105,7 @@ module _ (bs : List ℕ) where
 
       pub header-found : (s : List ℕ) {n : ℕ} (entries transitions : ℕ) → b₁ ≡ drop entries s → below 2 513 4 nowhere b₂ ≡ value n (drop transitions s)
           → HeaderIs s bs (record { locations = l .locations; initial = l .initial; timers = l .timers; accepting = l .accepting; transitions = n }) entries transitions
-      unfolding headerNumbers
+      unfolding chartHeader
       header-found s {n} entries transitions here e =
           let h = accepting-found in
           let q = accepting-length _ _ _ (h .1) in

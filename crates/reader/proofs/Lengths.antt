@@ -18,13 +18,13 @@ pub first-long : {n a : ℕ} {x b : Bool} → n ≤ a → x ≡ b → x ≡ (leb
 first-long {n} {a} h e = rw (le-leb n a h) e
 
 -- what room means, list by list
-pub record Room (a n g accepting sources targets events starts counts timers codes constants : ℕ) : Type 0 where
+pub record Room (a n g accepting sources targets events starts test-counts timers codes constants : ℕ) : Type 0 where
   pub accepting-fit : a ≤ accepting
   pub sources-fit : n ≤ sources
   pub targets-fit : n ≤ targets
   pub events-fit : n ≤ events
   pub starts-fit : n ≤ starts
-  pub counts-fit : n ≤ counts
+  pub test-counts-fit : n ≤ test-counts
   pub timers-fit : g ≤ timers
   pub codes-fit : g ≤ codes
   pub constants-fit : g ≤ constants
@@ -50,7 +50,7 @@ module _ (a n g x₁ x₂ x₃ x₄ x₅ x₆ x₇ x₈ x₉ : ℕ) where
         targets-fit = first-fits n x₃ _ h₃;
         events-fit = first-fits n x₄ _ h₄;
         starts-fit = first-fits n x₅ _ h₅;
-        counts-fit = first-fits n x₆ _ h₆;
+        test-counts-fit = first-fits n x₆ _ h₆;
         timers-fit = first-fits g x₇ _ h₇;
         codes-fit = first-fits g x₈ _ h₈;
         constants-fit = leb-true g x₉ h₉;
@@ -59,7 +59,7 @@ module _ (a n g x₁ x₂ x₃ x₄ x₅ x₆ x₇ x₈ x₉ : ℕ) where
 -- the room that the code judges is the definition's
 pub room-is : (c : Chart) (l : Lists)
     → enough (length (c .accepting)) (length (c .transitions)) (length (allTests (c .transitions))) (length (l .accepting)) (length (l .sources)) (length (l .targets))
-    (length (l .events)) (length (l .starts)) (length (l .counts)) (length (l .timers)) (length (l .codes)) (length (l .constants))
+    (length (l .events)) (length (l .starts)) (length (l .test-counts)) (length (l .timers)) (length (l .codes)) (length (l .constants))
     ≡ roomFor (listsOf c) l
 unfolding enough roomFor listsOf
 room-is c l = simp length-map

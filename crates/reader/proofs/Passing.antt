@@ -15,8 +15,8 @@ use Rattle.file_format.specs.Parse.{value, refusal, below, entry, rising}
 use Rattle.file_format.specs.Body.{readTransition, readTransitions}
 use Rattle.file_format.proofs.Parsed.{bind-value, guard-value, same-value, below-limit, kept-value, kept-refused}
 use Rattle.file_format.proofs.Items.{Turn, rising-first, transitions-first, turn-done, turn-refused, turn-again}
-use Rattle.fields.specs.Parts.{passTransition}
-use Rattle.reader.specs.Parts.{passAccepting, passTransitions}
+use Rattle.fields.specs.Parts.{skipTransition}
+use Rattle.reader.specs.Parts.{skipAccepting, skipTransitions}
 use Rattle.fields.proofs.Parts.{pass-at-most}
 
 -- an entry of a rising list that was read is below the limit
@@ -37,15 +37,15 @@ pub accepting-first : (locations n : ℕ) (start : List ℕ) → AcceptingRead l
 accepting-first locations n start = record { done = []; turn = rising-first 2 locations 5 nowhere n start }
 
 module _ {locations n k lowest : ℕ} {start bs : List ℕ} (p : AcceptingRead locations n k lowest start bs) where
-  pub accepting-done : n ≤ k → value n bs ≡ passAccepting locations n start
-  unfolding passAccepting
+  pub accepting-done : n ≤ k → value n bs ≡ skipAccepting locations n start
+  unfolding skipAccepting
   accepting-done h =
       let e : length (p .done) ≡ n = omega (arith, p .turn .count, p .turn .most) in
       rw (turn-done (p .turn) h, e)
 
   module _ (h : k < n) where
-    pub accepting-refused : {m q : ℕ} → entry 2 locations 5 nowhere lowest bs ≡ refusal m q → refusal m q ≡ passAccepting locations n start
-    unfolding passAccepting
+    pub accepting-refused : {m q : ℕ} → entry 2 locations 5 nowhere lowest bs ≡ refusal m q → refusal m q ≡ skipAccepting locations n start
+    unfolding skipAccepting
     accepting-refused e = rw (turn-refused (p .turn) h e)
 
     pub accepting-again : {x : ℕ} {t : List ℕ} → entry 2 locations 5 nowhere lowest bs ≡ value x t → AcceptingRead locations n (k + 1) (x + 1) start t
@@ -63,17 +63,17 @@ unfolding allTests
 counted-first locations timers n start = record { done = []; turn = transitions-first 2 locations timers n start; count = refl; few = omega arith }
 
 module _ {locations timers n i tests : ℕ} {start bs : List ℕ} (p : TestsCounted locations timers n i tests start bs) where
-  pub counted-done : n ≤ i → value tests bs ≡ passTransitions 2 locations timers n start
-  unfolding passTransitions
+  pub counted-done : n ≤ i → value tests bs ≡ skipTransitions 2 locations timers n start
+  unfolding skipTransitions
   counted-done h = rw (turn-done (p .turn) h, p .count)
 
   module _ (h : i < n) where
-    pub counted-refused : {m q : ℕ} → passTransition 2 locations timers i bs ≡ refusal m q → refusal m q ≡ passTransitions 2 locations timers n start
-    unfolding passTransition passTransitions
+    pub counted-refused : {m q : ℕ} → skipTransition 2 locations timers i bs ≡ refusal m q → refusal m q ≡ skipTransitions 2 locations timers n start
+    unfolding skipTransition skipTransitions
     counted-refused e = let k = kept-refused (λ (r : Transition). length (r .tests)) (readTransition 2 locations timers i bs) e in rw (turn-refused (p .turn) h k)
 
-    pub counted-again : {g : ℕ} {t : List ℕ} → passTransition 2 locations timers i bs ≡ value g t → TestsCounted locations timers n (i + 1) (tests + g) start t
-    unfolding passTransition
+    pub counted-again : {g : ℕ} {t : List ℕ} → skipTransition 2 locations timers i bs ≡ value g t → TestsCounted locations timers n (i + 1) (tests + g) start t
+    unfolding skipTransition
     counted-again {g} {t} e =
         let k = kept-value (λ (r : Transition). length (r .tests)) (readTransition 2 locations timers i bs) e in
         let f : g ≤ 8 = pass-at-most 2 locations timers i bs e in

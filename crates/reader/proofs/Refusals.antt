@@ -6,7 +6,7 @@ use mathlib.Core.List.{List}
 use Prim.Native.Nat.{ℕ}
 use Rattle.model.specs.Answer.{Answer, result, refused, then, unless, nowhere}
 use Rattle.model.specs.Chart.{Chart}
-use Rattle.chart_lists.specs.Numbers.{numbersOf}
+use Rattle.chart_lists.specs.Header.{headerOf}
 use Rattle.chart_lists.specs.Lists.{Lists, listsOf, roomFor}
 use Rattle.file_format.specs.File.{chartIn}
 use Rattle.file_format.proofs.Answers.{result-refused}
@@ -31,6 +31,6 @@ module _ (l : Lists) (bs : List ℕ) (n p : ℕ) where
   unfolding readAnswer
   refusals-of-reading e = go (readInto l bs) refl e
     where
-      go : (x : Answer Chart) → readInto l bs ≡ x → then x (λ c. result (numbersOf c)) ≡ refused n p → RefusalOfReading n p
+      go : (x : Answer Chart) → readInto l bs ≡ x → then x (λ c. result (headerOf c)) ≡ refused n p → RefusalOfReading n p
       go (result c) k e = absurd (result-refused refl e)
       go (refused m q) k e = let a : m ≡ n = cc in let b : q ≡ p = cc in into-refused (rw (← a, ← b) k)

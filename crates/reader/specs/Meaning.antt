@@ -5,12 +5,13 @@ use Prim.Native.Nat.{ℕ, _≤_}
 use lib.ListN.{length, drop}
 use Rattle.model.specs.Answer.{Answer, result, nowhere}
 use Rattle.model.specs.Chart.{Chart}
-use Rattle.chart_lists.specs.declared.Numbers.{Numbers}
-use Rattle.chart_lists.specs.declared.Refusal.{Refusal}
-use Rattle.chart_lists.specs.Numbers.{numbersOf, refusedAs}
+use Rattle.chart_lists.specs.declared.Header.{Header}
+use Rattle.refusal.specs.declared.Refusal.{Refusal}
+use Rattle.chart_lists.specs.Header.{headerOf}
+use Rattle.refusal.specs.Refused.{refusedAs}
 use Rattle.chart_lists.specs.Lists.{allTests}
 use Rattle.file_format.specs.Parse.{Parsed, value, rising}
-use Rattle.file_format.specs.Body.{Header, readHeader, readTransitions}
+use Rattle.file_format.specs.Body.{FileHeader, readHeader, readTransitions}
 use Rattle.file_format.specs.File.{chartIn}
 use Rattle.fields.specs.declared.Field.{Field}
 use Rattle.fields.specs.declared.Field.the-variants as field
@@ -26,13 +27,13 @@ use Rattle.reader.specs.declared.Judged.the-variants as judged
 use Rattle.reader.specs.Parts.{Limits}
 
 -- the body of the file, from the next place on
-abbrev pub meantFrame : List ℕ → Field → Answer (List ℕ)
-meantFrame s (field.Value x next) = result (drop next s)
-meantFrame s (field.Refused f) = refusedAs f
+abbrev pub frameAs : List ℕ → Field → Answer (List ℕ)
+frameAs s (field.Value x next) = result (drop next s)
+frameAs s (field.Refused f) = refusedAs f
 
-abbrev pub meantLimits : List ℕ → LimitsField → Parsed Limits
-meantLimits s (limits.Found l q k a next) = value (record { locations = l; initial = q; timers = k; accepting = a }) (drop next s)
-meantLimits s (limits.Refused f) = refusalAs f
+abbrev pub limitsAs : List ℕ → LimitsField → Parsed Limits
+limitsAs s (limits.Found l q k a next) = value (record { locations = l; initial = q; timers = k; accepting = a }) (drop next s)
+limitsAs s (limits.Refused f) = refusalAs f
 
 abbrev pub limitsRefusal : LimitsField → Refusal
 limitsRefusal (limits.Refused f) = f
@@ -40,8 +41,8 @@ limitsRefusal (limits.Found l q k a next) = record { number = 0; place = 0 }
 
 -- ---- the header
 
-unfoldable pub headerNumbers : Header → Numbers
-headerNumbers h = record {
+unfoldable pub chartHeader : FileHeader → Header
+chartHeader h = record {
   locations = h .locations;
   initial = h .initial;
   timers = h .timers;
@@ -50,10 +51,10 @@ headerNumbers h = record {
 }
 
 -- the header that begins with bs: its numbers, and the places where the accepting locations and where the transitions begin
-pub record HeaderIs (s bs : List ℕ) (m : Numbers) (entries transitions : ℕ) : Type 0 where
-  pub header : Header
+pub record HeaderIs (s bs : List ℕ) (m : Header) (entries transitions : ℕ) : Type 0 where
+  pub header : FileHeader
   pub is : readHeader bs ≡ value header (drop transitions s)
-  pub numbers : m ≡ headerNumbers header
+  pub numbers : m ≡ chartHeader header
   pub few-timers : m .timers ≤ 64
   pub end : List ℕ
   pub accepting : rising 2 (m .locations) 5 nowhere (m .accepting) (drop entries s) ≡ value (header .accepting) end
@@ -70,16 +71,16 @@ headerRefusal (header.Found m entries transitions) = record { number = 0; place 
 -- ---- one transition's record
 
 -- the head of a record that was found, and the bytes from its tests on
-abbrev pub meantRecord : List ℕ → RecordHead → Parsed Head
-meantRecord s h = value (record { source = h .source; target = h .target; event = h .event; starts = h .starts; tests = h .tests }) (drop (h .next) s)
+abbrev pub recordAs : List ℕ → RecordHead → Parsed Head
+recordAs s h = value (record { source = h .source; target = h .target; event = h .event; starts = h .starts; tests = h .tests }) (drop (h .next) s)
 
 -- ---- the whole file
 
 -- the file's chart: its numbers, the places where its accepting locations and its transitions begin, and the number of its tests
-pub record ChartIs (s : List ℕ) (m : Numbers) (entries transitions tests : ℕ) : Type 0 where
+pub record ChartIs (s : List ℕ) (m : Header) (entries transitions tests : ℕ) : Type 0 where
   pub chart : Chart
   pub is : chartIn s ≡ result chart
-  pub numbers : m ≡ numbersOf chart
+  pub numbers : m ≡ headerOf chart
   pub few-timers : m .timers ≤ 64
   pub number-of-tests : tests ≡ length (allTests (chart .transitions))
   pub accepting-end : List ℕ

@@ -26,22 +26,22 @@ readLimits bs =
     value (record { locations = locations; initial = initial; timers = timers; accepting = accepting }) b₄)))))
 
 -- the accepting locations, judged and passed over: their number
-unfoldable pub passAccepting : (locations n : ℕ) → List ℕ → Parsed ℕ
-passAccepting locations n bs = bind (rising 2 locations 5 nowhere n bs) (λ xs t. value (length xs) t)
+unfoldable pub skipAccepting : (locations n : ℕ) → List ℕ → Parsed ℕ
+skipAccepting locations n bs = bind (rising 2 locations 5 nowhere n bs) (λ xs t. value (length xs) t)
 
 -- all transitions, judged and passed over: the number of their tests
-unfoldable pub passTransitions : (W locations timers n : ℕ) → List ℕ → Parsed ℕ
-passTransitions W locations timers n bs = bind (readTransitions W locations timers n bs) (λ rs t. value (length (allTests rs)) t)
+unfoldable pub skipTransitions : (W locations timers n : ℕ) → List ℕ → Parsed ℕ
+skipTransitions W locations timers n bs = bind (readTransitions W locations timers n bs) (λ rs t. value (length (allTests rs)) t)
 
 -- lists of these lengths have room for a accepting locations, n transitions and g tests
-unfoldable pub enough : (a n g accepting sources targets events starts counts timers codes constants : ℕ) → Bool
-enough a n g accepting sources targets events starts counts timers codes constants =
+unfoldable pub enough : (a n g accepting sources targets events starts test-counts timers codes constants : ℕ) → Bool
+enough a n g accepting sources targets events starts test-counts timers codes constants =
     leb a accepting
     && (leb n sources
     && (leb n targets
     && (leb n events
     && (leb n starts
-    && (leb n counts
+    && (leb n test-counts
     && (leb g timers
     && (leb g codes
     && leb g constants)))))))

@@ -4,25 +4,18 @@ use Prim.Native.Nat.{ℕ}
 use Rattle.model.specs.Answer.{Answer, result, refused, then, unless, nowhere}
 use Rattle.model.specs.Chart.{Chart}
 use Rattle.file_format.specs.File.{chartIn}
-use Rattle.chart_lists.specs.Lists.{Lists, listsOf, laid, roomFor}
-use Rattle.chart_lists.specs.declared.Numbers.{Numbers}
-use Rattle.chart_lists.specs.Numbers.{numbersOf, refusedAs}
-use Rattle.reader.specs.declared.Read.{Read}
-use Rattle.reader.specs.declared.Read.the-variants as read
+use Rattle.chart_lists.specs.Lists.{Lists, listsOf, putLists, roomFor}
+use Rattle.chart_lists.specs.declared.Header.{Header}
+use Rattle.chart_lists.specs.Header.{headerOf}
 
 -- the chart of a file, 1 to 8; then 21 if a lent list is too short for it
 unfoldable pub readInto : Lists → List ℕ → Answer Chart
 readInto l bs = then (chartIn bs) (λ c. unless (roomFor (listsOf c) l) 21 nowhere (result c))
 
-unfoldable pub readAnswer : Lists → List ℕ → Answer Numbers
-readAnswer l bs = then (readInto l bs) (λ c. result (numbersOf c))
+unfoldable pub readAnswer : Lists → List ℕ → Answer Header
+readAnswer l bs = then (readInto l bs) (λ c. result (headerOf c))
 
 -- the lent lists afterwards: the chart's over their fronts, or as they were
 abbrev pub listsAfter : Answer Chart → Lists → Lists
-listsAfter (result c) l = laid (listsOf c) l
+listsAfter (result c) l = putLists (listsOf c) l
 listsAfter (refused n p) l = l
-
--- what an answer of the code means
-abbrev pub meantRead : Read → Answer Numbers
-meantRead (read.Chart m) = result m
-meantRead (read.Refused f) = refusedAs f

@@ -14,13 +14,13 @@ use Rattle.file_format.specs.Body.{readTransitions}
 unfoldable pub putAt : (base : ℕ) → (xs l : List ℕ) → List ℕ
 putAt base xs l = put (take base l ++ xs) l
 
--- from five lists five others: those of the transitions' numbers laid over their fronts
+-- from five lists five others: those of the transitions' numbers putLists over their fronts
 pub record HeadsStored (rs : List Transition) (a b c d e a′ b′ c′ d′ e′ : List ℕ) : Type 0 where
   pub sources : a′ ≡ put (map (λ (r : Transition). r .source) rs) a
   pub targets : b′ ≡ put (map (λ (r : Transition). r .target) rs) b
   pub events : c′ ≡ put (map (λ (r : Transition). r .event) rs) c
   pub starts : d′ ≡ put (map startsSet rs) d
-  pub counts : e′ ≡ put (map (λ (r : Transition). length (r .tests)) rs) e
+  pub test-counts : e′ ≡ put (map (λ (r : Transition). length (r .tests)) rs) e
 
 -- from three lists three others: the tests' numbers behind the first base entries
 pub record TestsStored (ts : List Test) (base : ℕ) (a b c a′ b′ c′ : List ℕ) : Type 0 where

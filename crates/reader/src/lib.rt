@@ -10,46 +10,36 @@ ghost use Rattle.file_format.specs.Parse.{value, entry, rising};
 ghost use Rattle.file_format.specs.Body.{readTests, readTransitions};
 ghost use Rattle.file_format.specs.File.{readFrame, judgeFrame};
 ghost use Rattle.fields.specs.Parts.{Head, readHead};
-ghost use Rattle.fields.specs.Meaning.{meant};
-ghost use Rattle.reader.specs.Reading.{readInto, readAnswer, listsAfter, meantRead};
-ghost use Rattle.reader.specs.Parts.{readLimits, passAccepting, passTransitions, enough};
-ghost use Rattle.reader.specs.Meaning.{meantFrame, meantLimits, limitsRefusal, HeaderAt, headerRefusal, meantRecord, FileJudged, judgedRefusal};
+ghost use Rattle.fields.specs.Meaning.{fieldAs};
+ghost use Rattle.chart_lists.specs.Read.{readAs};
+ghost use Rattle.reader.specs.Reading.{readInto, readAnswer, listsAfter};
+ghost use Rattle.reader.specs.Parts.{readLimits, skipAccepting, skipTransitions, enough};
+ghost use Rattle.reader.specs.Meaning.{frameAs, limitsAs, limitsRefusal, HeaderAt, headerRefusal, recordAs, FileJudged, judgedRefusal};
 ghost use Rattle.reader.specs.Stored.{HeadsStored, TestsStored, TestsFit};
-use chart_lists::Numbers;
-use chart_lists::Refusal;
+use chart_lists::Header;
+use chart_lists::Read;
 use fields::Field;
 use fields::HeadField;
 use fields::TestField;
+use refusal::Refusal;
 
 // The version byte and the length: the place where the body begins. Compared as 64-bit numbers, so that nothing is cut.
 fn frame(s: &[u8]) -> Field
-    ensures { λ r. ⌜ meantFrame (now (s .entry)) r ≡ judgeFrame 1 (readFrame (now (s .entry))) ⌝ }
+    ensures { λ r. ⌜ frameAs (now (s .entry)) r ≡ judgeFrame 1 (readFrame (now (s .entry))) ⌝ }
 {
     let a = fields::byte_at(s, 0);
     let Field::Value(version, at) = a else {
-        return Field::Refused(Refusal {
-            number: 1,
-            place: 65535,
-        });
+        return Field::Refused(refusal::WRONG_LENGTH);
     };
     let b = fields::quad_at(s, at);
     let Field::Value(follow, body) = b else {
-        return Field::Refused(Refusal {
-            number: 1,
-            place: 65535,
-        });
+        return Field::Refused(refusal::WRONG_LENGTH);
     };
     if follow + 5 != s.len() as u64 {
-        return Field::Refused(Refusal {
-            number: 1,
-            place: 65535,
-        });
+        return Field::Refused(refusal::WRONG_LENGTH);
     }
     if version != 1 {
-        return Field::Refused(Refusal {
-            number: 2,
-            place: 65535,
-        });
+        return Field::Refused(refusal::WRONG_VERSION);
     }
     Field::Value(follow, body)
 }
@@ -85,17 +75,14 @@ fn limits_refusal(a: LimitsField) -> Refusal
 }
 
 fn limits_at(s: &[u8], at: usize) -> LimitsField
-    ensures { λ r. ⌜ meantLimits (now (s .entry)) r ≡ readLimits (drop at (now (s .entry))) ⌝ }
+    ensures { λ r. ⌜ limitsAs (now (s .entry)) r ≡ readLimits (drop at (now (s .entry))) ⌝ }
 {
     let a = fields::pair_below(s, at, 257, 4, 65535);
     let Field::Value(locations, at1) = a else {
         return LimitsField::Refused(fields::refusal_of(a));
     };
     if locations < 1 {
-        return LimitsField::Refused(Refusal {
-            number: 4,
-            place: 65535,
-        });
+        return LimitsField::Refused(refusal::WRONG_COUNT);
     }
     let b = fields::pair_below(s, at1, locations, 5, 65535);
     let Field::Value(initial, at2) = b else {
@@ -120,24 +107,21 @@ fn limits_at(s: &[u8], at: usize) -> LimitsField
 
 // One accepting location, at least lowest.
 fn entry_at(s: &[u8], at: usize, locations: u16, lowest: u64) -> Field
-    ensures { λ r. ⌜ meant (now (s .entry)) r ≡ entry 2 locations 5 nowhere lowest (drop at (now (s .entry))) ⌝ }
+    ensures { λ r. ⌜ fieldAs (now (s .entry)) r ≡ entry 2 locations 5 nowhere lowest (drop at (now (s .entry))) ⌝ }
 {
     let a = fields::pair_below(s, at, locations as u64, 5, 65535);
     let Field::Value(x, _) = a else {
         return a;
     };
     if x < lowest {
-        return Field::Refused(Refusal {
-            number: 7,
-            place: 65535,
-        });
+        return Field::Refused(refusal::NOT_RISING);
     }
     a
 }
 
 // The accepting locations, judged and passed over.
-fn pass_accepting(s: &[u8], at: usize, n: u16, locations: u16) -> Field
-    ensures { λ r. ⌜ meant (now (s .entry)) r ≡ passAccepting locations n (drop at (now (s .entry))) ⌝ }
+fn skip_accepting(s: &[u8], at: usize, n: u16, locations: u16) -> Field
+    ensures { λ r. ⌜ fieldAs (now (s .entry)) r ≡ skipAccepting locations n (drop at (now (s .entry))) ⌝ }
 {
     let mut here = at;
     let mut lowest: u64 = 0;
@@ -157,7 +141,7 @@ fn pass_accepting(s: &[u8], at: usize, n: u16, locations: u16) -> Field
 // The header, with the places where the accepting locations and where the transitions begin.
 pub enum HeaderField {
     Found {
-        numbers: Numbers,
+        numbers: Header,
         entries: usize,
         transitions: usize,
     },
@@ -194,7 +178,7 @@ fn header_at(s: &[u8], at: usize) -> HeaderField
     else {
         return HeaderField::Refused(limits_refusal(a));
     };
-    let b = pass_accepting(s, entries, accepting, locations);
+    let b = skip_accepting(s, entries, accepting, locations);
     let Field::Value(_, after) = b else {
         return HeaderField::Refused(fields::refusal_of(b));
     };
@@ -202,7 +186,7 @@ fn header_at(s: &[u8], at: usize) -> HeaderField
     let Field::Value(count, transitions) = d else {
         return HeaderField::Refused(fields::refusal_of(d));
     };
-    let numbers = Numbers {
+    let numbers = Header {
         locations,
         initial,
         timers,
@@ -219,13 +203,13 @@ fn header_at(s: &[u8], at: usize) -> HeaderField
 // All transitions, judged and passed over: the number of their tests, with the place after them.
 fn judge_records(s: &[u8], at: usize, n: u16, locations: u16, timers: u8) -> Field
     requires { ⌜ timers ≤ 64 ⌝ }
-    ensures { λ r. ⌜ meant (now (s .entry)) r ≡ passTransitions 2 locations timers n (drop at (now (s .entry))) ⌝ }
+    ensures { λ r. ⌜ fieldAs (now (s .entry)) r ≡ skipTransitions 2 locations timers n (drop at (now (s .entry))) ⌝ }
 {
     let mut here = at;
     let mut tests: u64 = 0;
     let mut i: u16 = 0;
     while i < n {
-        let a = fields::pass_record(s, here, locations, timers, i as u64);
+        let a = fields::skip_record(s, here, locations, timers, i as u64);
         let Field::Value(g, next) = a else {
             return a;
         };
@@ -239,7 +223,7 @@ fn judge_records(s: &[u8], at: usize, n: u16, locations: u16, timers: u8) -> Fie
 // The whole file, judged: its chart's numbers, the two places of its header, and the number of its tests.
 pub enum Judged {
     Good {
-        numbers: Numbers,
+        numbers: Header,
         entries: usize,
         transitions: usize,
         tests: u64,
@@ -291,10 +275,7 @@ fn judge_file(s: &[u8]) -> Judged
         return Judged::Refused(fields::refusal_of(d));
     };
     if end < s.len() {
-        return Judged::Refused(Refusal {
-            number: 3,
-            place: 65535,
-        });
+        return Judged::Refused(refusal::CUT_OFF);
     }
     Judged::Good {
         numbers,
@@ -314,12 +295,12 @@ fn room(
     targets: u64,
     events: u64,
     starts: u64,
-    counts: u64,
+    test_counts: u64,
     timers: u64,
     codes: u64,
     constants: u64,
 ) -> bool
-    ensures { λ r. ⌜ r ≡ enough a n g accepting sources targets events starts counts timers codes constants ⌝ }
+    ensures { λ r. ⌜ r ≡ enough a n g accepting sources targets events starts «test_counts» timers codes constants ⌝ }
 {
     if accepting < a {
         return false;
@@ -336,7 +317,7 @@ fn room(
     if starts < n {
         return false;
     }
-    if counts < n {
+    if test_counts < n {
         return false;
     }
     if timers < g {
@@ -381,7 +362,7 @@ pub struct RecordHead {
 // The head of a record, of a file that was judged.
 fn judged_head(s: &[u8], at: usize, locations: u16, timers: u8, place: u64) -> RecordHead
     requires { ⌜ timers ≤ 64 ⌝ }
-    ensures { λ r. ⌜ ((h : Head) (t : List ℕ) → readHead 2 locations timers place (drop at (now (s .entry))) ≡ value h t → meantRecord (now (s .entry)) r ≡ value h t) ⌝ }
+    ensures { λ r. ⌜ ((h : Head) (t : List ℕ) → readHead 2 locations timers place (drop at (now (s .entry))) ≡ value h t → recordAs (now (s .entry)) r ≡ value h t) ⌝ }
 {
     let a = fields::head_at(s, at, locations, timers, place);
     let HeadField::Found {
@@ -464,16 +445,16 @@ fn fill_records(
     targets: &mut [u16],
     events: &mut [u8],
     starts: &mut [u64],
-    counts: &mut [u8],
+    test_counts: &mut [u8],
     tested: &mut [u8],
     codes: &mut [u8],
     constants: &mut [u16],
 )
-    requires { ⌜ (timers ≤ 64) × (n ≤ length (now sources)) × (n ≤ length (now targets)) × (n ≤ length (now events)) × (n ≤ length (now starts)) × (n ≤ length (now counts)) ⌝ }
+    requires { ⌜ (timers ≤ 64) × (n ≤ length (now sources)) × (n ≤ length (now targets)) × (n ≤ length (now events)) × (n ≤ length (now starts)) × (n ≤ length (now «test_counts»)) ⌝ }
     requires { ⌜ TestsFit locations timers n (drop at (now s)) (length (now tested)) (length (now codes)) (length (now constants)) ⌝ }
     ensures { λ _. ⌜ ((rs : List Transition) (t : List ℕ) → readTransitions 2 locations timers n (drop at (now (s .entry))) ≡ value rs t
-        → HeadsStored rs (now (sources .entry)) (now (targets .entry)) (now (events .entry)) (now (starts .entry)) (now (counts .entry))
-        (now (sources .exit)) (now (targets .exit)) (now (events .exit)) (now (starts .exit)) (now (counts .exit))
+        → HeadsStored rs (now (sources .entry)) (now (targets .entry)) (now (events .entry)) (now (starts .entry)) (now («test_counts» .entry))
+        (now (sources .exit)) (now (targets .exit)) (now (events .exit)) (now (starts .exit)) (now («test_counts» .exit))
         × TestsStored (allTests rs) 0 (now (tested .entry)) (now (codes .entry)) (now (constants .entry)) (now (tested .exit)) (now (codes .exit)) (now (constants .exit))) ⌝ }
 {
     let mut here = at;
@@ -485,7 +466,7 @@ fn fill_records(
         targets[k] = h.target;
         events[k] = h.event;
         starts[k] = h.starts;
-        counts[k] = h.tests;
+        test_counts[k] = h.tests;
         here = fill_record_tests(
             s,
             h.next,
@@ -502,12 +483,6 @@ fn fill_records(
     }
 }
 
-// What reading a file gives: the chart's numbers, or a refusal.
-pub enum Read {
-    Chart(Numbers),
-    Refused(Refusal),
-}
-
 pub fn read_chart(
     file: &[u8],
     accepting: &mut [u16],
@@ -515,15 +490,15 @@ pub fn read_chart(
     targets: &mut [u16],
     events: &mut [u8],
     starts: &mut [u64],
-    counts: &mut [u8],
+    test_counts: &mut [u8],
     timers: &mut [u8],
     codes: &mut [u8],
     constants: &mut [u16],
 ) -> Read
-    ensures answer { λ r. ⌜ meantRead r ≡ readAnswer (lists (now (accepting .entry)) (now (sources .entry)) (now (targets .entry)) (now (events .entry)) (now (starts .entry)) (now (counts .entry)) (now (timers .entry)) (now (codes .entry)) (now (constants .entry))) (now (file .entry)) ⌝ }
-    ensures lent { λ _. ⌜ lists (now (accepting .exit)) (now (sources .exit)) (now (targets .exit)) (now (events .exit)) (now (starts .exit)) (now (counts .exit)) (now (timers .exit)) (now (codes .exit)) (now (constants .exit))
-        ≡ listsAfter (readInto (lists (now (accepting .entry)) (now (sources .entry)) (now (targets .entry)) (now (events .entry)) (now (starts .entry)) (now (counts .entry)) (now (timers .entry)) (now (codes .entry)) (now (constants .entry))) (now (file .entry)))
-        (lists (now (accepting .entry)) (now (sources .entry)) (now (targets .entry)) (now (events .entry)) (now (starts .entry)) (now (counts .entry)) (now (timers .entry)) (now (codes .entry)) (now (constants .entry))) ⌝ }
+    ensures answer { λ r. ⌜ readAs r ≡ readAnswer (lists (now (accepting .entry)) (now (sources .entry)) (now (targets .entry)) (now (events .entry)) (now (starts .entry)) (now («test_counts» .entry)) (now (timers .entry)) (now (codes .entry)) (now (constants .entry))) (now (file .entry)) ⌝ }
+    ensures lent { λ _. ⌜ lists (now (accepting .exit)) (now (sources .exit)) (now (targets .exit)) (now (events .exit)) (now (starts .exit)) (now («test_counts» .exit)) (now (timers .exit)) (now (codes .exit)) (now (constants .exit))
+        ≡ listsAfter (readInto (lists (now (accepting .entry)) (now (sources .entry)) (now (targets .entry)) (now (events .entry)) (now (starts .entry)) (now («test_counts» .entry)) (now (timers .entry)) (now (codes .entry)) (now (constants .entry))) (now (file .entry)))
+        (lists (now (accepting .entry)) (now (sources .entry)) (now (targets .entry)) (now (events .entry)) (now (starts .entry)) (now («test_counts» .entry)) (now (timers .entry)) (now (codes .entry)) (now (constants .entry))) ⌝ }
 {
     let a = judge_file(file);
     let Judged::Good {
@@ -546,15 +521,12 @@ pub fn read_chart(
         targets.len() as u64,
         events.len() as u64,
         starts.len() as u64,
-        counts.len() as u64,
+        test_counts.len() as u64,
         timers.len() as u64,
         codes.len() as u64,
         constants.len() as u64,
     ) {
-        return Read::Refused(Refusal {
-            number: 21,
-            place: 65535,
-        });
+        return Read::Refused(refusal::NO_ROOM);
     }
     fill_accepting(file, entries, numbers.accepting, locations, accepting);
     fill_records(
@@ -567,7 +539,7 @@ pub fn read_chart(
         targets,
         events,
         starts,
-        counts,
+        test_counts,
         timers,
         codes,
         constants,

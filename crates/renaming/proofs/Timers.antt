@@ -111,12 +111,12 @@ module _ (N : Numbering) (numbers : List ℕ) where
       rw (map-append, append-assoc, take-at _ _ _ e, drop-at _ _ _ e, row-is (r .source) (r .tests) (h 0 r refl), timers-are rs beyond (λ i s n. h (suc i) s n), map-append)
 
 module _ {c : Chart} {ps : List Placed} {numbers : List ℕ} (cs : CellsOf c ps numbers) where
-  pub renamed-timers : (sources counts timers : List ℕ) → sources ≡ map (λ (r : Transition). r .source) (c .transitions)
-      → TestsOf (c .transitions) counts timers
-      → renamedTimers numbers sources counts timers ≡ map (λ (t : Test). t .timer) (allTests (map (newTransition (numbering ps)) (c .transitions)))
+  pub renamed-timers : (sources test-counts timers : List ℕ) → sources ≡ map (λ (r : Transition). r .source) (c .transitions)
+      → TestsOf (c .transitions) test-counts timers
+      → renamedTimers numbers sources test-counts timers ≡ map (λ (t : Test). t .timer) (allTests (map (newTransition (numbering ps)) (c .transitions)))
   unfolding numbering
-  renamed-timers sources counts timers e t =
-      rw (e, t .counts-are, t .timers-are) (timers-are (numbering ps) numbers (c .transitions) (t .beyond) (λ i r n. read (record { there = n })))
+  renamed-timers sources test-counts timers e t =
+      rw (e, t .test-counts-are, t .timers-are) (timers-are (numbering ps) numbers (c .transitions) (t .beyond) (λ i r n. read (record { there = n })))
     where
       read : {i : ℕ} {r : Transition} → Nth c i r → Read (numbering ps) numbers (r .source) (r .tests)
       read {i} {r} n j m =

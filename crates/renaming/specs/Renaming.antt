@@ -11,8 +11,8 @@ use Rattle.model.specs.Chart.{Transition, Chart, Nth}
 use Rattle.model.specs.Valid.{Valid}
 use Rattle.model.specs.FirstFit.{Placed, usedBy}
 use Rattle.model.specs.Rewrite.{numbering}
-use Rattle.model.proofs.Rewritten.{Numbered}
 use Rattle.allocation.specs.Cells.{cells}
+use Rattle.model.specs.Plan.{Numbered}
 
 -- the cell of (q, j)
 abbrev pub cellAt : (numbers : List ℕ) → (q j : ℕ) → ℕ
@@ -41,7 +41,7 @@ unfoldable pub renamedRow : (numbers : List ℕ) → (q : ℕ) → List ℕ → 
 renamedRow numbers q ts = map (λ j. boardTimer (cellAt numbers q j)) ts
 
 -- the timers of tests: the first n at the first location, the next at the second, ..
-unfoldable pub renamedTimers : (numbers sources counts timers : List ℕ) → List ℕ
+unfoldable pub renamedTimers : (numbers sources test-counts timers : List ℕ) → List ℕ
 renamedTimers numbers [] ns ts = []
 renamedTimers numbers (q ∷ qs) [] ts = []
 renamedTimers numbers (q ∷ qs) (n ∷ ns) ts = renamedRow numbers q (take n ts) ++ renamedTimers numbers qs ns (drop n ts)

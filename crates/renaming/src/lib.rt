@@ -90,21 +90,21 @@ fn rename_row<'a>(
 // The timer of each test: the number at its transition's source of the timer that it tests.
 pub fn rename_tests<'a>(
     sources: &'a [u16],
-    counts: &'a [u8],
+    test_counts: &'a [u8],
     timers: &'a [u8],
     numbers: &'a [u16],
     renamed: &mut [u8],
 )
-    requires { ⌜ Rows (now sources) (now numbers) × (length (now counts) ≡ length (now sources)) × TimersFor (now counts) (now timers) × (length (now timers) ≤ length (now renamed)) ⌝ }
+    requires { ⌜ Rows (now sources) (now numbers) × (length (now «test_counts») ≡ length (now sources)) × TimersFor (now «test_counts») (now timers) × (length (now timers) ≤ length (now renamed)) ⌝ }
     ensures { λ _. ⌜ ((c : Chart) (ps : List Placed) → CellsOf c ps (now (numbers .entry)) → now (sources .entry) ≡ map (λ (r : Transition). r .source) (c .transitions)
-        → TestsOf (c .transitions) (now (counts .entry)) (now (timers .entry))
+        → TestsOf (c .transitions) (now («test_counts» .entry)) (now (timers .entry))
         → now (renamed .exit) ≡ put (map (λ (t : Test). t .timer) (allTests (map (newTransition (numbering ps)) (c .transitions)))) (now (renamed .entry))) ⌝ }
 {
     let n = sources.len();
     let mut base: usize = 0;
     let mut i: usize = 0;
     while i < n {
-        let count = counts[i];
+        let count = test_counts[i];
         let q = sources[i] as usize;
         rename_row(timers, base, count, numbers, q, renamed);
         base += count as usize;

@@ -10,17 +10,16 @@ use Rattle.model.specs.Chart.{Transition, Chart, Nth}
 use Rattle.model.specs.Valid.{Valid, ValidTransition}
 use Rattle.model.specs.FirstFit.{board, used}
 use Rattle.model.specs.Rewrite.{numbering}
-use Rattle.model.specs.Plan.{Plan}
+use Rattle.model.specs.Plan.{Plan, Numbered}
 use Rattle.model.specs.Judge.{judged}
 use Rattle.model.specs.Answer.{result}
 use Rattle.model.proofs.Transitions.{all-nth}
 use Rattle.model.proofs.Paths.{live-here}
 use Rattle.model.proofs.BoardPlan.{board-plan, live-number}
 use Rattle.model.proofs.Judgement.{accepted}
-use Rattle.model.proofs.Rewritten.{Numbered}
 use Rattle.chart_lists.specs.Lists.{Lists}
-use Rattle.chart_lists.specs.declared.Numbers.{Numbers}
-use Rattle.chart_lists.specs.Numbers.{numbersOf}
+use Rattle.chart_lists.specs.declared.Header.{Header}
+use Rattle.chart_lists.specs.Header.{headerOf}
 use Rattle.allocation.proofs.CellList.{cells-length}
 use Rattle.numbering.specs.Numbered.{ListsFor}
 use Rattle.renaming.specs.Renaming.{Rows, CellsOf}
@@ -35,18 +34,18 @@ pub tests-numbered : {W : ℕ} {c : Chart} → Valid W c → (i : ℕ) (r : Tran
 unfolding numbering
 tests-numbered valid i r n j t = live-number valid (r .source) j (live-here (record { number = i; transition = r; is-nth = n; leaves = refl; tests-it = t }))
 
-module _ {c : Chart} {m : Numbers} {l : Lists} {tested : List ℕ} (x : ListsOfChart c m l tested) where
+module _ {c : Chart} {m : Header} {l : Lists} {tested : List ℕ} (x : ListsOfChart c m l tested) where
   pub locations-are : m .locations ≡ c .locations
-  unfolding numbersOf
-  locations-are = ap (λ (k : Numbers). k .locations) (x .numbers-are)
+  unfolding headerOf
+  locations-are = ap (λ (k : Header). k .locations) (x .numbers-are)
 
   pub numberable : {n : ℕ} → n ≡ m .locations → ListsFor c (l .sources) (l .targets) (l .starts) tested (m .timers) n
-  unfolding numbersOf
+  unfolding headerOf
   numberable e = record {
     width = 2;
     valid = x .valid;
     listed = record { sources-are = x .sources-are; targets-are = x .targets-are; starts-are = x .starts-are; tests-are = x .tested-are };
-    timers-are = ap (λ (k : Numbers). k .timers) (x .numbers-are);
+    timers-are = ap (λ (k : Header). k .timers) (x .numbers-are);
     locations-are = e ∙ locations-are;
   }
 
@@ -88,5 +87,5 @@ module _ {c : Chart} {m : Numbers} {l : Lists} {tested : List ℕ} (x : ListsOfC
   pub starts-each : length (l .starts) ≡ length (l .targets)
   starts-each = ap length (x .starts-are) ∙ length-map (c .transitions) _ ∙ sym (ap length (x .targets-are) ∙ length-map (c .transitions) _)
 
-  pub counts-each : length (l .counts) ≡ length (l .sources)
-  counts-each = ap length (x .tests-are .counts-are) ∙ length-map (c .transitions) _ ∙ sym (ap length (x .sources-are) ∙ length-map (c .transitions) _)
+  pub test-counts-each : length (l .test-counts) ≡ length (l .sources)
+  test-counts-each = ap length (x .tests-are .test-counts-are) ∙ length-map (c .transitions) _ ∙ sym (ap length (x .sources-are) ∙ length-map (c .transitions) _)

@@ -8,13 +8,13 @@ use lib.Seq.{take-length}
 use Rattle.model.specs.Answer.{Answer, result, refused, then}
 use Rattle.model.specs.Chart.{Transition, Chart}
 use Rattle.model.specs.Judge.{Rewriting, judged}
-use Rattle.chart_lists.specs.Lists.{Lists, lists, allTests, listsOf, laid, put}
-use Rattle.chart_lists.specs.declared.Numbers.{Numbers}
+use Rattle.chart_lists.specs.Lists.{Lists, lists, allTests, listsOf, putLists, put}
+use Rattle.chart_lists.specs.declared.Header.{Header}
 use Rattle.chart_lists.proofs.Put.{take-put}
-use Rattle.reader.specs.declared.Read.{Read}
-use Rattle.reader.specs.declared.Read.the-variants as read
-use Rattle.reader.specs.Reading.{meantRead}
-use Rattle.judgement.specs.Judging.{judgedIn, judgedNumbers, largest}
+use Rattle.chart_lists.specs.declared.Read.{Read}
+use Rattle.chart_lists.specs.declared.Read.the-variants as read
+use Rattle.chart_lists.specs.Read.{readAs}
+use Rattle.judgement.specs.Judging.{judgedIn, judgedHeader, largest}
 use Rattle.judgement.specs.Holds.{Holds}
 use Rattle.judgement.proofs.Fronts.{of-all, front-length, tests-of, timers-for}
 use Rattle.judgement.proofs.Handed.{HandedOn, handed-on, judged-refused}
@@ -26,7 +26,7 @@ use Rattle.rewriting.proofs.Order.{into-refused, into-accepted}
 
 -- ---- a refusal of the judgement
 
-module _ (K room : ℕ) (bs : List ℕ) {n p : ℕ} (e : refused n p ≡ judgedNumbers bs) where
+module _ (K room : ℕ) (bs : List ℕ) {n p : ℕ} (e : refused n p ≡ judgedHeader bs) where
   pub entry-refused : refused n p ≡ rewriteAnswer K room bs
   unfolding rewriteAnswer
   entry-refused = sym (ap (λ (y : Answer Rewriting). then y (λ x. result (figuresOf x))) (into-refused K room bs (judged-refused bs e)))
@@ -46,14 +46,14 @@ module _ (K room : ℕ) (bs : List ℕ) {c : Chart} (accepted : judgedIn bs ≡ 
 
 -- ---- the lists that the judgement leaves
 
-module _ {bs : List ℕ} {a : Read} {m : Numbers} {l : Lists} {tested : List ℕ} (x : JudgedLists bs a l tested) (e : a ≡ read.Chart m) where
-  pub handed : HandedOn bs m (l .sources) (l .targets) (l .starts) (l .counts) (l .timers) tested
-  handed = handed-on bs (x .bytes) _ _ _ _ _ _ _ _ _ tested (sym (ap meantRead e) ∙ x .answer) (x .lists-are) (x .tested-are)
+module _ {bs : List ℕ} {a : Read} {m : Header} {l : Lists} {tested : List ℕ} (x : JudgedLists bs a l tested) (e : a ≡ read.Chart m) where
+  pub handed : HandedOn bs m (l .sources) (l .targets) (l .starts) (l .test-counts) (l .timers) tested
+  handed = handed-on bs (x .bytes) _ _ _ _ _ _ _ _ _ tested (sym (ap readAs e) ∙ x .answer) (x .lists-are) (x .tested-are)
 
-  abbrev held : Holds bs m (l .sources) (l .targets) (l .starts) (l .counts) (l .timers)
+  abbrev held : Holds bs m (l .sources) (l .targets) (l .starts) (l .test-counts) (l .timers)
   held = handed .held
 
-  all-laid : l ≡ laid (listsOf (held .chart)) largest
+  all-laid : l ≡ putLists (listsOf (held .chart)) largest
   all-laid = rw (held .reads) at (x .lists-are)
 
   -- a list of which only so many entries are lent
@@ -67,17 +67,17 @@ module _ {bs : List ℕ} {a : Read} {m : Numbers} {l : Lists} {tested : List ℕ
   abbrev lent : Lists
   lent =
       lists (l .accepting) (take (m .transitions) (l .sources)) (take (m .transitions) (l .targets)) (l .events) (take (m .transitions) (l .starts))
-      (take (m .transitions) (l .counts)) (l .timers) (l .codes) (l .constants)
+      (take (m .transitions) (l .test-counts)) (l .timers) (l .codes) (l .constants)
 
   lists-begin : ListsBegin (listsOf (held .chart)) lent
-  unfolding listsOf laid largest
+  unfolding listsOf putLists largest
   lists-begin = record {
     accepting = whole-begins _ (replicate 256 0) (ap (λ (y : Lists). y .accepting) all-laid);
     sources = cut-begins _ (held .sources-are);
     targets = cut-begins _ (held .targets-are);
     events = whole-begins _ (replicate 512 0) (ap (λ (y : Lists). y .events) all-laid);
     starts = cut-begins _ (held .starts-are);
-    counts = cut-begins _ (held .counts-are);
+    test-counts = cut-begins _ (held .test-counts-are);
     timers = whole-begins _ (replicate 4096 0) (held .timers-are);
     codes = whole-begins _ (replicate 4096 0) (ap (λ (y : Lists). y .codes) all-laid);
     constants = whole-begins _ (replicate 4096 0) (ap (λ (y : Lists). y .constants) all-laid);

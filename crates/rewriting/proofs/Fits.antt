@@ -14,20 +14,20 @@ use Rattle.model.specs.Chart.{Transition, Chart, Nth}
 use Rattle.model.specs.Valid.{Valid}
 use Rattle.model.specs.Path.{Born}
 use Rattle.model.specs.FirstFit.{numberAt, board, used}
-use Rattle.model.specs.Rewrite.{numbering, newTransition}
+use Rattle.model.specs.Rewrite.{numbering, newTransition, NamesBelow}
 use Rattle.model.specs.Judge.{Rewriting, judged, rewriting}
 use Rattle.model.specs.Player.{played}
 use Rattle.model.specs.Equivalence.{Alike}
+use Rattle.file_format.specs.Parse.{Bytes}
 use Rattle.model.proofs.BoardPlan.{born-starts}
 use Rattle.model.proofs.Rewritten.{new-nth}
-use Rattle.model.proofs.RewrittenValid.{NamesBelow, names-below}
+use Rattle.model.proofs.RewrittenValid.{names-below}
 use Rattle.model.proofs.RewritingAlike.{rewriting-is}
 use Rattle.model.proofs.PlayerLaws.{CountsAllowed}
 use Rattle.model.proofs.EqualAnswers.{equal-behaviour, rewriting-judged, equal-answers}
 use Rattle.file_format.specs.File.{chartIn, fileOf}
 use Rattle.file_format.proofs.Answers.{then-result, unless-result}
 use Rattle.file_format.proofs.File.{reads-valid, chart-survives}
-use Rattle.file_format.proofs.RoundTrip.{Bytes}
 use Rattle.rewriting.specs.Rewriting.{rewriteInto}
 use Rattle.rewriting.proofs.Board.{judged-plan}
 

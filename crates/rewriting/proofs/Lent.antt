@@ -8,14 +8,14 @@ use lib.Seq.{take-at}
 use Rattle.model.specs.Chart.{Chart}
 use Rattle.model.specs.FirstFit.{board}
 use Rattle.chart_lists.specs.Lists.{Lists}
-use Rattle.chart_lists.specs.declared.Numbers.{Numbers}
+use Rattle.chart_lists.specs.declared.Header.{Header}
 use Rattle.judgement.proofs.OwnSets.{length-empty}
 use Rattle.allocation.proofs.CellList.{cells-length}
 use Rattle.numbering.specs.Numbered.{ListsFor, NumberedChart}
 use Rattle.rewriting.specs.Parts.{ListsOfChart, FittingNumbers}
 use Rattle.rewriting.proofs.Board.{locations-are, numberable}
 
-module _ {c : Chart} {m : Numbers} {l : Lists} {tested : List ℕ} (x : ListsOfChart c m l tested) where
+module _ {c : Chart} {m : Header} {l : Lists} {tested : List ℕ} (x : ListsOfChart c m l tested) where
   pub few-locations : m .locations ≤ 256
   few-locations = omega (arith, locations-are x, x .valid .few-locations)
 

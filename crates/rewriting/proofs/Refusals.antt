@@ -11,10 +11,10 @@ use Rattle.model.specs.Chart.{Chart}
 use Rattle.model.specs.FirstFit.{used}
 use Rattle.model.specs.Rewrite.{rewritten}
 use Rattle.model.specs.Judge.{Rewriting}
+use Rattle.file_format.specs.Parse.{Bytes}
 use Rattle.model.proofs.Judgement.{LowestUnreached, LowestUnstarted}
 use Rattle.file_format.specs.File.{chartIn, fileOf}
 use Rattle.file_format.proofs.Answers.{result-refused}
-use Rattle.file_format.proofs.RoundTrip.{Bytes}
 use Rattle.judgement.specs.Judging.{judgedIn}
 use Rattle.judgement.specs.Refusals.{RefusalOfJudgement}
 use Rattle.judgement.specs.Refusals.RefusalOfJudgement.{of-file, of-unreached, of-unstarted}

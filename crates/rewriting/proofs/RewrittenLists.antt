@@ -8,10 +8,11 @@ use Rattle.comparison.specs.Comparison.{codeOf}
 use Rattle.model.specs.Chart.{Test, Transition, Chart, Nth}
 use Rattle.model.specs.Live.{startsSet}
 use Rattle.model.specs.Rewrite.{Numbering, newTests, newTransition, rewrittenBy}
-use Rattle.model.proofs.Rewritten.{Numbered, onTimer, tested-head, tested-tail, tests-some}
+use Rattle.model.specs.Plan.{Numbered}
+use Rattle.model.proofs.Rewritten.{onTimer, tested-head, tested-tail, tests-some}
 use Rattle.chart_lists.specs.Lists.{lists, allTests, listsOf}
-use Rattle.chart_lists.specs.declared.Numbers.{Numbers}
-use Rattle.chart_lists.specs.Numbers.{numbersOf}
+use Rattle.chart_lists.specs.declared.Header.{Header}
+use Rattle.chart_lists.specs.Header.{headerOf}
 
 module _ (N : Numbering) where
   -- what a test has beside its timer is kept, test by test
@@ -36,11 +37,11 @@ module _ (N : Numbering) where
   length-kept q ts h =
       sym (length-map (newTests N q ts) (λ (t : Test). 0)) ∙ ap length (tests-kept (λ (t : Test). 0) (λ t k. refl) q ts h) ∙ length-map ts (λ (t : Test). 0)
 
-  counts-kept : (rs : List Transition) → ((i : ℕ) (r : Transition) → getElem? rs i ≡ some r → Numbered N (r .source) (r .tests))
+  test-counts-kept : (rs : List Transition) → ((i : ℕ) (r : Transition) → getElem? rs i ≡ some r → Numbered N (r .source) (r .tests))
       → map (λ (r : Transition). length (r .tests)) (map (newTransition N) rs) ≡ map (λ (r : Transition). length (r .tests)) rs
   unfolding newTransition
-  counts-kept [] h = refl
-  counts-kept (r ∷ rs) h = ap₂ _∷_ (length-kept (r .source) (r .tests) (h 0 r refl)) (counts-kept rs (λ i s n. h (suc i) s n))
+  test-counts-kept [] h = refl
+  test-counts-kept (r ∷ rs) h = ap₂ _∷_ (length-kept (r .source) (r .tests) (h 0 r refl)) (test-counts-kept rs (λ i s n. h (suc i) s n))
 
 module _ (N : Numbering) (c : Chart) (numbered : (i : ℕ) (r : Transition) → Nth c i r → Numbered N (r .source) (r .tests)) where
   each : (i : ℕ) (r : Transition) → getElem? (c .transitions) i ≡ some r → Numbered N (r .source) (r .tests)
@@ -49,7 +50,7 @@ module _ (N : Numbering) (c : Chart) (numbered : (i : ℕ) (r : Transition) → 
   -- the starts and the timers of tests are new, the other lists the chart's
   pub rewritten-lists : listsOf (rewrittenBy N c)
       ≡ lists (listsOf c .accepting) (listsOf c .sources) (listsOf c .targets) (listsOf c .events) (map startsSet (map (newTransition N) (c .transitions)))
-      (listsOf c .counts) (map (λ (t : Test). t .timer) (allTests (map (newTransition N) (c .transitions)))) (listsOf c .codes) (listsOf c .constants)
+      (listsOf c .test-counts) (map (λ (t : Test). t .timer) (allTests (map (newTransition N) (c .transitions)))) (listsOf c .codes) (listsOf c .constants)
   unfolding listsOf rewrittenBy newTransition
   rewritten-lists = λ j. record {
     accepting = c .accepting;
@@ -57,15 +58,15 @@ module _ (N : Numbering) (c : Chart) (numbered : (i : ℕ) (r : Transition) → 
     targets = map-map (λ (r : Transition). r .target) (newTransition N) (c .transitions) j;
     events = map-map (λ (r : Transition). r .event) (newTransition N) (c .transitions) j;
     starts = map startsSet (map (newTransition N) (c .transitions));
-    counts = counts-kept N (c .transitions) each j;
+    test-counts = test-counts-kept N (c .transitions) each j;
     timers = map (λ (t : Test). t .timer) (allTests (map (newTransition N) (c .transitions)));
     codes = all-kept N (λ (t : Test). codeOf (t .comparison)) (λ t k. refl) (c .transitions) each j;
     constants = all-kept N (λ (t : Test). t .constant) (λ t k. refl) (c .transitions) each j;
   }
 
 -- the numbers are the chart's but for that of the timers
-pub rewritten-numbers : (N : Numbering) (c : Chart) {m : Numbers} → m ≡ numbersOf c
-    → numbersOf (rewrittenBy N c)
+pub rewritten-numbers : (N : Numbering) (c : Chart) {m : Header} → m ≡ headerOf c
+    → headerOf (rewrittenBy N c)
     ≡ record { locations = m .locations; initial = m .initial; timers = N .used; accepting = m .accepting; transitions = m .transitions }
-unfolding numbersOf rewrittenBy
+unfolding headerOf rewrittenBy
 rewritten-numbers N c e = rw e (ap (λ (n : ℕ). record { locations = c .locations; initial = c .initial; timers = N .used; accepting = length (c .accepting); transitions = n }) (length-map (c .transitions) (newTransition N)))

@@ -14,11 +14,11 @@ use Rattle.model.specs.Judge.{Rewriting}
 use Rattle.model.proofs.RewrittenValid.{rewritten-valid}
 use Rattle.file_format.specs.File.{fileOf}
 use Rattle.chart_lists.specs.Lists.{Lists, lists, allTests, listsOf, put}
-use Rattle.chart_lists.specs.declared.Numbers.{Numbers}
-use Rattle.chart_lists.specs.Numbers.{numbersOf}
+use Rattle.chart_lists.specs.declared.Header.{Header}
+use Rattle.chart_lists.specs.Header.{headerOf}
 use Rattle.chart_lists.proofs.Put.{take-put}
 use Rattle.writer.specs.Begins.{Begins, ListsBegin}
-use Rattle.writer.specs.Handing.{handed, writeInto, writeAnswer}
+use Rattle.writer.specs.Handing.{chartFrom, writeInto, writeAnswer}
 use Rattle.writer.specs.Handing.{bufferAfter as writtenAfter}
 use Rattle.writer.proofs.ValidHanded.{valid-handed}
 use Rattle.rewriting.specs.Rewriting.{figuresOf, bufferAfter}
@@ -28,17 +28,17 @@ use Rattle.rewriting.proofs.Order.{fitted-21}
 use Rattle.rewriting.proofs.Board.{judged-plan, tests-numbered}
 
 -- the numbers of a chart with another number of timers
-abbrev pub withTimers : Numbers → ℕ → Numbers
+abbrev pub withTimers : Header → ℕ → Header
 withTimers m n = record { locations = m .locations; initial = m .initial; timers = n; accepting = m .accepting; transitions = m .transitions }
 
 -- the lists with other starts and other timers of tests
 abbrev pub withNames : Lists → (starts timers : List ℕ) → Lists
-withNames l w j = lists (l .accepting) (l .sources) (l .targets) (l .events) w (l .counts) j (l .codes) (l .constants)
+withNames l w j = lists (l .accepting) (l .sources) (l .targets) (l .events) w (l .test-counts) j (l .codes) (l .constants)
 
 put-begins : (xs l : List ℕ) → Begins xs (put xs l)
 put-begins xs l = record { is = take-put xs l (length xs) refl }
 
-module _ {c : Chart} {m : Numbers} {l : Lists} {tested : List ℕ} (x : ListsOfChart c m l tested) {count : ℕ} {numbers : List ℕ}
+module _ {c : Chart} {m : Header} {l : Lists} {tested : List ℕ} (x : ListsOfChart c m l tested) {count : ℕ} {numbers : List ℕ}
     (f : FittingNumbers c count numbers) where
   valid-rewritten : Valid 2 (rewritten c)
   unfolding rewritten used numbering
@@ -55,17 +55,17 @@ module _ {c : Chart} {m : Numbers} {l : Lists} {tested : List ℕ} (x : ListsOfC
       targets = x .begins .targets;
       events = x .begins .events;
       starts = put-begins _ (replicate 512 0);
-      counts = x .begins .counts;
+      test-counts = x .begins .test-counts;
       timers = put-begins _ (replicate 4096 0);
       codes = x .begins .codes;
       constants = x .begins .constants;
     })
 
-    numbers-rewritten : withTimers m count ≡ numbersOf (rewritten c)
+    numbers-rewritten : withTimers m count ≡ headerOf (rewritten c)
     unfolding rewritten used numbering
     numbers-rewritten = sym (rewritten-numbers (numbering (board c)) c (x .numbers-are) ∙ ap (withTimers m) (sym (f .count-is)))
 
-    handed-rewritten : handed (withTimers m count) (withNames l starts timers) ≡ result (rewritten c)
+    handed-rewritten : chartFrom (withTimers m count) (withNames l starts timers) ≡ result (rewritten c)
     handed-rewritten = rw numbers-rewritten (valid-handed (rewritten c) valid-rewritten (withNames l starts timers) lists-begin)
 
     pub write-into : (room : ℕ) → writeInto room (withTimers m count) (withNames l starts timers) ≡ intoRoom room (rewritten c)

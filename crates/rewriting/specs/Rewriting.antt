@@ -7,7 +7,7 @@ use Rattle.model.specs.Answer.{Answer, result, refused, then, unless, nowhere}
 use Rattle.model.specs.Judge.{Rewriting, rewriting}
 use Rattle.file_format.specs.File.{chartIn, fileOf}
 use Rattle.chart_lists.specs.Lists.{put}
-use Rattle.chart_lists.specs.Numbers.{refusedAs}
+use Rattle.refusal.specs.Refused.{refusedAs}
 use Rattle.rewriting.specs.declared.Rewritten.{Rewritten}
 use Rattle.rewriting.specs.declared.Rewritten.the-variants as rewritten
 
@@ -35,6 +35,6 @@ bufferAfter (result x) out = put (fileOf (x .chart)) out
 bufferAfter (refused n p) out = out
 
 -- what an answer of the code means
-abbrev pub meantRewritten : Rewritten → Answer Figures
-meantRewritten (rewritten.File u n) = result (record { used = u; length = n })
-meantRewritten (rewritten.Refused f) = refusedAs f
+abbrev pub rewrittenAs : Rewritten → Answer Figures
+rewrittenAs (rewritten.File u n) = result (record { used = u; length = n })
+rewrittenAs (rewritten.Refused f) = refusedAs f

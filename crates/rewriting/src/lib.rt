@@ -8,12 +8,12 @@ ghost use Rattle.model.specs.Chart.{Chart};
 ghost use Rattle.model.specs.Rewrite.{rewritten};
 ghost use Rattle.file_format.specs.File.{fileOf};
 ghost use Rattle.chart_lists.specs.Lists.{lists};
-ghost use Rattle.writer.specs.Handing.{bufferAfter as writtenAfter, meantWritten};
-ghost use Rattle.rewriting.specs.Rewriting.{figuresOf, rewriteInto, rewriteAnswer, bufferAfter, meantRewritten};
+ghost use Rattle.writer.specs.Handing.{bufferAfter as writtenAfter, writtenAs};
+ghost use Rattle.rewriting.specs.Rewriting.{figuresOf, rewriteInto, rewriteAnswer, bufferAfter, rewrittenAs};
 ghost use Rattle.rewriting.specs.Parts.{intoRoom, fittedInto, JudgedLists, ListsOfChart, OfJudgedChart, FittingNumbers, Renamable};
-use chart_lists::Numbers;
-use chart_lists::Refusal;
-use reader::Read;
+use chart_lists::Header;
+use chart_lists::Read;
+use refusal::Refusal;
 use writer::Written;
 
 // The timers used and the length of the new file, or a refusal.
@@ -24,13 +24,13 @@ pub enum Rewritten {
 
 // Renames the starts and the timers of tests and writes the rewritten chart's file.
 fn write_renamed<'a>(
-    m: Numbers,
+    m: Header,
     accepting: &'a [u16],
     sources: &'a [u16],
     targets: &'a [u16],
     events: &'a [u8],
     starts: &'a [u64],
-    counts: &'a [u8],
+    test_counts: &'a [u8],
     timers: &'a [u8],
     codes: &'a [u8],
     constants: &'a [u16],
@@ -38,17 +38,17 @@ fn write_renamed<'a>(
     numbers: &'a [u16],
     out: &mut [u8],
 ) -> Written
-    requires { ⌜ Renamable m (lists (now accepting) (now sources) (now targets) (now events) (now starts) (now counts) (now timers) (now codes) (now constants)) used (now numbers) ⌝ }
-    ensures answer { λ r. ⌜ ((c : Chart) (tested : List ℕ) → ListsOfChart c m (lists (now (accepting .entry)) (now (sources .entry)) (now (targets .entry)) (now (events .entry)) (now (starts .entry)) (now (counts .entry)) (now (timers .entry)) (now (codes .entry)) (now (constants .entry))) tested
-        → FittingNumbers c used (now (numbers .entry)) → meantWritten r ≡ then (intoRoom (length (now (out .entry))) (rewritten c)) (λ d. result (length (fileOf d)))) ⌝ }
-    ensures lent { λ _. ⌜ ((c : Chart) (tested : List ℕ) → ListsOfChart c m (lists (now (accepting .entry)) (now (sources .entry)) (now (targets .entry)) (now (events .entry)) (now (starts .entry)) (now (counts .entry)) (now (timers .entry)) (now (codes .entry)) (now (constants .entry))) tested
+    requires { ⌜ Renamable m (lists (now accepting) (now sources) (now targets) (now events) (now starts) (now «test_counts») (now timers) (now codes) (now constants)) used (now numbers) ⌝ }
+    ensures answer { λ r. ⌜ ((c : Chart) (tested : List ℕ) → ListsOfChart c m (lists (now (accepting .entry)) (now (sources .entry)) (now (targets .entry)) (now (events .entry)) (now (starts .entry)) (now («test_counts» .entry)) (now (timers .entry)) (now (codes .entry)) (now (constants .entry))) tested
+        → FittingNumbers c used (now (numbers .entry)) → writtenAs r ≡ then (intoRoom (length (now (out .entry))) (rewritten c)) (λ d. result (length (fileOf d)))) ⌝ }
+    ensures lent { λ _. ⌜ ((c : Chart) (tested : List ℕ) → ListsOfChart c m (lists (now (accepting .entry)) (now (sources .entry)) (now (targets .entry)) (now (events .entry)) (now (starts .entry)) (now («test_counts» .entry)) (now (timers .entry)) (now (codes .entry)) (now (constants .entry))) tested
         → FittingNumbers c used (now (numbers .entry)) → now (out .exit) ≡ writtenAfter (intoRoom (length (now (out .entry))) (rewritten c)) (now (out .entry))) ⌝ }
 {
     let mut new_starts = [0u64; 512];
     renaming::rename_starts(targets, starts, numbers, &mut new_starts);
     let mut new_timers = [0u8; 4096];
-    renaming::rename_tests(sources, counts, timers, numbers, &mut new_timers);
-    let board = Numbers {
+    renaming::rename_tests(sources, test_counts, timers, numbers, &mut new_timers);
+    let board = Header {
         locations: m.locations,
         initial: m.initial,
         timers: used,
@@ -62,7 +62,7 @@ fn write_renamed<'a>(
         targets,
         events,
         &new_starts,
-        counts,
+        test_counts,
         &new_timers,
         codes,
         constants,
@@ -72,13 +72,13 @@ fn write_renamed<'a>(
 
 // 11, then 20, then 21, else the rewritten chart's file.
 fn fit<'a>(
-    m: Numbers,
+    m: Header,
     accepting: &'a [u16],
     sources: &'a [u16],
     targets: &'a [u16],
     events: &'a [u8],
     starts: &'a [u64],
-    counts: &'a [u8],
+    test_counts: &'a [u8],
     timers: &'a [u8],
     codes: &'a [u8],
     constants: &'a [u16],
@@ -86,17 +86,14 @@ fn fit<'a>(
     k: u32,
     out: &mut [u8],
 ) -> Rewritten
-    requires { ⌜ OfJudgedChart m (lists (now accepting) (now sources) (now targets) (now events) (now starts) (now counts) (now timers) (now codes) (now constants)) (now tested) ⌝ }
-    ensures answer { λ r. ⌜ ((c : Chart) → ListsOfChart c m (lists (now (accepting .entry)) (now (sources .entry)) (now (targets .entry)) (now (events .entry)) (now (starts .entry)) (now (counts .entry)) (now (timers .entry)) (now (codes .entry)) (now (constants .entry))) (now (tested .entry))
-        → meantRewritten r ≡ then (fittedInto k (length (now (out .entry))) c) (λ x. result (figuresOf x))) ⌝ }
-    ensures lent { λ _. ⌜ ((c : Chart) → ListsOfChart c m (lists (now (accepting .entry)) (now (sources .entry)) (now (targets .entry)) (now (events .entry)) (now (starts .entry)) (now (counts .entry)) (now (timers .entry)) (now (codes .entry)) (now (constants .entry))) (now (tested .entry))
+    requires { ⌜ OfJudgedChart m (lists (now accepting) (now sources) (now targets) (now events) (now starts) (now «test_counts») (now timers) (now codes) (now constants)) (now tested) ⌝ }
+    ensures answer { λ r. ⌜ ((c : Chart) → ListsOfChart c m (lists (now (accepting .entry)) (now (sources .entry)) (now (targets .entry)) (now (events .entry)) (now (starts .entry)) (now («test_counts» .entry)) (now (timers .entry)) (now (codes .entry)) (now (constants .entry))) (now (tested .entry))
+        → rewrittenAs r ≡ then (fittedInto k (length (now (out .entry))) c) (λ x. result (figuresOf x))) ⌝ }
+    ensures lent { λ _. ⌜ ((c : Chart) → ListsOfChart c m (lists (now (accepting .entry)) (now (sources .entry)) (now (targets .entry)) (now (events .entry)) (now (starts .entry)) (now («test_counts» .entry)) (now (timers .entry)) (now (codes .entry)) (now (constants .entry))) (now (tested .entry))
         → now (out .exit) ≡ bufferAfter (fittedInto k (length (now (out .entry))) c) (now (out .entry))) ⌝ }
 {
     if k > 64 {
-        return Rewritten::Refused(Refusal {
-            number: 11,
-            place: 65535,
-        });
+        return Rewritten::Refused(refusal::LIMIT_TOO_LARGE);
     }
     let n = m.locations as usize;
     let mut live = [0u64; 256];
@@ -111,10 +108,7 @@ fn fit<'a>(
         &mut numbers[..64 * n],
     );
     if used > k {
-        return Rewritten::Refused(Refusal {
-            number: 20,
-            place: 65535,
-        });
+        return Rewritten::Refused(refusal::BOARD_TOO_SMALL);
     }
     let w = write_renamed(
         m,
@@ -123,7 +117,7 @@ fn fit<'a>(
         targets,
         events,
         starts,
-        counts,
+        test_counts,
         timers,
         codes,
         constants,
@@ -145,7 +139,7 @@ fn rewrite_judged<'a>(
     targets: &'a [u16],
     events: &'a [u8],
     starts: &'a [u64],
-    counts: &'a [u8],
+    test_counts: &'a [u8],
     timers: &'a [u8],
     codes: &'a [u8],
     constants: &'a [u16],
@@ -153,10 +147,10 @@ fn rewrite_judged<'a>(
     k: u32,
     out: &mut [u8],
 ) -> Rewritten
-    requires { ⌜ ((bs : List ℕ) × JudgedLists bs a (lists (now accepting) (now sources) (now targets) (now events) (now starts) (now counts) (now timers) (now codes) (now constants)) (now tested)) ⌝ }
-    ensures answer { λ r. ⌜ ((bs : List ℕ) → JudgedLists bs a (lists (now (accepting .entry)) (now (sources .entry)) (now (targets .entry)) (now (events .entry)) (now (starts .entry)) (now (counts .entry)) (now (timers .entry)) (now (codes .entry)) (now (constants .entry))) (now (tested .entry))
-        → meantRewritten r ≡ rewriteAnswer k (length (now (out .entry))) bs) ⌝ }
-    ensures lent { λ _. ⌜ ((bs : List ℕ) → JudgedLists bs a (lists (now (accepting .entry)) (now (sources .entry)) (now (targets .entry)) (now (events .entry)) (now (starts .entry)) (now (counts .entry)) (now (timers .entry)) (now (codes .entry)) (now (constants .entry))) (now (tested .entry))
+    requires { ⌜ ((bs : List ℕ) × JudgedLists bs a (lists (now accepting) (now sources) (now targets) (now events) (now starts) (now «test_counts») (now timers) (now codes) (now constants)) (now tested)) ⌝ }
+    ensures answer { λ r. ⌜ ((bs : List ℕ) → JudgedLists bs a (lists (now (accepting .entry)) (now (sources .entry)) (now (targets .entry)) (now (events .entry)) (now (starts .entry)) (now («test_counts» .entry)) (now (timers .entry)) (now (codes .entry)) (now (constants .entry))) (now (tested .entry))
+        → rewrittenAs r ≡ rewriteAnswer k (length (now (out .entry))) bs) ⌝ }
+    ensures lent { λ _. ⌜ ((bs : List ℕ) → JudgedLists bs a (lists (now (accepting .entry)) (now (sources .entry)) (now (targets .entry)) (now (events .entry)) (now (starts .entry)) (now («test_counts» .entry)) (now (timers .entry)) (now (codes .entry)) (now (constants .entry))) (now (tested .entry))
         → now (out .exit) ≡ bufferAfter (rewriteInto k (length (now (out .entry))) bs) (now (out .entry))) ⌝ }
 {
     match a {
@@ -170,7 +164,7 @@ fn rewrite_judged<'a>(
                 &targets[..t],
                 events,
                 &starts[..t],
-                &counts[..t],
+                &test_counts[..t],
                 timers,
                 codes,
                 constants,
@@ -184,7 +178,7 @@ fn rewrite_judged<'a>(
 
 // Judges 1 to 10, then 11 and 20, then 21, and only then writes the rewritten file over the front of the buffer.
 pub fn rewrite(file: &[u8], k: u32, out: &mut [u8]) -> Rewritten
-    ensures answer { λ r. ⌜ meantRewritten r ≡ rewriteAnswer k (length (now (out .entry))) (now (file .entry)) ⌝ }
+    ensures answer { λ r. ⌜ rewrittenAs r ≡ rewriteAnswer k (length (now (out .entry))) (now (file .entry)) ⌝ }
     ensures lent { λ _. ⌜ now (out .exit) ≡ bufferAfter (rewriteInto k (length (now (out .entry))) (now (file .entry))) (now (out .entry)) ⌝ }
 {
     let mut accepting = [0u16; 256];
@@ -192,7 +186,7 @@ pub fn rewrite(file: &[u8], k: u32, out: &mut [u8]) -> Rewritten
     let mut targets = [0u16; 512];
     let mut events = [0u8; 512];
     let mut starts = [0u64; 512];
-    let mut counts = [0u8; 512];
+    let mut test_counts = [0u8; 512];
     let mut timers = [0u8; 4096];
     let mut codes = [0u8; 4096];
     let mut constants = [0u16; 4096];
@@ -204,7 +198,7 @@ pub fn rewrite(file: &[u8], k: u32, out: &mut [u8]) -> Rewritten
         &mut targets,
         &mut events,
         &mut starts,
-        &mut counts,
+        &mut test_counts,
         &mut timers,
         &mut codes,
         &mut constants,
@@ -217,7 +211,7 @@ pub fn rewrite(file: &[u8], k: u32, out: &mut [u8]) -> Rewritten
         &targets,
         &events,
         &starts,
-        &counts,
+        &test_counts,
         &timers,
         &codes,
         &constants,

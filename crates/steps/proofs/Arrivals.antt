@@ -6,8 +6,8 @@ use Rattle.model.specs.Answer.{Answer, result, refused, then}
 use Rattle.model.specs.Chart.{Chart}
 use Rattle.model.specs.Run.{Counts, State as Run·State, Step, outcome, playerTime, accepts}
 use Rattle.model.specs.Player.{Arrival, arrival, answerOf}
-use Rattle.chart_lists.specs.declared.Refusal.{Refusal}
-use Rattle.chart_lists.specs.Numbers.{refusedAs}
+use Rattle.refusal.specs.declared.Refusal.{Refusal}
+use Rattle.refusal.specs.Refused.{refusedAs}
 use Rattle.steps.specs.declared.Stepped.{Stepped}
 use Rattle.steps.specs.declared.Verdict.{Verdict}
 use Rattle.steps.specs.declared.Verdict.the-variants as verdict

@@ -14,7 +14,7 @@ use Rattle.timer_set.specs.Members.{member, setOf}
 use Rattle.timer_set.proofs.Members.{member-setOf}
 use Rattle.model.specs.Answer.{Answer, refused, unless}
 use Rattle.model.specs.Chart.{Test, Transition, Chart}
-use Rattle.model.specs.Run.{Counts, State as Run·State, grown, restarted, allMet, after, attempt, playerTime}
+use Rattle.model.specs.Run.{Counts, State as Run·State, grown, restarted, allMet, after, enabled, attempt, playerTime, largestTime}
 use Rattle.model.proofs.Steps.{judgedStep, attempt-none, attempt-some}
 use Rattle.steps.specs.declared.State.{State}
 use Rattle.steps.specs.declared.Stepped.{Stepped}
@@ -25,7 +25,7 @@ use Rattle.steps.proofs.Charts.{TransitionAt, no-transition, transition
 use Rattle.steps.proofs.Counts.{count-started, count-grown, grown-agrees}
 
 -- a small state's counts can grow up to any time that is taken
-pub room : (x : State) (t : ℕ) → Small x → x .time ≤ t → t ≤ 16777215 → Room (x .counts) (t - x .time)
+pub room : (x : State) (t : ℕ) → Small x → x .time ≤ t → t ≤ largestTime → Room (x .counts) (t - x .time)
 room x t w h l = record { number = w .number; fits = λ j b. omega (arith, w .bound j b) }
 
 -- the state after a step
@@ -35,7 +35,7 @@ nextState q t v = record { location = q; time = t; counts = v }
 pub next-small : (x : State) (q t starts : ℕ) (v : List ℕ) → Small x → x .time ≤ t → MovedOn starts (t - x .time) (x .counts) v → Small (nextState q t v)
 next-small x q t starts v w h m = record { number = m .number; bound = λ j l. go j l (yes-or-no (member starts j)) }
   where
-    go : (j : ℕ) → j < 64 → (member starts j ≡ true) ⊎ (member starts j ≡ false) → getD v j 0 ≤ 16777215 + t
+    go : (j : ℕ) → j < 64 → (member starts j ≡ true) ⊎ (member starts j ≡ false) → getD v j 0 ≤ largestTime + t
     go j l (inl e) = omega (arith, m .count j l ∙ count-started starts _ j _ e)
     go j l (inr e) = omega (arith, m .count j l ∙ count-grown starts _ j _ e, w .bound j l)
 
@@ -74,17 +74,17 @@ module _ {c : Chart} {sources targets starts tests firsts timers codes constants
     abbrev at : TransitionAt c r i sources targets starts tests firsts timers codes constants
     at = transition-at lists i h .1
 
-    told-is : told ≡ unless (playerTime t) 15 n (judgedStep n r s t)
+    told-is : told ≡ unless (playerTime t) 15 n (judgedStep c n r s t)
     told-is = attempt-some playerTime c n s (stepAt i t) (at .nth)
 
-    pub attempt-15 : 16777215 < t → told ≡ refused 15 n
+    pub attempt-15 : largestTime < t → told ≡ refused 15 n
     unfolding playerTime
-    attempt-15 l = told-is ∙ rw (lt-leb t 16777215 l) refl
+    attempt-15 l = told-is ∙ rw (lt-leb t largestTime l) refl
 
-    module _ (l : t ≤ 16777215) where
-      allowed : told ≡ judgedStep n r s t
+    module _ (l : t ≤ largestTime) where
+      allowed : told ≡ judgedStep c n r s t
       unfolding playerTime
-      allowed = told-is ∙ rw (le-leb t 16777215 l) refl
+      allowed = told-is ∙ rw (le-leb t largestTime l) refl
 
       pub attempt-22 : (getD sources i 0 ≡ x .location → ⊥) → told ≡ refused 22 n
       attempt-22 d = allowed ∙ rw (ne-eqb (r .source) (s .location) (λ e. d (at .source ∙ e ∙ sym (w .location)))) refl
@@ -101,7 +101,8 @@ module _ {c : Chart} {sources targets starts tests firsts timers codes constants
           later : leb (s .time) t ≡ true
           later = le-leb (s .time) t (omega (arith, w .time))
 
-          passed : allMet (r .tests) (grown (t - s .time) (s .counts)) ≡ m
+          passed : enabled c r (grown (t - s .time) (s .counts)) ≡ m
+          unfolding enabled
           passed = sym (decided (r .tests) (at .from) (at .number) (grown (t - x .time) (s .counts)) (grown-agrees (t - x .time) (x .counts) g (s .counts) (w .counts) growing)
               ∙ ap (λ (k : ℕ). allMet (r .tests) (grown (t - k) (s .counts))) (w .time))
 

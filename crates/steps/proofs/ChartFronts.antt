@@ -11,7 +11,7 @@ use Rattle.lists.proofs.Bools.{lt-or-le}
 use Rattle.lists.specs.Lists.{sumOf}
 use Rattle.model.specs.Chart.{Test, Transition, Chart}
 use Rattle.model.specs.Valid.{ValidTransition}
-use Rattle.model.specs.Run.{begin}
+use Rattle.model.specs.Run.{begin, largestTime}
 use Rattle.chart_lists.specs.Lists.{allTests, listsOf}
 use Rattle.steps.specs.InLists.{InLists}
 use Rattle.steps.specs.Stepping.{Shows, Small}
@@ -113,7 +113,7 @@ module _ {counts all : List ℕ} (s : Starting counts all) where
   pub starting-small : Allowed counts → (q : ℕ) → Small (nextState q 0 all)
   starting-small a q = record { number = s .number; bound = λ j h. rw (s .same j) (at j (lt-or-le j (length counts))) }
     where
-      at : (j : ℕ) → (j < length counts) ⊎ (length counts ≤ j) → getD counts j 0 ≤ 16777215
+      at : (j : ℕ) → (j < length counts) ⊎ (length counts ≤ j) → getD counts j 0 ≤ largestTime
       at j (inl l) = a .small j l
       at j (inr l) = omega (arith, List·getD-eq-default counts 0 l)
 

@@ -10,7 +10,7 @@ use Rattle.model.specs.Answer.{Answer, result, refused, then}
 use Rattle.model.specs.Chart.{Chart}
 use Rattle.model.specs.Run.{State as Run·State, attempt, steps, playerTime}
 use Rattle.model.specs.Player.{stepsOf}
-use Rattle.chart_lists.specs.declared.Refusal.{Refusal}
+use Rattle.refusal.specs.declared.Refusal.{Refusal}
 use Rattle.steps.specs.declared.State.{State}
 use Rattle.steps.specs.declared.Stepped.{Stepped}
 use Rattle.steps.specs.declared.Verdict.{Verdict}

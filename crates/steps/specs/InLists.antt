@@ -36,7 +36,7 @@ pub record InLists (c : Chart) (sources targets starts tests firsts timers codes
   pub sources-are : sources ≡ listsOf c .sources
   pub targets-are : targets ≡ listsOf c .targets
   pub starts-are : starts ≡ listsOf c .starts
-  pub tests-are : tests ≡ listsOf c .counts
+  pub tests-are : tests ≡ listsOf c .test-counts
   pub firsts-length : length firsts ≡ length (c .transitions)
   pub firsts-are : (i : ℕ) → i < length (c .transitions) → getD firsts i 0 ≡ length (allTests (take i (c .transitions)))
   pub timers-are : timers ≡ listsOf c .timers

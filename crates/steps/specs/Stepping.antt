@@ -6,7 +6,7 @@ use Prim.Native.Nat.{ℕ, _+_, _≤_, _<_}
 use lib.ListN.{length, getD}
 use Rattle.timer_set.specs.Members.{member}
 use Rattle.model.specs.Answer.{Answer, result, refused}
-use Rattle.model.specs.Run.{Counts, Step, State as Run·State}
+use Rattle.model.specs.Run.{Counts, Step, State as Run·State, largestTime}
 use Rattle.steps.specs.declared.State.{State}
 use Rattle.steps.specs.declared.Verdict.the-variants as verdict
 use Rattle.steps.specs.declared.Stepped.{Stepped}
@@ -24,7 +24,7 @@ pub record Shows (x : State) (s : Run·State) : Type 0 where
 -- 64 counts, each at most the largest starting count and the time that has passed since
 pub record Small (x : State) : Type 0 where
   pub number : length (x .counts) ≡ 64
-  pub bound : (j : ℕ) → j < 64 → getD (x .counts) j 0 ≤ 16777215 + x .time
+  pub bound : (j : ℕ) → j < 64 → getD (x .counts) j 0 ≤ largestTime + x .time
 
 -- 64 counts, none of which passes 32 binary digits when it grows by d
 pub record Room (counts : List ℕ) (d : ℕ) : Type 0 where

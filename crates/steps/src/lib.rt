@@ -12,8 +12,8 @@ ghost use Rattle.model.specs.Player.{tooLarge, stepsOf};
 ghost use Rattle.steps.specs.InLists.{InLists, SomeChart, TestsFrom, SomeTests};
 ghost use Rattle.steps.specs.Stepping.{Shows, Agree, Small, Room, MovedOn, Answered, stepAt, refusedAt};
 ghost use Rattle.steps.specs.Fronts.{Fronts, SomeFronts, Allowed, Starting};
-use chart_lists::Refusal;
 use comparison::Decoded;
+use refusal::Refusal;
 use timer_set::TimerSet;
 
 // Where the player is: the location, the time of the last step, and the counts of all 64 timers at that time.

@@ -1,4 +1,4 @@
-// Numbers and lists of the input. Every function is total: a byte past the end counts as 0, and no position is above 1,000,000.
+// Header and lists of the input. Every function is total: a byte past the end counts as 0, and no position is above 1,000,000.
 ghost use Prim.Native.Nat.{_≤_};
 
 pub fn least(a: usize, b: usize) -> usize

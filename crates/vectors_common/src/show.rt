@@ -1,7 +1,7 @@
 // Parts of the lines that are printed. Of long lists the first entries and the last are shown, of long files the last 8 bytes.
 use crate::input::plus;
 use crate::lent::entry8;
-use chart_lists::Refusal;
+use refusal::Refusal;
 
 pub fn text(s: &[u8]) {
     io::write_all(1, s);

@@ -1,7 +1,7 @@
 // Lists of the input, and the fronts of lists to lend. Every function is total.
 ghost use mathlib.Core.Path.{_≡_};
 ghost use lib.ListN.{length};
-use chart_lists::Numbers;
+use chart_lists::Header;
 use vectors_common::input::byte;
 use vectors_common::input::fill64;
 use vectors_common::input::pair;
@@ -25,8 +25,8 @@ pub fn lent64<'a>(list: &'a mut [u64], s: &[u8], at: usize, k: usize) -> &'a mut
     &mut list[0..n]
 }
 
-pub fn numbers(s: &[u8], at: usize) -> Numbers {
-    Numbers {
+pub fn numbers(s: &[u8], at: usize) -> Header {
+    Header {
         locations: pair(s, at),
         initial: pair(s, plus(at, 2)),
         timers: byte(s, plus(at, 4)),

@@ -15,11 +15,11 @@ pub fn entry16(list: &[u16], i: usize) -> u64 {
 }
 
 // The sum of the first n entries.
-pub fn total(counts: &[u8], n: usize) -> usize {
+pub fn total(test_counts: &[u8], n: usize) -> usize {
     let mut sum = 0;
     let mut i = 0;
     while i < n {
-        sum = plus(sum, entry8(counts, i) as usize);
+        sum = plus(sum, entry8(test_counts, i) as usize);
         i += 1;
     }
     sum
@@ -36,7 +36,7 @@ pub fn changed(
     targets: &[u16],
     events: &[u8],
     starts: &[u64],
-    counts: &[u8],
+    test_counts: &[u8],
     timers: &[u8],
     codes: &[u8],
     constants: &[u16],
@@ -44,7 +44,7 @@ pub fn changed(
     let ends = plus(changed16(sources, n), changed16(targets, n));
     let heads = plus(
         plus(changed8(events, n), changed64(starts, n)),
-        changed8(counts, n),
+        changed8(test_counts, n),
     );
     let tests = plus(
         plus(changed8(timers, g), changed8(codes, g)),

@@ -7,7 +7,7 @@ mod input;
 mod lent;
 mod show;
 
-use chart_lists::Numbers;
+use chart_lists::Header;
 use vectors_common::input::byte;
 use vectors_common::input::count;
 use vectors_common::input::least;
@@ -62,8 +62,8 @@ fn run_read(input: &[u8], at: usize) -> usize {
     let d = input::lent8(&mut events, input, at, 3);
     let mut starts = [12297829382473034410u64; 4096];
     let e = input::lent64(&mut starts, input, at, 4);
-    let mut counts = [170u8; 4096];
-    let f = input::lent8(&mut counts, input, at, 5);
+    let mut test_counts = [170u8; 4096];
+    let f = input::lent8(&mut test_counts, input, at, 5);
     let mut timers = [170u8; 4096];
     let g = input::lent8(&mut timers, input, at, 6);
     let mut codes = [170u8; 4096];
@@ -80,7 +80,7 @@ fn run_read(input: &[u8], at: usize) -> usize {
         &targets,
         &events,
         &starts,
-        &counts,
+        &test_counts,
         &timers,
         &codes,
         &constants,
@@ -90,19 +90,19 @@ fn run_read(input: &[u8], at: usize) -> usize {
 
 // Shows a refusal, or a chart and the file that is written of it.
 fn show_read<'a>(
-    answer: reader::Read,
+    answer: chart_lists::Read,
     accepting: &'a [u16; 4096],
     sources: &'a [u16; 4096],
     targets: &'a [u16; 4096],
     events: &'a [u8; 4096],
     starts: &'a [u64; 4096],
-    counts: &'a [u8; 4096],
+    test_counts: &'a [u8; 4096],
     timers: &'a [u8; 4096],
     codes: &'a [u8; 4096],
     constants: &'a [u16; 4096],
 ) {
     match answer {
-        reader::Read::Refused(r) => {
+        chart_lists::Read::Refused(r) => {
             let changed = lent::changed(
                 0,
                 0,
@@ -112,14 +112,14 @@ fn show_read<'a>(
                 targets,
                 events,
                 starts,
-                counts,
+                test_counts,
                 timers,
                 codes,
                 constants,
             );
             refusal(r, changed);
         }
-        reader::Read::Chart(numbers) => {
+        chart_lists::Read::Chart(numbers) => {
             show_chart(
                 numbers,
                 accepting,
@@ -127,7 +127,7 @@ fn show_read<'a>(
                 targets,
                 events,
                 starts,
-                counts,
+                test_counts,
                 timers,
                 codes,
                 constants,
@@ -140,7 +140,7 @@ fn show_read<'a>(
                 targets,
                 events,
                 starts,
-                counts,
+                test_counts,
                 timers,
                 codes,
                 constants,
@@ -150,20 +150,20 @@ fn show_read<'a>(
 }
 
 fn show_chart(
-    numbers: Numbers,
+    numbers: Header,
     accepting: &[u16],
     sources: &[u16],
     targets: &[u16],
     events: &[u8],
     starts: &[u64],
-    counts: &[u8],
+    test_counts: &[u8],
     timers: &[u8],
     codes: &[u8],
     constants: &[u16],
 ) {
     let a = size16(numbers.accepting);
     let n = size16(numbers.transitions);
-    let g = lent::total(counts, n);
+    let g = lent::total(test_counts, n);
     show::numbers(numbers, accepting);
     item(
         b" beyond ",
@@ -176,7 +176,7 @@ fn show_chart(
             targets,
             events,
             starts,
-            counts,
+            test_counts,
             timers,
             codes,
             constants,
@@ -189,7 +189,7 @@ fn show_chart(
         targets,
         events,
         starts,
-        counts,
+        test_counts,
         timers,
         codes,
         constants,
@@ -208,8 +208,8 @@ fn run_write(input: &[u8], at: usize) -> usize {
     let d = input::front8(&events, input, at, 3);
     let starts = input::list64(input, at, 4);
     let e = input::front64(&starts, input, at, 4);
-    let counts = input::list8(input, at, 5);
-    let f = input::front8(&counts, input, at, 5);
+    let test_counts = input::list8(input, at, 5);
+    let f = input::front8(&test_counts, input, at, 5);
     let timers = input::list8(input, at, 6);
     let g = input::front8(&timers, input, at, 6);
     let codes = input::list8(input, at, 7);
@@ -236,13 +236,13 @@ fn run_write(input: &[u8], at: usize) -> usize {
 // Writes a chart into a lent buffer of n bytes.
 fn write_to<'a>(
     n: usize,
-    numbers: Numbers,
+    numbers: Header,
     accepting: &'a [u16],
     sources: &'a [u16],
     targets: &'a [u16],
     events: &'a [u8],
     starts: &'a [u64],
-    counts: &'a [u8],
+    test_counts: &'a [u8],
     timers: &'a [u8],
     codes: &'a [u8],
     constants: &'a [u16],
@@ -256,7 +256,7 @@ fn write_to<'a>(
         targets,
         events,
         starts,
-        counts,
+        test_counts,
         timers,
         codes,
         constants,
@@ -266,13 +266,13 @@ fn write_to<'a>(
 
 // Writes a chart into lent bytes, and shows what comes back.
 fn write_lent<'a>(
-    numbers: Numbers,
+    numbers: Header,
     accepting: &'a [u16],
     sources: &'a [u16],
     targets: &'a [u16],
     events: &'a [u8],
     starts: &'a [u64],
-    counts: &'a [u8],
+    test_counts: &'a [u8],
     timers: &'a [u8],
     codes: &'a [u8],
     constants: &'a [u16],
@@ -285,7 +285,7 @@ fn write_lent<'a>(
         targets,
         events,
         starts,
-        counts,
+        test_counts,
         timers,
         codes,
         constants,

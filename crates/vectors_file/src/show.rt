@@ -1,6 +1,6 @@
 // The lines that are printed. Of long lists only the entries 0 to 3 and the last are shown, of long files the last 8 bytes.
 use crate::lent::entry16;
-use chart_lists::Numbers;
+use chart_lists::Header;
 use vectors_common::input::plus;
 use vectors_common::input::size16;
 use vectors_common::lent::entry8;
@@ -11,7 +11,7 @@ use vectors_common::show::is_shown;
 use vectors_common::show::item;
 use vectors_common::show::text;
 
-pub fn numbers(numbers: Numbers, accepting: &[u16]) {
+pub fn numbers(numbers: Header, accepting: &[u16]) {
     item(b"locations ", numbers.locations as u64);
     item(b" initial ", numbers.initial as u64);
     item(b" timers ", numbers.timers as u64);
@@ -35,7 +35,7 @@ pub fn transitions(
     targets: &[u16],
     events: &[u8],
     starts: &[u64],
-    counts: &[u8],
+    test_counts: &[u8],
     timers: &[u8],
     codes: &[u8],
     constants: &[u16],
@@ -43,7 +43,7 @@ pub fn transitions(
     let mut at = 0;
     let mut i = 0;
     while i < n {
-        let g = entry8(counts, i) as usize;
+        let g = entry8(test_counts, i) as usize;
         if is_shown(i, n, 4) {
             head(i, sources, targets, events, starts);
             tests(at, g, timers, codes, constants);

@@ -3,8 +3,8 @@ use mathlib.Core.Path.{_≡_, refl, sym, ap, _∙_}
 use mathlib.Core.Bool.{Bool, true, false}
 use Prim.Native.Nat.{ℕ}
 use Rattle.model.specs.Answer.{Answer, result, refused, then, unless}
-use Rattle.chart_lists.specs.declared.Refusal.{Refusal}
-use Rattle.chart_lists.specs.Numbers.{refusedAs}
+use Rattle.refusal.specs.declared.Refusal.{Refusal}
+use Rattle.refusal.specs.Refused.{refusedAs}
 use Rattle.file_format.proofs.Answers.{result-refused}
 use Rattle.writer.specs.declared.Entry.{Entry}
 use Rattle.writer.specs.declared.Entry.the-variants as entry
@@ -12,9 +12,9 @@ use Rattle.writer.specs.declared.Record.{Record}
 use Rattle.writer.specs.declared.Record.the-variants as recorded
 use Rattle.writer.specs.declared.Written.{Written}
 use Rattle.writer.specs.declared.Written.the-variants as written
-use Rattle.writer.specs.Handing.{meantWritten}
+use Rattle.writer.specs.Handing.{writtenAs}
 use Rattle.writer.specs.Parts.{Sizes}
-use Rattle.writer.specs.Meaning.{meant, meantRecord, refusalOf, recordRefusal}
+use Rattle.writer.specs.Meaning.{entryAs, sizesAs, refusalOf, recordRefusal}
 
 pub then-id : {A : Type 0} (x : Answer A) → then x (λ a. result a) ≡ x
 then-id (result a) = refl
@@ -43,23 +43,23 @@ module _ {A B : Type 0} where
   kept-refused (refused n p) f e = cc
 
 -- what a definition gives, by the code's answer
-pub found : {a : Entry} {x : ℕ} {s : Answer ℕ} → a ≡ entry.Value x → meant a ≡ s → s ≡ result x
-found e h = sym h ∙ ap meant e
+pub found : {a : Entry} {x : ℕ} {s : Answer ℕ} → a ≡ entry.Value x → entryAs a ≡ s → s ≡ result x
+found e h = sym h ∙ ap entryAs e
 
-pub refused-by : {a : Entry} {f : Refusal} {s : Answer ℕ} → a ≡ entry.Refused f → meant a ≡ s → s ≡ refusedAs f
-refused-by e h = sym h ∙ ap meant e
+pub refused-by : {a : Entry} {f : Refusal} {s : Answer ℕ} → a ≡ entry.Refused f → entryAs a ≡ s → s ≡ refusedAs f
+refused-by e h = sym h ∙ ap entryAs e
 
-pub found-record : {a : Record} {s g : ℕ} {x : Answer Sizes} → a ≡ recorded.Found s g → meantRecord a ≡ x → x ≡ result (record { starts = s; tests = g })
-found-record e h = sym h ∙ ap meantRecord e
+pub found-record : {a : Record} {s g : ℕ} {x : Answer Sizes} → a ≡ recorded.Found s g → sizesAs a ≡ x → x ≡ result (record { starts = s; tests = g })
+found-record e h = sym h ∙ ap sizesAs e
 
-pub refused-record-by : {a : Record} {f : Refusal} {x : Answer Sizes} → a ≡ recorded.Refused f → meantRecord a ≡ x → x ≡ refusedAs f
-refused-record-by e h = sym h ∙ ap meantRecord e
+pub refused-record-by : {a : Record} {f : Refusal} {x : Answer Sizes} → a ≡ recorded.Refused f → sizesAs a ≡ x → x ≡ refusedAs f
+refused-record-by e h = sym h ∙ ap sizesAs e
 
-pub found-written : {a : Written} {n : ℕ} {s : Answer ℕ} → a ≡ written.File n → meantWritten a ≡ s → s ≡ result n
-found-written e h = sym h ∙ ap meantWritten e
+pub found-written : {a : Written} {n : ℕ} {s : Answer ℕ} → a ≡ written.File n → writtenAs a ≡ s → s ≡ result n
+found-written e h = sym h ∙ ap writtenAs e
 
-pub refused-written-by : {a : Written} {f : Refusal} {s : Answer ℕ} → a ≡ written.Refused f → meantWritten a ≡ s → s ≡ refusedAs f
-refused-written-by e h = sym h ∙ ap meantWritten e
+pub refused-written-by : {a : Written} {f : Refusal} {s : Answer ℕ} → a ≡ written.Refused f → writtenAs a ≡ s → s ≡ refusedAs f
+refused-written-by e h = sym h ∙ ap writtenAs e
 
 -- the refusal that is handed on
 pub refused-of : {A : Type 0} {a : Entry} {f g : Refusal} → a ≡ entry.Refused f → g ≡ refusalOf a → refusedAs {A = A} g ≡ refusedAs f

@@ -8,12 +8,12 @@ use Rattle.model.specs.Answer.{result, nowhere}
 use Rattle.model.specs.Chart.{Chart}
 use Rattle.file_format.proofs.Answers.{then-result, unless-result}
 use Rattle.chart_lists.specs.Lists.{Lists}
-use Rattle.chart_lists.specs.declared.Numbers.{Numbers}
-use Rattle.writer.specs.Handing.{handedAccepting, handedTransition, handedTransitions, handed}
+use Rattle.chart_lists.specs.declared.Header.{Header}
+use Rattle.writer.specs.Handing.{acceptingFrom, transitionFrom, transitionsFrom, chartFrom}
 use Rattle.writer.proofs.Items.{items-length, items-each, Each}
 use Rattle.writer.proofs.Parts.{acceptingItem, accepting-items, transitions-items}
 
-pub record ChartOf (m : Numbers) (l : Lists) (c : Chart) : Type 0 where
+pub record ChartOf (m : Header) (l : Lists) (c : Chart) : Type 0 where
   pub locations : c .locations ≡ m .locations
   pub initial : c .initial ≡ m .initial
   pub timers : c .timers ≡ m .timers
@@ -21,21 +21,21 @@ pub record ChartOf (m : Numbers) (l : Lists) (c : Chart) : Type 0 where
   pub some-location : 1 ≤ m .locations
   pub initial-below : m .initial < m .locations
   pub few-timers : m .timers < 65
-  pub accepting : handedAccepting (m .locations) (l .accepting) 0 0 (m .accepting) ≡ result (c .accepting)
+  pub accepting : acceptingFrom (m .locations) (l .accepting) 0 0 (m .accepting) ≡ result (c .accepting)
   pub few-transitions : m .transitions < 513
-  pub transitions : handedTransitions l (m .locations) (m .timers) 0 0 (m .transitions) ≡ result (c .transitions)
+  pub transitions : transitionsFrom l (m .locations) (m .timers) 0 0 (m .transitions) ≡ result (c .transitions)
 
-module _ (m : Numbers) (l : Lists) (c : Chart) where
-  pub chart-of : handed m l ≡ result c → ChartOf m l c
-  unfolding handed
+module _ (m : Header) (l : Lists) (c : Chart) where
+  pub chart-of : chartFrom m l ≡ result c → ChartOf m l c
+  unfolding chartFrom
   chart-of e =
       let a = unless-result (ltb (m .locations) 257) 4 nowhere _ e in
       let b = unless-result (leb 1 (m .locations)) 4 nowhere _ (a .1) in
       let d = unless-result (ltb (m .initial) (m .locations)) 5 nowhere _ (b .1) in
       let f = unless-result (ltb (m .timers) 65) 4 nowhere _ (d .1) in
-      let x = then-result (handedAccepting (m .locations) (l .accepting) 0 0 (m .accepting)) _ (f .1) in
+      let x = then-result (acceptingFrom (m .locations) (l .accepting) 0 0 (m .accepting)) _ (f .1) in
       let g = unless-result (ltb (m .transitions) 513) 4 nowhere _ (x .2) in
-      let y = then-result (handedTransitions l (m .locations) (m .timers) 0 0 (m .transitions)) _ (g .1) in
+      let y = then-result (transitionsFrom l (m .locations) (m .timers) 0 0 (m .transitions)) _ (g .1) in
       let same : record { locations = m .locations; initial = m .initial; timers = m .timers; accepting = x .0; transitions = y .0 } ≡ c = cc in
       subst (λ (c : Chart). ChartOf m l c) same (record {
         locations = refl;
@@ -50,8 +50,8 @@ module _ (m : Numbers) (l : Lists) (c : Chart) where
         transitions = y .1;
       })
 
-  pub of-chart : ChartOf m l c → handed m l ≡ result c
-  unfolding handed
+  pub of-chart : ChartOf m l c → chartFrom m l ≡ result c
+  unfolding chartFrom
   of-chart h =
       rw (
         lt-ltb (m .locations) 257 (h .few-locations),
@@ -75,10 +75,10 @@ module _ (m : Numbers) (l : Lists) (c : Chart) where
         items-length (acceptingItem (m .locations) (l .accepting)) (λ lo x. suc x) 0 0 (m .accepting) (c .accepting)
         (sym (accepting-items (m .locations) (l .accepting) 0 0 (m .accepting)) ∙ h .accepting)
 
-    pub transitions-each : Each (handedTransition l (m .locations) (m .timers)) (λ k r. k + length (r .tests)) 0 0 (c .transitions)
+    pub transitions-each : Each (transitionFrom l (m .locations) (m .timers)) (λ k r. k + length (r .tests)) 0 0 (c .transitions)
     transitions-each = items-each _ _ 0 0 (m .transitions) (c .transitions) (sym (transitions-items l (m .locations) (m .timers) 0 0 (m .transitions)) ∙ h .transitions)
 
     pub transitions-length : length (c .transitions) ≡ m .transitions
     transitions-length =
-        items-length (handedTransition l (m .locations) (m .timers)) (λ k r. k + length (r .tests)) 0 0 (m .transitions) (c .transitions)
+        items-length (transitionFrom l (m .locations) (m .timers)) (λ k r. k + length (r .tests)) 0 0 (m .transitions) (c .transitions)
         (sym (transitions-items l (m .locations) (m .timers) 0 0 (m .transitions)) ∙ h .transitions)

@@ -14,9 +14,9 @@ use Rattle.file_format.specs.File.{writeFile, fileOf}
 use Rattle.file_format.specs.Lengths.{total, transitionLength}
 use Rattle.file_format.proofs.Lengths.{length-digits, length-transition, length-all}
 use Rattle.chart_lists.specs.Lists.{Lists}
-use Rattle.chart_lists.specs.declared.Numbers.{Numbers}
-use Rattle.writer.specs.Handing.{handedTransitions, handed}
-use Rattle.writer.specs.Parts.{passTransitions}
+use Rattle.chart_lists.specs.declared.Header.{Header}
+use Rattle.writer.specs.Handing.{transitionsFrom, chartFrom}
+use Rattle.writer.specs.Parts.{checkTransitions}
 use Rattle.writer.specs.Bytes.{numberBytes, frontBytes, Room, bytesOf, records, Judged}
 use Rattle.writer.proofs.Entries.{nth-is}
 use Rattle.writer.proofs.Items.{each-nth, each-room}
@@ -27,14 +27,14 @@ use Rattle.writer.proofs.ChartOf.{ChartOf, chart-of, of-chart, acceptin
 use Rattle.writer.proofs.Writes.{gather-all, gather-length}
 
 -- the parts of a file one after another
-written-parts : (c : Chart) (n : ℕ) (m : Numbers) → n ≡ length (writeBody 2 c) → m .locations ≡ c .locations → m .initial ≡ c .initial → m .timers ≡ c .timers
+written-parts : (c : Chart) (n : ℕ) (m : Header) → n ≡ length (writeBody 2 c) → m .locations ≡ c .locations → m .initial ≡ c .initial → m .timers ≡ c .timers
     → m .accepting ≡ length (c .accepting) → m .transitions ≡ length (c .transitions)
     → ((frontBytes n m ++ writeAll (digits 2) (c .accepting)) ++ digits 2 (m .transitions)) ++ records (c .transitions) ≡ fileOf c
 unfolding frontBytes fileOf writeFile writeBody writeHeader records
 written-parts c n m e a b d f g = rw (e, a, b, d, f, g) (simp append-assoc)
 
 -- how long they are
-module _ (n : ℕ) (m : Numbers) where
+module _ (n : ℕ) (m : Header) where
   pub length-front : 12 ≡ length (frontBytes n m)
   unfolding frontBytes
   length-front = simp (length-append, length-digits)
@@ -46,7 +46,7 @@ module _ (n : ℕ) (m : Numbers) where
   pub length-counted : (l : List ℕ) → 12 + 2 * m .accepting + 2 ≡ length ((frontBytes n m ++ numberBytes 2 l (m .accepting)) ++ digits 2 (m .transitions))
   length-counted l = simp (length-append, length-digits) (omega (arith, length-accepted l, length-append (frontBytes n m) (numberBytes 2 l (m .accepting))))
 
-module _ (m : Numbers) (l : Lists) (c : Chart) (h : ChartOf m l c) where
+module _ (m : Header) (l : Lists) (c : Chart) (h : ChartOf m l c) where
   -- ---- accepting locations
 
   pub accepting-bytes : numberBytes 2 (l .accepting) (m .accepting) ≡ writeAll (digits 2) (c .accepting)
@@ -71,7 +71,7 @@ module _ (m : Numbers) (l : Lists) (c : Chart) (h : ChartOf m l c) where
   -- ---- transitions
 
   abbrev handedOver : Answer (List Transition)
-  handedOver = handedTransitions (transitionLists l) (m .locations) (m .timers) 0 0 (m .transitions)
+  handedOver = transitionsFrom (transitionLists l) (m .locations) (m .timers) 0 0 (m .transitions)
 
   transitions-are : handedOver ≡ result (c .transitions)
   transitions-are = sym (transitions-only l (m .locations) (m .timers) (m .transitions)) ∙ h .transitions
@@ -87,7 +87,7 @@ module _ (m : Numbers) (l : Lists) (c : Chart) (h : ChartOf m l c) where
   records-room room r = record { item = c .transitions; is = transitions-are; fits = r }
 
   pub records-most : length (records (c .transitions)) ≤ 53760
-  unfolding passTransitions
+  unfolding checkTransitions
   records-most =
       omega (
         arith,
@@ -104,22 +104,22 @@ module _ (m : Numbers) (l : Lists) (c : Chart) (h : ChartOf m l c) where
 
   pub file-parts : {n : ℕ} → n ≡ length (fileOf c)
       → ((frontBytes (n - 5) m ++ numberBytes 2 (l .accepting) (m .accepting)) ++ digits 2 (m .transitions)) ++ bytesOf records handedOver
-      ≡ bytesOf fileOf (handed m l)
+      ≡ bytesOf fileOf (chartFrom m l)
   file-parts e =
       rw (e, accepting-bytes, transitions-are, of-chart m l c h)
       (written-parts c _ m body-size (sym (h .locations)) (sym (h .initial)) (sym (h .timers)) (sym (accepting-length m l c h)) (sym (transitions-length m l c h)))
 
 -- ---- what the writer of the file knows
 
-pub record FileRoom (m : Numbers) (l : Lists) (n room : ℕ) : Type 0 where
+pub record FileRoom (m : Header) (l : Lists) (n room : ℕ) : Type 0 where
   pub rest : ℕ
   pub size : n ≡ 14 + 2 * m .accepting + rest
   pub few : rest ≤ 53760
   pub fits : n ≤ room
   pub accepting : m .accepting ≤ length (l .accepting)
-  pub records-fit : (room′ : ℕ) → rest ≤ room′ → Room records (handedTransitions (transitionLists l) (m .locations) (m .timers) 0 0 (m .transitions)) room′
+  pub records-fit : (room′ : ℕ) → rest ≤ room′ → Room records (transitionsFrom (transitionLists l) (m .locations) (m .timers) 0 0 (m .transitions)) room′
 
-module _ (m : Numbers) (l : Lists) (n room : ℕ) (j : Judged m l n room) where
+module _ (m : Header) (l : Lists) (n room : ℕ) (j : Judged m l n room) where
   judged-chart : ChartOf m l (j .chart)
   judged-chart = chart-of m l (j .chart) (j .is)
 
@@ -134,6 +134,6 @@ module _ (m : Numbers) (l : Lists) (n room : ℕ) (j : Judged m l n room) where
   }
 
   pub judged-parts : ((frontBytes (n - 5) m ++ numberBytes 2 (l .accepting) (m .accepting)) ++ digits 2 (m .transitions))
-      ++ bytesOf records (handedTransitions (transitionLists l) (m .locations) (m .timers) 0 0 (m .transitions))
-      ≡ bytesOf fileOf (handed m l)
+      ++ bytesOf records (transitionsFrom (transitionLists l) (m .locations) (m .timers) 0 0 (m .transitions))
+      ≡ bytesOf fileOf (chartFrom m l)
   judged-parts = file-parts m l (j .chart) judged-chart (j .size)

@@ -15,7 +15,7 @@ use Rattle.model.specs.Answer.{result, nowhere}
 use Rattle.model.specs.Chart.{Test, Transition}
 use Rattle.file_format.proofs.Answers.{result-refused, then-result, unless-result}
 use Rattle.chart_lists.specs.Lists.{Lists}
-use Rattle.writer.specs.Handing.{present, entryAt, entryBelow, known, handedTest, handedTests, beyond, handedTransition}
+use Rattle.writer.specs.Handing.{present, entryAt, entryBelow, known, testFrom, testsFrom, beyond, transitionFrom}
 use Rattle.writer.proofs.Items.{items-length}
 use Rattle.writer.proofs.Parts.{acceptingItem, tests-items}
 
@@ -76,8 +76,8 @@ pub record TestOf (l : Lists) (timers k : ℕ) (t : Test) : Type 0 where
   pub constant : getElem? (l .constants) k ≡ some (t .constant)
 
 module _ (l : Lists) (timers i k : ℕ) (t : Test) where
-  pub test-of : handedTest l timers i k ≡ result t → TestOf l timers k t
-  unfolding handedTest
+  pub test-of : testFrom l timers i k ≡ result t → TestOf l timers k t
+  unfolding testFrom
   test-of e =
       let a = then-result (entryBelow (l .timers) k timers 6 i) _ e in
       let b = then-result (entryAt (l .codes) k) _ (a .2) in
@@ -93,8 +93,8 @@ module _ (l : Lists) (timers i k : ℕ) (t : Test) where
         constant = entry-some (l .constants) k (v .1);
       })
 
-  pub of-test : TestOf l timers k t → handedTest l timers i k ≡ result t
-  unfolding handedTest
+  pub of-test : TestOf l timers k t → testFrom l timers i k ≡ result t
+  unfolding testFrom
   of-test h =
       rw (
         some-below (l .timers) k timers 6 i (h .timer) (h .timer-below),
@@ -115,25 +115,25 @@ pub record TransitionOf (l : Lists) (locations timers i k : ℕ) (r : Transition
   pub starts : getElem? (l .starts) i ≡ some word
   pub starts-are : r .starts ≡ members word
   pub starts-below : beyond timers word ≡ false
-  pub count : getElem? (l .counts) i ≡ some (length (r .tests))
+  pub count : getElem? (l .test-counts) i ≡ some (length (r .tests))
   pub few-tests : length (r .tests) ≤ 8
-  pub tests : handedTests l timers i k (length (r .tests)) ≡ result (r .tests)
+  pub tests : testsFrom l timers i k (length (r .tests)) ≡ result (r .tests)
 
-pub tests-length : (l : Lists) (timers i k g : ℕ) (ts : List Test) → handedTests l timers i k g ≡ result ts → length ts ≡ g
-tests-length l timers i k g ts e = items-length (λ k s. handedTest l timers i k) (λ s t. s) k 0 g ts (sym (tests-items l timers i k g) ∙ e)
+pub tests-length : (l : Lists) (timers i k g : ℕ) (ts : List Test) → testsFrom l timers i k g ≡ result ts → length ts ≡ g
+tests-length l timers i k g ts e = items-length (λ k s. testFrom l timers i k) (λ s t. s) k 0 g ts (sym (tests-items l timers i k g) ∙ e)
 
 module _ (l : Lists) (locations timers i k : ℕ) (r : Transition) where
-  pub transition-of : handedTransition l locations timers i k ≡ result r → TransitionOf l locations timers i k r
-  unfolding handedTransition
+  pub transition-of : transitionFrom l locations timers i k ≡ result r → TransitionOf l locations timers i k r
+  unfolding transitionFrom
   transition-of e =
       let p = then-result (entryBelow (l .sources) i locations 5 i) _ e in
       let q = then-result (entryBelow (l .targets) i locations 5 i) _ (p .2) in
       let v = then-result (entryAt (l .events) i) _ (q .2) in
       let w = then-result (entryAt (l .starts) i) _ (v .2) in
       let b = unless-result (not (beyond timers (w .0))) 6 i _ (w .2) in
-      let g = then-result (entryAt (l .counts) i) _ (b .1) in
+      let g = then-result (entryAt (l .test-counts) i) _ (b .1) in
       let f = unless-result (leb (g .0) 8) 4 i _ (g .2) in
-      let t = then-result (handedTests l timers i k (g .0)) _ (f .1) in
+      let t = then-result (testsFrom l timers i k (g .0)) _ (f .1) in
       let same : record { source = p .0; target = q .0; event = v .0; starts = members (w .0); tests = t .0 } ≡ r = cc in
       let n = tests-length l timers i k (g .0) (t .0) (t .1) in
       let s = below-some (l .sources) i locations 5 i (p .1) in
@@ -148,13 +148,13 @@ module _ (l : Lists) (locations timers i k : ℕ) (r : Transition) where
         starts = entry-some (l .starts) i (w .1);
         starts-are = refl;
         starts-below = not-true (beyond timers (w .0)) (b .0);
-        count = entry-some (l .counts) i (g .1) ∙ ap some (sym n);
+        count = entry-some (l .test-counts) i (g .1) ∙ ap some (sym n);
         few-tests = rw n (leb-true (g .0) 8 (f .0));
         tests = rw n (t .1);
       })
 
-  pub of-transition : TransitionOf l locations timers i k r → handedTransition l locations timers i k ≡ result r
-  unfolding handedTransition
+  pub of-transition : TransitionOf l locations timers i k r → transitionFrom l locations timers i k ≡ result r
+  unfolding transitionFrom
   of-transition h =
       rw (
         some-below (l .sources) i locations 5 i (h .source) (h .source-below),
@@ -162,7 +162,7 @@ module _ (l : Lists) (locations timers i k : ℕ) (r : Transition) where
         some-entry (l .events) i (h .event),
         some-entry (l .starts) i (h .starts),
         h .starts-below,
-        some-entry (l .counts) i (h .count),
+        some-entry (l .test-counts) i (h .count),
         le-leb (length (r .tests)) 8 (h .few-tests),
         h .tests,
         ← h .starts-are,

@@ -10,8 +10,8 @@ use Rattle.model.specs.Answer.{result}
 use Rattle.model.specs.Chart.{Test, Transition, Chart}
 use Rattle.model.specs.Valid.{ValidTest, ValidTransition, Valid}
 use Rattle.chart_lists.specs.Lists.{Lists}
-use Rattle.chart_lists.specs.declared.Numbers.{Numbers}
-use Rattle.writer.specs.Handing.{handedTest, handedTransition, handed}
+use Rattle.chart_lists.specs.declared.Header.{Header}
+use Rattle.writer.specs.Handing.{testFrom, transitionFrom, chartFrom}
 use Rattle.writer.specs.Begins.{Typed}
 use Rattle.writer.proofs.Items.{Each, items-each, each-all}
 use Rattle.writer.proofs.Parts.{acceptingItem, tests-items}
@@ -32,12 +32,12 @@ accepting-rising locations l k lo (x ∷ xs) h =
     ((a .2, a .1), accepting-rising locations l (suc k) (suc x) xs (h .1))
 
 module _ (l : Lists) (typed : Typed l) where
-  test-valid : (timers i k : ℕ) (t : Test) → handedTest l timers i k ≡ result t → ValidTest 2 timers t
+  test-valid : (timers i k : ℕ) (t : Test) → testFrom l timers i k ≡ result t → ValidTest 2 timers t
   test-valid timers i k t e =
       let h = test-of l timers i k t e in
       record { timer = h .timer-below; constant = omega (arith, all-nth (λ x. x < 65536) (l .constants) k (typed .constants) (h .constant)) }
 
-  transition-valid : (locations timers i k : ℕ) (r : Transition) → handedTransition l locations timers i k ≡ result r → ValidTransition 2 locations timers r
+  transition-valid : (locations timers i k : ℕ) (r : Transition) → transitionFrom l locations timers i k ≡ result r → ValidTransition 2 locations timers r
   transition-valid locations timers i k r e =
       let h = transition-of l locations timers i k r e in
       record {
@@ -46,11 +46,11 @@ module _ (l : Lists) (typed : Typed l) where
         event = all-nth (λ x. x < 256) (l .events) i (typed .events) (h .event);
         starts = rw (h .starts-are) (members-below timers (h .word) (h .starts-below));
         few-tests = h .few-tests;
-        tests = each-all (λ k s. handedTest l timers i k) (λ s t. s) (ValidTest 2 timers) (λ k s t. test-valid timers i k t) k 0 (r .tests)
-            (items-each (λ k s. handedTest l timers i k) (λ s t. s) k 0 (length (r .tests)) (r .tests) (sym (tests-items l timers i k (length (r .tests))) ∙ h .tests));
+        tests = each-all (λ k s. testFrom l timers i k) (λ s t. s) (ValidTest 2 timers) (λ k s t. test-valid timers i k t) k 0 (r .tests)
+            (items-each (λ k s. testFrom l timers i k) (λ s t. s) k 0 (length (r .tests)) (r .tests) (sym (tests-items l timers i k (length (r .tests))) ∙ h .tests));
       }
 
-  pub handed-valid : (m : Numbers) (c : Chart) → handed m l ≡ result c → Valid 2 c
+  pub handed-valid : (m : Header) (c : Chart) → chartFrom m l ≡ result c → Valid 2 c
   handed-valid m c e =
       let h = chart-of m l c e in
       record {
@@ -61,6 +61,6 @@ module _ (l : Lists) (typed : Typed l) where
         accepting = rw (h .locations) (accepting-rising (m .locations) (l .accepting) 0 0 (c .accepting) (accepting-each m l c h));
         few-transitions = omega (arith, h .few-transitions, transitions-length m l c h);
         transitions = rw (h .locations, h .timers)
-            (each-all (handedTransition l (m .locations) (m .timers)) _ (ValidTransition 2 (m .locations) (m .timers)) (transition-valid (m .locations) (m .timers))
+            (each-all (transitionFrom l (m .locations) (m .timers)) _ (ValidTransition 2 (m .locations) (m .timers)) (transition-valid (m .locations) (m .timers))
             0 0 (c .transitions) (transitions-each m l c h));
       }

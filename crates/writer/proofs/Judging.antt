@@ -13,9 +13,9 @@ use Rattle.comparison.specs.declared.Comparison.{Comparison}
 use Rattle.comparison.specs.Comparison.{comparisonOf}
 use Rattle.model.specs.Answer.{Answer, result, refused, then, nowhere}
 use Rattle.chart_lists.specs.Lists.{Lists}
-use Rattle.chart_lists.specs.declared.Numbers.{Numbers}
+use Rattle.chart_lists.specs.declared.Header.{Header}
 use Rattle.writer.specs.Handing.{entryAt, entryBelow, beyond}
-use Rattle.writer.specs.Parts.{limited, passNumbers, passAccepting, passCode, testLists, passTest, passTests, passCount, passEnds, passStarts, passTransition, passTransitions, passChart}
+use Rattle.writer.specs.Parts.{limited, checkHeader, checkAccepting, checkCode, testLists, checkTest, checkTests, checkCount, checkEnds, checkStarts, checkTransition, checkTransitions, checkChart}
 use Rattle.writer.proofs.Entries.{entry-in, entry-out}
 use Rattle.writer.proofs.Limits.{entry-below}
 use Rattle.writer.proofs.Parts.{acceptingItem, transitionLists, pass-test, pass-transition, pass-chart}
@@ -26,29 +26,29 @@ entry-limited l k limit n p e h = h ∙ ap (limited limit n p) e ∙ sym (entry-
 
 -- ---- the numbers
 
-module _ (m : Numbers) where
-  pub numbers-many : 257 ≤ m .locations → passNumbers m ≡ refused 4 nowhere
-  unfolding passNumbers
+module _ (m : Header) where
+  pub numbers-many : 257 ≤ m .locations → checkHeader m ≡ refused 4 nowhere
+  unfolding checkHeader
   numbers-many h = rw (le-ltb (m .locations) 257 h)
 
   module _ (few : m .locations < 257) where
-    pub numbers-none : m .locations < 1 → passNumbers m ≡ refused 4 nowhere
-    unfolding passNumbers
+    pub numbers-none : m .locations < 1 → checkHeader m ≡ refused 4 nowhere
+    unfolding checkHeader
     numbers-none h = rw (lt-ltb (m .locations) 257 few, lt-leb 1 (m .locations) h)
 
     module _ (some-location : 1 ≤ m .locations) where
-      pub numbers-initial : m .locations ≤ m .initial → passNumbers m ≡ refused 5 nowhere
-      unfolding passNumbers
+      pub numbers-initial : m .locations ≤ m .initial → checkHeader m ≡ refused 5 nowhere
+      unfolding checkHeader
       numbers-initial h = rw (lt-ltb (m .locations) 257 few, le-leb 1 (m .locations) some-location, le-ltb (m .initial) (m .locations) h)
 
       module _ (initial : m .initial < m .locations) where
-        pub numbers-timers : 65 ≤ m .timers → passNumbers m ≡ refused 4 nowhere
-        unfolding passNumbers
+        pub numbers-timers : 65 ≤ m .timers → checkHeader m ≡ refused 4 nowhere
+        unfolding checkHeader
         numbers-timers h =
             rw (lt-ltb (m .locations) 257 few, le-leb 1 (m .locations) some-location, lt-ltb (m .initial) (m .locations) initial, le-ltb (m .timers) 65 h)
 
-        pub numbers-in : m .timers < 65 → passNumbers m ≡ result 0
-        unfolding passNumbers
+        pub numbers-in : m .timers < 65 → checkHeader m ≡ result 0
+        unfolding checkHeader
         numbers-in h =
             rw (lt-ltb (m .locations) 257 few, le-leb 1 (m .locations) some-location, lt-ltb (m .initial) (m .locations) initial, lt-ltb (m .timers) 65 h)
 
@@ -71,58 +71,58 @@ module _ (locations : ℕ) (l : List ℕ) (k lo : ℕ) where
 -- ---- a test
 
 module _ (l : List ℕ) (i k : ℕ) where
-  pub code-cut : length l ≤ k → passCode l i k ≡ refused 3 nowhere
-  unfolding passCode
+  pub code-cut : length l ≤ k → checkCode l i k ≡ refused 3 nowhere
+  unfolding checkCode
   code-cut h = rw (entry-out l k h)
 
   module _ (h : k < length l) where
-    pub code-unknown : comparisonOf (getD l k 0) ≡ none → passCode l i k ≡ refused 8 i
-    unfolding passCode
+    pub code-unknown : comparisonOf (getD l k 0) ≡ none → checkCode l i k ≡ refused 8 i
+    unfolding checkCode
     code-unknown e = rw (entry-in l k h, e)
 
-    pub code-known : {x : Comparison} → comparisonOf (getD l k 0) ≡ some x → passCode l i k ≡ result (getD l k 0)
-    unfolding passCode
+    pub code-known : {x : Comparison} → comparisonOf (getD l k 0) ≡ some x → checkCode l i k ≡ result (getD l k 0)
+    unfolding checkCode
     code-known e = rw (entry-in l k h, e)
 
 module _ (l : Lists) (timers i k : ℕ) where
-  pub test-timer : {n p : ℕ} → entryBelow (l .timers) k timers 6 i ≡ refused n p → passTest l timers i k ≡ refused n p
+  pub test-timer : {n p : ℕ} → entryBelow (l .timers) k timers 6 i ≡ refused n p → checkTest l timers i k ≡ refused n p
   test-timer e = rw (pass-test l timers i k, e)
 
   module _ {j : ℕ} (e : entryBelow (l .timers) k timers 6 i ≡ result j) where
-    pub test-code : {n p : ℕ} → passCode (l .codes) i k ≡ refused n p → passTest l timers i k ≡ refused n p
+    pub test-code : {n p : ℕ} → checkCode (l .codes) i k ≡ refused n p → checkTest l timers i k ≡ refused n p
     test-code f = rw (pass-test l timers i k, e, f)
 
-    pub test-constant : {x : ℕ} → passCode (l .codes) i k ≡ result x → passTest l timers i k ≡ entryAt (l .constants) k
+    pub test-constant : {x : ℕ} → checkCode (l .codes) i k ≡ result x → checkTest l timers i k ≡ entryAt (l .constants) k
     test-constant f = rw (pass-test l timers i k, e, f)
 
-module _ (l : Lists) (counts : List ℕ) (timers i k : ℕ) where
-  pub count-cut : {n p : ℕ} → entryAt counts i ≡ refused n p → passCount l counts timers i k ≡ refused n p
-  unfolding passCount
+module _ (l : Lists) (test-counts : List ℕ) (timers i k : ℕ) where
+  pub count-cut : {n p : ℕ} → entryAt test-counts i ≡ refused n p → checkCount l test-counts timers i k ≡ refused n p
+  unfolding checkCount
   count-cut e = rw e
 
-  module _ {g : ℕ} (e : entryAt counts i ≡ result g) where
-    pub count-many : 8 < g → passCount l counts timers i k ≡ refused 4 i
-    unfolding passCount
+  module _ {g : ℕ} (e : entryAt test-counts i ≡ result g) where
+    pub count-many : 8 < g → checkCount l test-counts timers i k ≡ refused 4 i
+    unfolding checkCount
     count-many h = rw (e, lt-leb g 8 h)
 
-    pub count-tests : g ≤ 8 → passCount l counts timers i k ≡ passTests l timers i k g
-    unfolding passCount
+    pub count-tests : g ≤ 8 → checkCount l test-counts timers i k ≡ checkTests l timers i k g
+    unfolding checkCount
     count-tests h = rw (e, le-leb g 8 h)
 
 -- ---- a transition
 
 module _ (sources targets events : List ℕ) (locations i : ℕ) where
-  pub ends-source : {n p : ℕ} → entryBelow sources i locations 5 i ≡ refused n p → passEnds sources targets events locations i ≡ refused n p
-  unfolding passEnds
+  pub ends-source : {n p : ℕ} → entryBelow sources i locations 5 i ≡ refused n p → checkEnds sources targets events locations i ≡ refused n p
+  unfolding checkEnds
   ends-source e = rw e
 
   module _ {x : ℕ} (e : entryBelow sources i locations 5 i ≡ result x) where
-    pub ends-target : {n p : ℕ} → entryBelow targets i locations 5 i ≡ refused n p → passEnds sources targets events locations i ≡ refused n p
-    unfolding passEnds
+    pub ends-target : {n p : ℕ} → entryBelow targets i locations 5 i ≡ refused n p → checkEnds sources targets events locations i ≡ refused n p
+    unfolding checkEnds
     ends-target f = rw (e, f)
 
-    pub ends-event : {y : ℕ} → entryBelow targets i locations 5 i ≡ result y → passEnds sources targets events locations i ≡ entryAt events i
-    unfolding passEnds
+    pub ends-event : {y : ℕ} → entryBelow targets i locations 5 i ≡ result y → checkEnds sources targets events locations i ≡ entryAt events i
+    unfolding checkEnds
     ends-event f = rw (e, f)
 
 not-beyond : (timers w : ℕ) → not (beyond timers w) ≡ allBelow timers w
@@ -130,53 +130,53 @@ unfolding beyond allBelow
 not-beyond timers w = refl
 
 module _ (l : List ℕ) (timers i : ℕ) where
-  pub starts-cut : {n p : ℕ} → entryAt l i ≡ refused n p → passStarts l timers i ≡ refused n p
-  unfolding passStarts
+  pub starts-cut : {n p : ℕ} → entryAt l i ≡ refused n p → checkStarts l timers i ≡ refused n p
+  unfolding checkStarts
   starts-cut e = rw e
 
   module _ {w : ℕ} (e : entryAt l i ≡ result w) where
-    pub starts-beyond : allBelow timers w ≡ false → passStarts l timers i ≡ refused 6 i
-    unfolding passStarts
+    pub starts-beyond : allBelow timers w ≡ false → checkStarts l timers i ≡ refused 6 i
+    unfolding checkStarts
     starts-beyond f = rw (e, not-beyond timers w, f)
 
-    pub starts-in : allBelow timers w ≡ true → w < 2 ^ 64 → passStarts l timers i ≡ result (ones w)
-    unfolding passStarts
+    pub starts-in : allBelow timers w ≡ true → w < 2 ^ 64 → checkStarts l timers i ≡ result (ones w)
+    unfolding checkStarts
     starts-in f h = rw (e, not-beyond timers w, f, ones-members w h)
 
 module _ (l : Lists) (locations timers i k : ℕ) where
-  pub transition-ends : {n p : ℕ} → passEnds (l .sources) (l .targets) (l .events) locations i ≡ refused n p → passTransition l locations timers i k ≡ refused n p
+  pub transition-ends : {n p : ℕ} → checkEnds (l .sources) (l .targets) (l .events) locations i ≡ refused n p → checkTransition l locations timers i k ≡ refused n p
   transition-ends e = rw (pass-transition l locations timers i k, e)
 
-  module _ {x : ℕ} (e : passEnds (l .sources) (l .targets) (l .events) locations i ≡ result x) where
-    pub transition-starts : {n p : ℕ} → passStarts (l .starts) timers i ≡ refused n p → passTransition l locations timers i k ≡ refused n p
+  module _ {x : ℕ} (e : checkEnds (l .sources) (l .targets) (l .events) locations i ≡ result x) where
+    pub transition-starts : {n p : ℕ} → checkStarts (l .starts) timers i ≡ refused n p → checkTransition l locations timers i k ≡ refused n p
     transition-starts f = rw (pass-transition l locations timers i k, e, f)
 
-    module _ {s : ℕ} (f : passStarts (l .starts) timers i ≡ result s) where
-      pub transition-tests : {n p : ℕ} → passCount (testLists (l .timers) (l .codes) (l .constants)) (l .counts) timers i k ≡ refused n p
-          → passTransition l locations timers i k ≡ refused n p
+    module _ {s : ℕ} (f : checkStarts (l .starts) timers i ≡ result s) where
+      pub transition-tests : {n p : ℕ} → checkCount (testLists (l .timers) (l .codes) (l .constants)) (l .test-counts) timers i k ≡ refused n p
+          → checkTransition l locations timers i k ≡ refused n p
       transition-tests h = rw (pass-transition l locations timers i k, e, f, h)
 
-      pub transition-in : {g : ℕ} → passCount (testLists (l .timers) (l .codes) (l .constants)) (l .counts) timers i k ≡ result g
-          → passTransition l locations timers i k ≡ result (record { starts = s; tests = g })
+      pub transition-in : {g : ℕ} → checkCount (testLists (l .timers) (l .codes) (l .constants)) (l .test-counts) timers i k ≡ result g
+          → checkTransition l locations timers i k ≡ result (record { starts = s; tests = g })
       transition-in h = rw (pass-transition l locations timers i k, e, f, h)
 
 -- ---- the chart
 
-module _ (m : Numbers) (l : Lists) where
-  pub chart-numbers : {n p : ℕ} → passNumbers m ≡ refused n p → passChart m l ≡ refused n p
+module _ (m : Header) (l : Lists) where
+  pub chart-numbers : {n p : ℕ} → checkHeader m ≡ refused n p → checkChart m l ≡ refused n p
   chart-numbers e = rw (pass-chart m l, e)
 
-  module _ {z : ℕ} (e : passNumbers m ≡ result z) where
-    pub chart-accepting : {n p : ℕ} → passAccepting (m .locations) (l .accepting) (m .accepting) ≡ refused n p → passChart m l ≡ refused n p
+  module _ {z : ℕ} (e : checkHeader m ≡ result z) where
+    pub chart-accepting : {n p : ℕ} → checkAccepting (m .locations) (l .accepting) (m .accepting) ≡ refused n p → checkChart m l ≡ refused n p
     chart-accepting f = rw (pass-chart m l, e, f)
 
-    module _ {a : ℕ} (f : passAccepting (m .locations) (l .accepting) (m .accepting) ≡ result a) where
-      pub chart-many : 513 ≤ m .transitions → passChart m l ≡ refused 4 nowhere
+    module _ {a : ℕ} (f : checkAccepting (m .locations) (l .accepting) (m .accepting) ≡ result a) where
+      pub chart-many : 513 ≤ m .transitions → checkChart m l ≡ refused 4 nowhere
       chart-many h = rw (pass-chart m l, e, f, le-ltb (m .transitions) 513 h)
 
       module _ (few : m .transitions < 513) where
-        pub chart-transitions : {n p : ℕ} → passTransitions (transitionLists l) (m .locations) (m .timers) (m .transitions) ≡ refused n p → passChart m l ≡ refused n p
+        pub chart-transitions : {n p : ℕ} → checkTransitions (transitionLists l) (m .locations) (m .timers) (m .transitions) ≡ refused n p → checkChart m l ≡ refused n p
         chart-transitions h = rw (pass-chart m l, e, f, lt-ltb (m .transitions) 513 few, h)
 
-        pub chart-in : {b : ℕ} → passTransitions (transitionLists l) (m .locations) (m .timers) (m .transitions) ≡ result b → passChart m l ≡ result (14 + 2 * a + b)
+        pub chart-in : {b : ℕ} → checkTransitions (transitionLists l) (m .locations) (m .timers) (m .transitions) ≡ result b → checkChart m l ≡ result (14 + 2 * a + b)
         chart-in h = rw (pass-chart m l, e, f, lt-ltb (m .transitions) 513 few, h)

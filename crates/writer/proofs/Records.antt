@@ -16,7 +16,7 @@ use Rattle.file_format.specs.Parse.{writeAll}
 use Rattle.file_format.specs.Body.{writeTest, writeTransition}
 use Rattle.file_format.proofs.Lengths.{length-transition}
 use Rattle.chart_lists.specs.Lists.{Lists, put}
-use Rattle.writer.specs.Handing.{handedTest, handedTests, handedTransition, handedTransitions}
+use Rattle.writer.specs.Handing.{testFrom, testsFrom, transitionFrom, transitionsFrom}
 use Rattle.writer.specs.Parts.{testLists}
 use Rattle.writer.specs.Bytes.{testBytes, testAt, testsBytes, headBytes, recordBytes, Room, bytesOf, records}
 use Rattle.writer.proofs.Entries.{nth-bound, nth-is}
@@ -30,19 +30,19 @@ use Rattle.writer.proofs.Writes.{Wrote, wrote-first, wrote-done, wrote-
 
 module _ (l : Lists) (timers i : ℕ) where
   abbrev TestsFrom : ℕ → List Test → Type 0
-  TestsFrom k ts = Each (λ k s. handedTest l timers i k) (λ s t. s) k 0 ts
+  TestsFrom k ts = Each (λ k s. testFrom l timers i k) (λ s t. s) k 0 ts
 
-  tests-from : (k g : ℕ) (ts : List Test) → handedTests l timers i k g ≡ result ts → TestsFrom k ts
-  tests-from k g ts e = items-each (λ k s. handedTest l timers i k) (λ s t. s) k 0 g ts (sym (tests-items l timers i k g) ∙ e)
+  tests-from : (k g : ℕ) (ts : List Test) → testsFrom l timers i k g ≡ result ts → TestsFrom k ts
+  tests-from k g ts e = items-each (λ k s. testFrom l timers i k) (λ s t. s) k 0 g ts (sym (tests-items l timers i k g) ∙ e)
 
   test-at : (k : ℕ) (t : Test) → TestOf l timers k t → testAt l k ≡ writeTest 2 t
   unfolding testAt testBytes writeTest
   test-at k t h = rw (nth-is (l .timers) k (h .timer), nth-is (l .codes) k (h .code), nth-is (l .constants) k (h .constant))
 
-  pub tests-bytes : (k g : ℕ) (ts : List Test) → handedTests l timers i k g ≡ result ts → testsBytes l k g ≡ writeAll (writeTest 2) ts
+  pub tests-bytes : (k g : ℕ) (ts : List Test) → testsFrom l timers i k g ≡ result ts → testsBytes l k g ≡ writeAll (writeTest 2) ts
   unfolding testsBytes
   tests-bytes k g ts e =
-      rw (← tests-length l timers i k g ts e) (gather-all (writeTest 2) ts (λ t. testAt l (k + t)) (λ j t n. test-at (k + j) t (each-nth (λ k s. handedTest l timers i k) (λ s t. s) (TestOf l timers) (λ k s t. test-of l timers i k t) k 0 ts (tests-from k g ts e) j t n)))
+      rw (← tests-length l timers i k g ts e) (gather-all (writeTest 2) ts (λ t. testAt l (k + t)) (λ j t n. test-at (k + j) t (each-nth (λ k s. testFrom l timers i k) (λ s t. s) (TestOf l timers) (λ k s t. test-of l timers i k t) k 0 ts (tests-from k g ts e) j t n)))
 
 -- ---- a transition
 
@@ -50,7 +50,7 @@ module _ (l : Lists) (timers i : ℕ) where
 abbrev pub recordAt : Lists → (i k : ℕ) → List ℕ
 recordAt l i k =
     recordBytes (getD (l .sources) i 0) (getD (l .targets) i 0) (getD (l .events) i 0) (getD (l .starts) i 0)
-    (testLists (l .timers) (l .codes) (l .constants)) k (getD (l .counts) i 0)
+    (testLists (l .timers) (l .codes) (l .constants)) k (getD (l .test-counts) i 0)
 
 module _ (l : Lists) (locations timers i k : ℕ) (r : Transition) (h : TransitionOf l locations timers i k r) where
   record-bytes : recordAt l i k ≡ writeTransition 2 r
@@ -61,18 +61,18 @@ module _ (l : Lists) (locations timers i k : ℕ) (r : Transition) (h : Transiti
         nth-is (l .targets) i (h .target),
         nth-is (l .events) i (h .event),
         nth-is (l .starts) i (h .starts),
-        nth-is (l .counts) i (h .count),
+        nth-is (l .test-counts) i (h .count),
         ← h .starts-are,
         tests-bytes l timers i k (length (r .tests)) (r .tests) (h .tests),
       ) (simp append-assoc)
 
-  record-size : 9 + length (members (getD (l .starts) i 0)) + 4 * getD (l .counts) i 0 ≡ length (writeTransition 2 r)
+  record-size : 9 + length (members (getD (l .starts) i 0)) + 4 * getD (l .test-counts) i 0 ≡ length (writeTransition 2 r)
   record-size =
-      rw (nth-is (l .starts) i (h .starts), nth-is (l .counts) i (h .count), ← h .starts-are, length-transition) (sym (length-record r))
+      rw (nth-is (l .starts) i (h .starts), nth-is (l .test-counts) i (h .count), ← h .starts-are, length-transition) (sym (length-record r))
 
-  test-room : (f : Test → ℕ) (w : List ℕ) → ((k : ℕ) (t : Test) → TestOf l timers k t → getElem? w k ≡ some (f t)) → getD (l .counts) i 0 ≤ length w - k
+  test-room : (f : Test → ℕ) (w : List ℕ) → ((k : ℕ) (t : Test) → TestOf l timers k t → getElem? w k ≡ some (f t)) → getD (l .test-counts) i 0 ≤ length w - k
   test-room f w e =
-      rw (nth-is (l .counts) i (h .count)) (each-room (λ k s. handedTest l timers i k) (λ s t. s) f w (λ k s t o. e k t (test-of l timers i k t o)) k 0 (r .tests) (tests-from l timers i k (length (r .tests)) (r .tests) (h .tests)))
+      rw (nth-is (l .test-counts) i (h .count)) (each-room (λ k s. testFrom l timers i k) (λ s t. s) f w (λ k s t o. e k t (test-of l timers i k t o)) k 0 (r .tests) (tests-from l timers i k (length (r .tests)) (r .tests) (h .tests)))
 
 -- ---- all transitions
 
@@ -95,10 +95,10 @@ recordOf rs i = written (getElem? rs i)
 
 module _ (l : Lists) (locations timers n : ℕ) where
   abbrev handedOver : Answer (List Transition)
-  handedOver = handedTransitions l locations timers 0 0 n
+  handedOver = transitionsFrom l locations timers 0 0 n
 
   abbrev Left : (i k : ℕ) → List Transition → Type 0
-  Left i k rs = Each (handedTransition l locations timers) (λ k r. k + length (r .tests)) i k rs
+  Left i k rs = Each (transitionFrom l locations timers) (λ k r. k + length (r .tests)) i k rs
 
   -- i records are written; the next goes to place at, and its tests begin at place k of the lists
   pub record Writing (first out : List ℕ) (at k i : ℕ) : Type 0 where
@@ -112,7 +112,7 @@ module _ (l : Lists) (locations timers n : ℕ) where
 
     list-length : length (listOf handedOver) ≡ n
     list-length =
-        rw handed-list (items-length (handedTransition l locations timers) (λ k r. k + length (r .tests)) 0 0 n (room .item)
+        rw handed-list (items-length (transitionFrom l locations timers) (λ k r. k + length (r .tests)) 0 0 n (room .item)
         (sym (transitions-items l locations timers 0 0 n) ∙ room .is))
 
     all-records : gather (recordOf (listOf handedOver)) n ≡ records (listOf handedOver)
@@ -124,7 +124,7 @@ module _ (l : Lists) (locations timers n : ℕ) where
     pub writing-first : Writing first first 0 0 0
     writing-first = record {
       wrote = wrote-first _ n first;
-      left = rw handed-list (items-each (handedTransition l locations timers) (λ k r. k + length (r .tests)) 0 0 n (room .item)
+      left = rw handed-list (items-each (transitionFrom l locations timers) (λ k r. k + length (r .tests)) 0 0 n (room .item)
           (sym (transitions-items l locations timers 0 0 n) ∙ room .is));
       few = omega arith;
     }
@@ -140,7 +140,7 @@ module _ (l : Lists) (locations timers n : ℕ) where
         abbrev next : Transition
         next = next-there .0
 
-        next-left : (handedTransition l locations timers i k ≡ result next) × Left (suc i) (k + length (next .tests)) (drop (suc i) (listOf handedOver))
+        next-left : (transitionFrom l locations timers i k ≡ result next) × Left (suc i) (k + length (next .tests)) (drop (suc i) (listOf handedOver))
         next-left = subst (Left i k) (next-there .2) (w .left)
 
         next-of : TransitionOf l locations timers i k next
@@ -152,12 +152,12 @@ module _ (l : Lists) (locations timers n : ℕ) where
           pub target : i < length (l .targets)
           pub event : i < length (l .events)
           pub starts : i < length (l .starts)
-          pub count : i < length (l .counts)
-          pub few : getD (l .counts) i 0 ≤ 8
-          pub timers-room : getD (l .counts) i 0 ≤ length (l .timers) - k
-          pub codes-room : getD (l .counts) i 0 ≤ length (l .codes) - k
-          pub constants-room : getD (l .counts) i 0 ≤ length (l .constants) - k
-          pub fits : at + (9 + length (members (getD (l .starts) i 0)) + 4 * getD (l .counts) i 0) ≤ length out
+          pub count : i < length (l .test-counts)
+          pub few : getD (l .test-counts) i 0 ≤ 8
+          pub timers-room : getD (l .test-counts) i 0 ≤ length (l .timers) - k
+          pub codes-room : getD (l .test-counts) i 0 ≤ length (l .codes) - k
+          pub constants-room : getD (l .test-counts) i 0 ≤ length (l .constants) - k
+          pub fits : at + (9 + length (members (getD (l .starts) i 0)) + 4 * getD (l .test-counts) i 0) ≤ length out
 
         next-bytes : recordOf (listOf handedOver) i ≡ writeTransition 2 next
         unfolding recordOf
@@ -172,8 +172,8 @@ module _ (l : Lists) (locations timers n : ℕ) where
               target = nth-bound (l .targets) i (h .target);
               event = nth-bound (l .events) i (h .event);
               starts = nth-bound (l .starts) i (h .starts);
-              count = nth-bound (l .counts) i (h .count);
-              few = rw (nth-is (l .counts) i (h .count)) (h .few-tests);
+              count = nth-bound (l .test-counts) i (h .count);
+              few = rw (nth-is (l .test-counts) i (h .count)) (h .few-tests);
               timers-room = test-room l locations timers i k next h (λ t. t .timer) (l .timers) (λ k t o. o .timer);
               codes-room = test-room l locations timers i k next h (λ t. codeOf (t .comparison)) (l .codes) (λ k t o. o .code);
               constants-room = test-room l locations timers i k next h (λ t. t .constant) (l .constants) (λ k t o. o .constant);
@@ -183,11 +183,11 @@ module _ (l : Lists) (locations timers n : ℕ) where
         pub writing-again : {last : List ℕ} {at′ : ℕ}
             → last ≡ put (recordAt l i k) (midOf at (length out - at) out)
             → length last ≡ length (midOf at (length out - at) out)
-            → at′ ≡ at + (9 + length (members (getD (l .starts) i 0)) + 4 * getD (l .counts) i 0)
-            → Writing first (putMid at (length out - at) out last) at′ (k + getD (l .counts) i 0) (i + 1)
+            → at′ ≡ at + (9 + length (members (getD (l .starts) i 0)) + 4 * getD (l .test-counts) i 0)
+            → Writing first (putMid at (length out - at) out last) at′ (k + getD (l .test-counts) i 0) (i + 1)
         writing-again {last} {at′} e s p = record {
           wrote = wrote-again (w .wrote) m (next-bytes ∙ sym (record-bytes l locations timers i k next next-of)) e s
               (p ∙ rw (record-bytes l locations timers i k next next-of, record-size l locations timers i k next next-of));
-          left = rw (nth-is (l .counts) i (next-of .count), add-one i) (next-left .1);
+          left = rw (nth-is (l .test-counts) i (next-of .count), add-one i) (next-left .1);
           few = omega (arith, w .few, writing-next .few);
         }

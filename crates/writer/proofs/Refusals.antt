@@ -14,8 +14,8 @@ use Rattle.model.specs.Answer.{Answer, result, refused, then, unless, nowhere}
 use Rattle.file_format.specs.File.{fileOf}
 use Rattle.file_format.proofs.Answers.{result-refused}
 use Rattle.chart_lists.specs.Lists.{Lists}
-use Rattle.chart_lists.specs.declared.Numbers.{Numbers}
-use Rattle.writer.specs.Handing.{present, entryAt, entryBelow, known, handedAccepting, handedTest, handedTests, beyond, handedTransition, handedTransitions, handed, writeInto, writeAnswer}
+use Rattle.chart_lists.specs.declared.Header.{Header}
+use Rattle.writer.specs.Handing.{present, entryAt, entryBelow, known, acceptingFrom, testFrom, testsFrom, beyond, transitionFrom, transitionsFrom, chartFrom, writeInto, writeAnswer}
 use Rattle.writer.specs.Refusals.{WriteRefusal}
 use Rattle.writer.specs.Refusals.WriteRefusal.{cut, room, header, transition}
 use Rattle.writer.proofs.Items.{items}
@@ -75,54 +75,54 @@ module _ (l : Lists) (locations timers i : ℕ) (h : i < 512) where
   known-refuses none = refuses-this (transition (omega arith) (omega arith) h)
   known-refuses (some x) = refuses-result x
 
-  test-refuses : (k : ℕ) → Refuses (handedTest l timers i k)
-  unfolding handedTest
+  test-refuses : (k : ℕ) → Refuses (testFrom l timers i k)
+  unfolding testFrom
   test-refuses k =
       refuses-then (entryBelow (l .timers) k timers 6 i) _ (below-refuses (l .timers) k timers 6 i (transition (omega arith) (omega arith) h)) (λ j e.
       refuses-then (entryAt (l .codes) k) _ (entry-refuses (l .codes) k) (λ code e.
       refuses-then (known i (comparisonOf code)) _ (known-refuses (comparisonOf code)) (λ x e.
       refuses-then (entryAt (l .constants) k) _ (entry-refuses (l .constants) k) (λ v e. refuses-result _))))
 
-  tests-refuse : (k g : ℕ) → Refuses (handedTests l timers i k g)
-  tests-refuse k g = rw (tests-items l timers i k g) (refuses-items (λ k s. handedTest l timers i k) (λ s t. s) (k + g) (λ k s q. test-refuses k) k 0 g (omega arith))
+  tests-refuse : (k g : ℕ) → Refuses (testsFrom l timers i k g)
+  tests-refuse k g = rw (tests-items l timers i k g) (refuses-items (λ k s. testFrom l timers i k) (λ s t. s) (k + g) (λ k s q. test-refuses k) k 0 g (omega arith))
 
-  transition-refuses : (k : ℕ) → Refuses (handedTransition l locations timers i k)
-  unfolding handedTransition
+  transition-refuses : (k : ℕ) → Refuses (transitionFrom l locations timers i k)
+  unfolding transitionFrom
   transition-refuses k =
       refuses-then (entryBelow (l .sources) i locations 5 i) _ (below-refuses (l .sources) i locations 5 i (transition (omega arith) (omega arith) h)) (λ p e.
       refuses-then (entryBelow (l .targets) i locations 5 i) _ (below-refuses (l .targets) i locations 5 i (transition (omega arith) (omega arith) h)) (λ q e.
       refuses-then (entryAt (l .events) i) _ (entry-refuses (l .events) i) (λ v e.
       refuses-then (entryAt (l .starts) i) _ (entry-refuses (l .starts) i) (λ w e.
       refuses-unless (not (beyond timers w)) 6 i _ (transition (omega arith) (omega arith) h) (λ t.
-      refuses-then (entryAt (l .counts) i) _ (entry-refuses (l .counts) i) (λ g e.
+      refuses-then (entryAt (l .test-counts) i) _ (entry-refuses (l .test-counts) i) (λ g e.
       refuses-unless (leb g 8) 4 i _ (transition (omega arith) (omega arith) h) (λ t.
-      refuses-then (handedTests l timers i k g) _ (tests-refuse k g) (λ ts e. refuses-result _))))))))
+      refuses-then (testsFrom l timers i k g) _ (tests-refuse k g) (λ ts e. refuses-result _))))))))
 
-handed-refuses : (m : Numbers) (l : Lists) → Refuses (handed m l)
-unfolding handed
+handed-refuses : (m : Header) (l : Lists) → Refuses (chartFrom m l)
+unfolding chartFrom
 handed-refuses m l =
     refuses-unless (ltb (m .locations) 257) 4 nowhere _ (header (omega arith) (omega arith)) (λ t.
     refuses-unless (leb 1 (m .locations)) 4 nowhere _ (header (omega arith) (omega arith)) (λ t.
     refuses-unless (ltb (m .initial) (m .locations)) 5 nowhere _ (header (omega arith) (omega arith)) (λ t.
     refuses-unless (ltb (m .timers) 65) 4 nowhere _ (header (omega arith) (omega arith)) (λ t.
-    refuses-then (handedAccepting (m .locations) (l .accepting) 0 0 (m .accepting)) _ accepting (λ xs e.
+    refuses-then (acceptingFrom (m .locations) (l .accepting) 0 0 (m .accepting)) _ accepting (λ xs e.
     refuses-unless (ltb (m .transitions) 513) 4 nowhere _ (header (omega arith) (omega arith)) (λ t.
-    refuses-then (handedTransitions l (m .locations) (m .timers) 0 0 (m .transitions)) _ (transitions t) (λ rs e. refuses-result _)))))))
+    refuses-then (transitionsFrom l (m .locations) (m .timers) 0 0 (m .transitions)) _ (transitions t) (λ rs e. refuses-result _)))))))
   where
-    accepting : Refuses (handedAccepting (m .locations) (l .accepting) 0 0 (m .accepting))
+    accepting : Refuses (acceptingFrom (m .locations) (l .accepting) 0 0 (m .accepting))
     accepting =
         rw (accepting-items (m .locations) (l .accepting) 0 0 (m .accepting))
         (refuses-items (acceptingItem (m .locations) (l .accepting)) (λ lo x. suc x) (m .accepting) (λ k lo q. accepting-refuses (m .locations) (l .accepting) k lo) 0 0 (m .accepting) (omega arith))
 
-    transitions : ltb (m .transitions) 513 ≡ true → Refuses (handedTransitions l (m .locations) (m .timers) 0 0 (m .transitions))
+    transitions : ltb (m .transitions) 513 ≡ true → Refuses (transitionsFrom l (m .locations) (m .timers) 0 0 (m .transitions))
     transitions t =
         rw (transitions-items l (m .locations) (m .timers) 0 0 (m .transitions))
-        (refuses-items (handedTransition l (m .locations) (m .timers)) (λ k r. k + length (r .tests)) (m .transitions)
+        (refuses-items (transitionFrom l (m .locations) (m .timers)) (λ k r. k + length (r .tests)) (m .transitions)
         (λ i k q. transition-refuses l (m .locations) (m .timers) i (omega (arith, ltb-true (m .transitions) 513 t)) k) 0 0 (m .transitions) (omega arith))
 
-pub write-refusals : (space : ℕ) (m : Numbers) (l : Lists) (n p : ℕ) → writeAnswer space m l ≡ refused n p → WriteRefusal n p
+pub write-refusals : (space : ℕ) (m : Header) (l : Lists) (n p : ℕ) → writeAnswer space m l ≡ refused n p → WriteRefusal n p
 unfolding writeAnswer writeInto
 write-refusals space m l =
     refuses-then (writeInto space m l) _
-    (refuses-then (handed m l) _ (handed-refuses m l) (λ c e. refuses-unless (leb (length (fileOf c)) space) 21 nowhere (result c) room (λ t. refuses-result c)))
+    (refuses-then (chartFrom m l) _ (handed-refuses m l) (λ c e. refuses-unless (leb (length (fileOf c)) space) 21 nowhere (result c) room (λ t. refuses-result c)))
     (λ c e. refuses-result (length (fileOf c))) .only

@@ -8,36 +8,36 @@ use borrow.Author.Tests.{le-leb, leb-true}
 use Rattle.model.specs.Answer.{result, nowhere}
 use Rattle.model.specs.Chart.{Chart}
 use Rattle.file_format.specs.File.{chartIn, fileOf}
-use Rattle.file_format.proofs.RoundTrip.{Bytes}
+use Rattle.file_format.specs.Parse.{Bytes}
 use Rattle.file_format.proofs.Answers.{then-result, unless-result}
 use Rattle.file_format.proofs.File.{chart-survives, file-survives, reads-valid}
 use Rattle.chart_lists.specs.Lists.{Lists, listsOf, put}
-use Rattle.chart_lists.specs.Numbers.{numbersOf}
-use Rattle.chart_lists.specs.declared.Numbers.{Numbers}
-use Rattle.writer.specs.Handing.{handed, writeInto, bufferAfter}
+use Rattle.chart_lists.specs.Header.{headerOf}
+use Rattle.chart_lists.specs.declared.Header.{Header}
+use Rattle.writer.specs.Handing.{chartFrom, writeInto, bufferAfter}
 use Rattle.writer.specs.Begins.{ListsBegin, Typed}
 use Rattle.writer.proofs.HandedValid.{handed-valid}
 use Rattle.writer.proofs.ValidHanded.{valid-handed}
 
-pub into-handed : (room : ℕ) (m : Numbers) (l : Lists) (c : Chart) → writeInto room m l ≡ result c → (handed m l ≡ result c) × (length (fileOf c) ≤ room)
+pub into-handed : (room : ℕ) (m : Header) (l : Lists) (c : Chart) → writeInto room m l ≡ result c → (chartFrom m l ≡ result c) × (length (fileOf c) ≤ room)
 unfolding writeInto
 into-handed room m l c e =
-    let a = then-result (handed m l) _ e in
+    let a = then-result (chartFrom m l) _ e in
     let b = unless-result (leb (length (fileOf (a .0))) room) 21 nowhere (result (a .0)) (a .2) in
     let q : a .0 ≡ c = cc in
     (rw q at (a .1), rw q at (leb-true (length (fileOf (a .0))) room (b .0)))
 
 -- the file that is written is read as the chart that was handed over
-pub read-what-was-written : (room : ℕ) (m : Numbers) (l : Lists) (c : Chart) → Typed l → writeInto room m l ≡ result c → chartIn (fileOf c) ≡ result c
+pub read-what-was-written : (room : ℕ) (m : Header) (l : Lists) (c : Chart) → Typed l → writeInto room m l ≡ result c → chartIn (fileOf c) ≡ result c
 read-what-was-written room m l c typed e = chart-survives c (handed-valid l typed m c (into-handed room m l c e .0))
 
 -- a file that is read as a chart is written again where the chart's lists are handed over and there is room
 module _ (bs : List ℕ) (c : Chart) (by : Bytes bs) (e : chartIn bs ≡ result c) (l : Lists) (b : ListsBegin (listsOf c) l) (room : ℕ) (fits : length bs ≤ room) where
-  pub write-what-was-read : writeInto room (numbersOf c) l ≡ result c
+  pub write-what-was-read : writeInto room (headerOf c) l ≡ result c
   unfolding writeInto
   write-what-was-read =
       let s = le-leb (length (fileOf c)) room (rw (file-survives bs c by e) fits) in
       rw (valid-handed c (reads-valid bs c by e) l b, s)
 
-  pub same-bytes : (out : List ℕ) → bufferAfter (writeInto room (numbersOf c) l) out ≡ put bs out
+  pub same-bytes : (out : List ℕ) → bufferAfter (writeInto room (headerOf c) l) out ≡ put bs out
   same-bytes out = rw (write-what-was-read, file-survives bs c by e)

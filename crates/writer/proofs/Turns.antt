@@ -14,8 +14,8 @@ use Rattle.file_format.specs.Body.{recordLength}
 use Rattle.file_format.specs.Lengths.{total, transitionLength}
 use Rattle.file_format.proofs.Lengths.{total-most}
 use Rattle.chart_lists.specs.Lists.{Lists}
-use Rattle.writer.specs.Handing.{handedAccepting, handedTest, handedTransition, handedTransitions}
-use Rattle.writer.specs.Parts.{passAccepting, passTest, passTests, Sizes, sizesOf, passTransition, passTransitions}
+use Rattle.writer.specs.Handing.{acceptingFrom, testFrom, transitionFrom, transitionsFrom}
+use Rattle.writer.specs.Parts.{checkAccepting, checkTest, checkTests, Sizes, sizesOf, checkTransition, checkTransitions}
 use Rattle.writer.proofs.Answers.{kept-result, kept-refused}
 use Rattle.writer.proofs.Items.{Turn, turn-first, summed, items-each, items-length, each-all}
 use Rattle.writer.proofs.Handed.{transition-of}
@@ -29,55 +29,55 @@ total-one (a ∷ xs) = omega (arith, total-one xs)
 
 -- k of n accepting locations passed, the next is at least lo
 abbrev pub AcceptingTurn : (locations : ℕ) → List ℕ → (n lo k : ℕ) → Type 0
-AcceptingTurn locations l n lo k = Turn (acceptingItem locations l) (λ lo x. suc x) (λ x. 1) (passAccepting locations l n) n k k lo k
+AcceptingTurn locations l n lo k = Turn (acceptingItem locations l) (λ lo x. suc x) (λ x. 1) (checkAccepting locations l n) n k k lo k
 
 pub accepting-first : (locations : ℕ) (l : List ℕ) (n : ℕ) → AcceptingTurn locations l n 0 0
-unfolding passAccepting summed
+unfolding checkAccepting summed
 accepting-first locations l n = rw (accepting-items locations l 0 0 n) (simp (← total-one) (turn-first (acceptingItem locations l) (λ lo x. suc x) (λ x. 1) 0 0 n))
 
 -- t of g tests passed, the next is at place k
 abbrev pub TestsTurn : Lists → (timers i first g k t : ℕ) → Type 0
-TestsTurn l timers i first g k t = Turn (λ k s. handedTest l timers i k) (λ s t. s) (λ t. 1) (passTests l timers i first g) g t k 0 t
+TestsTurn l timers i first g k t = Turn (λ k s. testFrom l timers i k) (λ s t. s) (λ t. 1) (checkTests l timers i first g) g t k 0 t
 
 pub tests-first : (l : Lists) (timers i k g : ℕ) → TestsTurn l timers i k g k 0
-unfolding passTests summed
-tests-first l timers i k g = rw (tests-items l timers i k g) (simp (← total-one) (turn-first (λ k s. handedTest l timers i k) (λ s t. s) (λ t. 1) k 0 g))
+unfolding checkTests summed
+tests-first l timers i k g = rw (tests-items l timers i k g) (simp (← total-one) (turn-first (λ k s. testFrom l timers i k) (λ s t. s) (λ t. 1) k 0 g))
 
 -- i of n transitions passed, their records have so many bytes, the tests of the next begin at place k
 abbrev pub TransitionsTurn : Lists → (locations timers n bytes k i : ℕ) → Type 0
 TransitionsTurn l locations timers n bytes k i =
-    Turn (handedTransition l locations timers) (λ k r. k + length (r .tests)) (transitionLength 2) (passTransitions l locations timers n) n i i k bytes
+    Turn (transitionFrom l locations timers) (λ k r. k + length (r .tests)) (transitionLength 2) (checkTransitions l locations timers n) n i i k bytes
 
 pub transitions-first : (l : Lists) (locations timers n : ℕ) → TransitionsTurn l locations timers n 0 0 0
-unfolding passTransitions summed
-transitions-first l locations timers n = rw (transitions-items l locations timers 0 0 n) (turn-first (handedTransition l locations timers) (λ k r. k + length (r .tests)) (transitionLength 2) 0 0 n)
+unfolding checkTransitions summed
+transitions-first l locations timers n = rw (transitions-items l locations timers 0 0 n) (turn-first (transitionFrom l locations timers) (λ k r. k + length (r .tests)) (transitionLength 2) 0 0 n)
 
 -- ---- items
 
 module _ (l : Lists) (timers i k : ℕ) where
-  pub test-refused : {n p : ℕ} → passTest l timers i k ≡ refused n p → handedTest l timers i k ≡ refused n p
-  unfolding passTest
-  test-refused e = kept-refused (handedTest l timers i k) _ e
+  pub test-refused : {n p : ℕ} → checkTest l timers i k ≡ refused n p → testFrom l timers i k ≡ refused n p
+  unfolding checkTest
+  test-refused e = kept-refused (testFrom l timers i k) _ e
 
-  pub test-found : {v : ℕ} → passTest l timers i k ≡ result v → (t : Test) × (handedTest l timers i k ≡ result t)
-  unfolding passTest
-  test-found e = let x = kept-result (handedTest l timers i k) _ e in (x .0, x .1)
+  pub test-found : {v : ℕ} → checkTest l timers i k ≡ result v → (t : Test) × (testFrom l timers i k ≡ result t)
+  unfolding checkTest
+  test-found e = let x = kept-result (testFrom l timers i k) _ e in (x .0, x .1)
 
 module _ (l : Lists) (locations timers i k : ℕ) where
-  pub transition-refused : {n p : ℕ} → passTransition l locations timers i k ≡ refused n p → handedTransition l locations timers i k ≡ refused n p
-  unfolding passTransition
-  transition-refused e = kept-refused (handedTransition l locations timers i k) _ e
+  pub transition-refused : {n p : ℕ} → checkTransition l locations timers i k ≡ refused n p → transitionFrom l locations timers i k ≡ refused n p
+  unfolding checkTransition
+  transition-refused e = kept-refused (transitionFrom l locations timers i k) _ e
 
-  pub transition-found : {z : Sizes} → passTransition l locations timers i k ≡ result z → (r : Transition) × (handedTransition l locations timers i k ≡ result r) × (sizesOf r ≡ z)
-  unfolding passTransition
-  transition-found e = kept-result (handedTransition l locations timers i k) _ e
+  pub transition-found : {z : Sizes} → checkTransition l locations timers i k ≡ result z → (r : Transition) × (transitionFrom l locations timers i k ≡ result r) × (sizesOf r ≡ z)
+  unfolding checkTransition
+  transition-found e = kept-result (transitionFrom l locations timers i k) _ e
 
 -- ---- lengths
 
 pub members-few : (w : ℕ) → length (members w) ≤ 64
 members-few w = omega (arith, rising-length 64 0 (members w) (members-rising w) (omega arith))
 
-module _ (l : Lists) (locations timers i k : ℕ) (r : Transition) (e : handedTransition l locations timers i k ≡ result r) where
+module _ (l : Lists) (locations timers i k : ℕ) (r : Transition) (e : transitionFrom l locations timers i k ≡ result r) where
   pub handed-few : (length (r .starts) ≤ 64) × (length (r .tests) ≤ 8)
   handed-few = let h = transition-of l locations timers i k r e in (rw (h .starts-are) (members-few (h .word)), h .few-tests)
 
@@ -94,18 +94,18 @@ pub length-record : (r : Transition) → transitionLength 2 r ≡ 9 + length (r 
 unfolding transitionLength recordLength
 length-record r = omega arith
 
-pub accepting-count : (locations : ℕ) (l : List ℕ) (n : ℕ) {a : ℕ} → passAccepting locations l n ≡ result a → a ≡ n
-unfolding passAccepting
+pub accepting-count : (locations : ℕ) (l : List ℕ) (n : ℕ) {a : ℕ} → checkAccepting locations l n ≡ result a → a ≡ n
+unfolding checkAccepting
 accepting-count locations l n e =
-    let x = kept-result (handedAccepting locations l 0 0 n) _ e in
+    let x = kept-result (acceptingFrom locations l 0 0 n) _ e in
     sym (x .2) ∙ items-length (acceptingItem locations l) (λ lo x. suc x) 0 0 n (x .0) (sym (accepting-items locations l 0 0 n) ∙ x .1)
 
-pub transitions-most : (l : Lists) (locations timers n : ℕ) {b : ℕ} → passTransitions l locations timers n ≡ result b → b ≤ 105 * n
-unfolding passTransitions
+pub transitions-most : (l : Lists) (locations timers n : ℕ) {b : ℕ} → checkTransitions l locations timers n ≡ result b → b ≤ 105 * n
+unfolding checkTransitions
 transitions-most l locations timers n {b} e =
-    let x = kept-result (handedTransitions l locations timers 0 0 n) _ e in
+    let x = kept-result (transitionsFrom l locations timers 0 0 n) _ e in
     let q = sym (transitions-items l locations timers 0 0 n) ∙ x .1 in
-    let h = items-each (handedTransition l locations timers) (λ k r. k + length (r .tests)) 0 0 n (x .0) q in
-    let m = total-most (transitionLength 2) 105 _ (λ r p. p) (x .0) (each-all (handedTransition l locations timers) _ (λ r. transitionLength 2 r ≤ 105) (handed-most l locations timers) 0 0 (x .0) h) in
-    let c = items-length (handedTransition l locations timers) (λ k r. k + length (r .tests)) 0 0 n (x .0) q in
+    let h = items-each (transitionFrom l locations timers) (λ k r. k + length (r .tests)) 0 0 n (x .0) q in
+    let m = total-most (transitionLength 2) 105 _ (λ r p. p) (x .0) (each-all (transitionFrom l locations timers) _ (λ r. transitionLength 2 r ≤ 105) (handed-most l locations timers) 0 0 (x .0) h) in
+    let c = items-length (transitionFrom l locations timers) (λ k r. k + length (r .tests)) 0 0 n (x .0) q in
     rw (c, x .2) at m

@@ -13,8 +13,8 @@ use Rattle.model.specs.Chart.{Test, Transition, Chart}
 use Rattle.model.specs.Valid.{ValidTest, ValidTransition, Valid}
 use Rattle.model.specs.Live.{startsSet}
 use Rattle.chart_lists.specs.Lists.{Lists, listsOf, allTests}
-use Rattle.chart_lists.specs.Numbers.{numbersOf}
-use Rattle.writer.specs.Handing.{handedTest, handedTransition, handed}
+use Rattle.chart_lists.specs.Header.{headerOf}
+use Rattle.writer.specs.Handing.{testFrom, transitionFrom, chartFrom}
 use Rattle.writer.specs.Begins.{Begins, ListsBegin}
 use Rattle.writer.proofs.Items.{Each, each-items}
 use Rattle.writer.proofs.Parts.{acceptingItem, accepting-items, tests-items, transitions-items}
@@ -43,7 +43,7 @@ tests-split f w k r rs b =
 module _ (l : Lists) (locations timers : ℕ) (few : timers ≤ 64) where
   tests-each : (i k : ℕ) (ts : List Test) → All (ValidTest 2 timers) ts
       → Begins (map (λ t. t .timer) ts) (drop k (l .timers)) → Begins (map (λ t. codeOf (t .comparison)) ts) (drop k (l .codes))
-      → Begins (map (λ t. t .constant) ts) (drop k (l .constants)) → Each (λ k s. handedTest l timers i k) (λ s t. s) k 0 ts
+      → Begins (map (λ t. t .constant) ts) (drop k (l .constants)) → Each (λ k s. testFrom l timers i k) (λ s t. s) k 0 ts
   tests-each i k [] v a b d = tt
   tests-each i k (t ∷ ts) v a b d =
       let x = begins-split (l .timers) k a in
@@ -57,13 +57,13 @@ module _ (l : Lists) (locations timers : ℕ) (few : timers ≤ 64) where
     targets : Begins (map (λ r. r .target) rs) (drop i (l .targets))
     events : Begins (map (λ r. r .event) rs) (drop i (l .events))
     starts : Begins (map startsSet rs) (drop i (l .starts))
-    counts : Begins (map (λ r. length (r .tests)) rs) (drop i (l .counts))
+    test-counts : Begins (map (λ r. length (r .tests)) rs) (drop i (l .test-counts))
     test-timers : Begins (map (λ t. t .timer) (allTests rs)) (drop k (l .timers))
     codes : Begins (map (λ t. codeOf (t .comparison)) (allTests rs)) (drop k (l .codes))
     constants : Begins (map (λ t. t .constant) (allTests rs)) (drop k (l .constants))
 
   transitions-each : (i k : ℕ) (rs : List Transition) → All (ValidTransition 2 locations timers) rs → From i k rs
-      → Each (handedTransition l locations timers) (λ k r. k + length (r .tests)) i k rs
+      → Each (transitionFrom l locations timers) (λ k r. k + length (r .tests)) i k rs
   unfolding startsSet
   transitions-each i k [] v b = tt
   transitions-each i k (r ∷ rs) v b =
@@ -71,7 +71,7 @@ module _ (l : Lists) (locations timers : ℕ) (few : timers ≤ 64) where
       let q = begins-split (l .targets) i (b .targets) in
       let e = begins-split (l .events) i (b .events) in
       let w = begins-split (l .starts) i (b .starts) in
-      let g = begins-split (l .counts) i (b .counts) in
+      let g = begins-split (l .test-counts) i (b .test-counts) in
       let x = tests-split (λ t. t .timer) (l .timers) k r rs (b .test-timers) in
       let y = tests-split (λ t. codeOf (t .comparison)) (l .codes) k r rs (b .codes) in
       let z = tests-split (λ t. t .constant) (l .constants) k r rs (b .constants) in (
@@ -88,24 +88,24 @@ module _ (l : Lists) (locations timers : ℕ) (few : timers ≤ 64) where
           count = g .0;
           few-tests = v .0 .few-tests;
           tests = tests-items l timers i k (length (r .tests))
-              ∙ each-items (λ k s. handedTest l timers i k) (λ s t. s) k 0 (r .tests) (tests-each i k (r .tests) (v .0 .tests) (x .0) (y .0) (z .0));
+              ∙ each-items (λ k s. testFrom l timers i k) (λ s t. s) k 0 (r .tests) (tests-each i k (r .tests) (v .0 .tests) (x .0) (y .0) (z .0));
         }),
         transitions-each (suc i) (k + length (r .tests)) rs (v .1) (record {
           sources = p .1;
           targets = q .1;
           events = e .1;
           starts = w .1;
-          counts = g .1;
+          test-counts = g .1;
           test-timers = x .1;
           codes = y .1;
           constants = z .1;
         }),
       )
 
-pub valid-handed : (c : Chart) → Valid 2 c → (l : Lists) → ListsBegin (listsOf c) l → handed (numbersOf c) l ≡ result c
-unfolding listsOf numbersOf
+pub valid-handed : (c : Chart) → Valid 2 c → (l : Lists) → ListsBegin (listsOf c) l → chartFrom (headerOf c) l ≡ result c
+unfolding listsOf headerOf
 valid-handed c v l b =
-    of-chart (numbersOf c) l c (record {
+    of-chart (headerOf c) l c (record {
       locations = refl;
       initial = refl;
       timers = refl;
@@ -118,13 +118,13 @@ valid-handed c v l b =
           (rising-each (c .locations) (l .accepting) 0 0 (c .accepting) (v .accepting) (b .accepting));
       few-transitions = omega (arith, v .few-transitions);
       transitions = transitions-items l (c .locations) (c .timers) 0 0 (length (c .transitions))
-          ∙ each-items (handedTransition l (c .locations) (c .timers)) (λ k r. k + length (r .tests)) 0 0 (c .transitions)
+          ∙ each-items (transitionFrom l (c .locations) (c .timers)) (λ k r. k + length (r .tests)) 0 0 (c .transitions)
           (transitions-each l (c .locations) (c .timers) (v .few-timers) 0 0 (c .transitions) (v .transitions) (record {
             sources = b .sources;
             targets = b .targets;
             events = b .events;
             starts = b .starts;
-            counts = b .counts;
+            test-counts = b .test-counts;
             test-timers = b .timers;
             codes = b .codes;
             constants = b .constants;

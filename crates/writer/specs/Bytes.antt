@@ -12,8 +12,8 @@ use Rattle.file_format.specs.Parse.{digits, writeAll}
 use Rattle.file_format.specs.Body.{recordLength, writeTransition}
 use Rattle.file_format.specs.File.{fileOf}
 use Rattle.chart_lists.specs.Lists.{Lists}
-use Rattle.chart_lists.specs.declared.Numbers.{Numbers}
-use Rattle.writer.specs.Handing.{handed}
+use Rattle.chart_lists.specs.declared.Header.{Header}
+use Rattle.writer.specs.Handing.{chartFrom}
 
 -- the first n numbers of a list, in w bytes each
 unfoldable pub numberBytes : (w : ℕ) → List ℕ → (n : ℕ) → List ℕ
@@ -42,7 +42,7 @@ recordBytes source target event w l k g =
     headBytes (recordLength 2 s g) source target event s ++ (writeAll (digits 1) (members w) ++ (digits 1 g ++ testsBytes l k g))
 
 -- version, length of what follows, and the header up to the accepting locations
-unfoldable pub frontBytes : (size : ℕ) → Numbers → List ℕ
+unfoldable pub frontBytes : (size : ℕ) → Header → List ℕ
 frontBytes size m =
     digits 1 1
     ++ (digits 4 size
@@ -67,8 +67,8 @@ unfoldable pub records : List Transition → List ℕ
 records rs = writeAll (writeTransition 2) rs
 
 -- what the writer of the file asks: the chart was judged, n is the length of its file, and there is room for it
-pub record Judged (m : Numbers) (l : Lists) (n room : ℕ) : Type 0 where
+pub record Judged (m : Header) (l : Lists) (n room : ℕ) : Type 0 where
   pub chart : Chart
-  pub is : handed m l ≡ result chart
+  pub is : chartFrom m l ≡ result chart
   pub size : n ≡ length (fileOf chart)
   pub fits : n ≤ room

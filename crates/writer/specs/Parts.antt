@@ -12,16 +12,16 @@ use Rattle.model.specs.Chart.{Transition}
 use Rattle.file_format.specs.File.{fileOf}
 use Rattle.file_format.specs.Lengths.{total, transitionLength}
 use Rattle.chart_lists.specs.Lists.{Lists, lists}
-use Rattle.chart_lists.specs.declared.Numbers.{Numbers}
-use Rattle.writer.specs.Handing.{entryAt, entryBelow, handedAccepting, known, handedTest, handedTests, beyond, handedTransition, handedTransitions, handed}
+use Rattle.chart_lists.specs.declared.Header.{Header}
+use Rattle.writer.specs.Handing.{entryAt, entryBelow, acceptingFrom, known, testFrom, testsFrom, beyond, transitionFrom, transitionsFrom, chartFrom}
 
 -- a number below the limit, else the refusal n at the place p
 unfoldable pub limited : (limit n p : ℕ) → Answer ℕ → Answer ℕ
 limited limit n p x = then x (λ v. unless (ltb v limit) n p (result v))
 
 -- the numbers of locations and timers and the initial location
-unfoldable pub passNumbers : Numbers → Answer ℕ
-passNumbers m =
+unfoldable pub checkHeader : Header → Answer ℕ
+checkHeader m =
     unless (ltb (m .locations) 257) 4 nowhere (
     unless (leb 1 (m .locations)) 4 nowhere (
     unless (ltb (m .initial) (m .locations)) 5 nowhere (
@@ -29,37 +29,37 @@ passNumbers m =
     result 0))))
 
 -- the accepting locations: how many
-unfoldable pub passAccepting : (locations : ℕ) → List ℕ → (n : ℕ) → Answer ℕ
-passAccepting locations l n = then (handedAccepting locations l 0 0 n) (λ xs. result (length xs))
+unfoldable pub checkAccepting : (locations : ℕ) → List ℕ → (n : ℕ) → Answer ℕ
+checkAccepting locations l n = then (acceptingFrom locations l 0 0 n) (λ xs. result (length xs))
 
 -- the code of a comparison
-unfoldable pub passCode : List ℕ → (i k : ℕ) → Answer ℕ
-passCode l i k = then (entryAt l k) (λ code. then (known i (comparisonOf code)) (λ x. result code))
+unfoldable pub checkCode : List ℕ → (i k : ℕ) → Answer ℕ
+checkCode l i k = then (entryAt l k) (λ code. then (known i (comparisonOf code)) (λ x. result code))
 
 -- the lists that the tests are in
 abbrev pub testLists : (timers codes constants : List ℕ) → Lists
 testLists j x k = lists [] [] [] [] [] [] j x k
 
 -- a test: its constant
-unfoldable pub passTest : Lists → (timers i k : ℕ) → Answer ℕ
-passTest l timers i k = then (handedTest l timers i k) (λ t. result (t .constant))
+unfoldable pub checkTest : Lists → (timers i k : ℕ) → Answer ℕ
+checkTest l timers i k = then (testFrom l timers i k) (λ t. result (t .constant))
 
 -- g tests: how many
-unfoldable pub passTests : Lists → (timers i k g : ℕ) → Answer ℕ
-passTests l timers i k g = then (handedTests l timers i k g) (λ ts. result (length ts))
+unfoldable pub checkTests : Lists → (timers i k g : ℕ) → Answer ℕ
+checkTests l timers i k g = then (testsFrom l timers i k g) (λ ts. result (length ts))
 
 -- the number of tests of transition i, and these tests
-unfoldable pub passCount : Lists → (counts : List ℕ) → (timers i k : ℕ) → Answer ℕ
-passCount l counts timers i k = then (entryAt counts i) (λ g. unless (leb g 8) 4 i (passTests l timers i k g))
+unfoldable pub checkCount : Lists → (test-counts : List ℕ) → (timers i k : ℕ) → Answer ℕ
+checkCount l test-counts timers i k = then (entryAt test-counts i) (λ g. unless (leb g 8) 4 i (checkTests l timers i k g))
 
 -- the source, the target and the event of transition i
-unfoldable pub passEnds : (sources targets events : List ℕ) → (locations i : ℕ) → Answer ℕ
-passEnds sources targets events locations i =
+unfoldable pub checkEnds : (sources targets events : List ℕ) → (locations i : ℕ) → Answer ℕ
+checkEnds sources targets events locations i =
     then (entryBelow sources i locations 5 i) (λ source. then (entryBelow targets i locations 5 i) (λ target. entryAt events i))
 
 -- the timers that transition i starts: how many
-unfoldable pub passStarts : List ℕ → (timers i : ℕ) → Answer ℕ
-passStarts l timers i = then (entryAt l i) (λ w. unless (not (beyond timers w)) 6 i (result (length (members w))))
+unfoldable pub checkStarts : List ℕ → (timers i : ℕ) → Answer ℕ
+checkStarts l timers i = then (entryAt l i) (λ w. unless (not (beyond timers w)) 6 i (result (length (members w))))
 
 -- what gives the length of a record
 pub record Sizes : Type 0 where
@@ -70,13 +70,13 @@ unfoldable pub sizesOf : Transition → Sizes
 sizesOf r = record { starts = length (r .starts); tests = length (r .tests) }
 
 -- transition i: its sizes
-unfoldable pub passTransition : Lists → (locations timers i k : ℕ) → Answer Sizes
-passTransition l locations timers i k = then (handedTransition l locations timers i k) (λ r. result (sizesOf r))
+unfoldable pub checkTransition : Lists → (locations timers i k : ℕ) → Answer Sizes
+checkTransition l locations timers i k = then (transitionFrom l locations timers i k) (λ r. result (sizesOf r))
 
 -- n transitions: how many bytes their records have
-unfoldable pub passTransitions : Lists → (locations timers n : ℕ) → Answer ℕ
-passTransitions l locations timers n = then (handedTransitions l locations timers 0 0 n) (λ rs. result (total (transitionLength 2) rs))
+unfoldable pub checkTransitions : Lists → (locations timers n : ℕ) → Answer ℕ
+checkTransitions l locations timers n = then (transitionsFrom l locations timers 0 0 n) (λ rs. result (total (transitionLength 2) rs))
 
 -- the whole chart: the length of its file
-unfoldable pub passChart : Numbers → Lists → Answer ℕ
-passChart m l = then (handed m l) (λ c. result (length (fileOf c)))
+unfoldable pub checkChart : Header → Lists → Answer ℕ
+checkChart m l = then (chartFrom m l) (λ c. result (length (fileOf c)))

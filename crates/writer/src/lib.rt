@@ -7,13 +7,13 @@ ghost use Rattle.timer_set.specs.Members.{members};
 ghost use Rattle.file_format.specs.Parse.{digits, writeAll};
 ghost use Rattle.file_format.specs.File.{fileOf};
 ghost use Rattle.chart_lists.specs.Lists.{lists, put};
-ghost use Rattle.writer.specs.Handing.{entryAt, handed, handedTransitions, writeInto, writeAnswer, bufferAfter, meantWritten};
-ghost use Rattle.writer.specs.Parts.{limited, passNumbers, passAccepting, passCode, testLists, passTest, passTests, passCount, passEnds, passStarts, passTransition, passTransitions, passChart};
+ghost use Rattle.writer.specs.Handing.{entryAt, chartFrom, transitionsFrom, writeInto, writeAnswer, bufferAfter, writtenAs};
+ghost use Rattle.writer.specs.Parts.{limited, checkHeader, checkAccepting, checkCode, testLists, checkTest, checkTests, checkCount, checkEnds, checkStarts, checkTransition, checkTransitions, checkChart};
 ghost use Rattle.writer.specs.Bytes.{testBytes, testsBytes, headBytes, recordBytes, Room, bytesOf, records, numberBytes, frontBytes, Judged};
-ghost use Rattle.writer.specs.Meaning.{meant, meantRecord, refusalOf, recordRefusal};
-use chart_lists::Numbers;
-use chart_lists::Refusal;
+ghost use Rattle.writer.specs.Meaning.{entryAs, sizesAs, refusalOf, recordRefusal};
+use chart_lists::Header;
 use comparison::Decoded;
+use refusal::Refusal;
 use timer_set::TimerSet;
 
 // What writing a chart gives: the length of the file, or a refusal.
@@ -64,47 +64,38 @@ fn record_refusal(a: Record) -> Refusal
 
 // An entry of a list of bytes, pairs or words; 3 where the list has ended.
 fn byte_at(l: &[u8], k: usize) -> Entry
-    ensures { λ r. ⌜ meant r ≡ entryAt (now (l .entry)) k ⌝ }
+    ensures { λ r. ⌜ entryAs r ≡ entryAt (now (l .entry)) k ⌝ }
 {
     if k < l.len() {
         Entry::Value(l[k] as u64)
     } else {
-        Entry::Refused(Refusal {
-            number: 3,
-            place: 65535,
-        })
+        Entry::Refused(refusal::CUT_OFF)
     }
 }
 
 fn pair_at(l: &[u16], k: usize) -> Entry
-    ensures { λ r. ⌜ meant r ≡ entryAt (now (l .entry)) k ⌝ }
+    ensures { λ r. ⌜ entryAs r ≡ entryAt (now (l .entry)) k ⌝ }
 {
     if k < l.len() {
         Entry::Value(l[k] as u64)
     } else {
-        Entry::Refused(Refusal {
-            number: 3,
-            place: 65535,
-        })
+        Entry::Refused(refusal::CUT_OFF)
     }
 }
 
 fn word_at(l: &[u64], k: usize) -> Entry
-    ensures { λ r. ⌜ meant r ≡ entryAt (now (l .entry)) k ⌝ }
+    ensures { λ r. ⌜ entryAs r ≡ entryAt (now (l .entry)) k ⌝ }
 {
     if k < l.len() {
         Entry::Value(l[k])
     } else {
-        Entry::Refused(Refusal {
-            number: 3,
-            place: 65535,
-        })
+        Entry::Refused(refusal::CUT_OFF)
     }
 }
 
 // A number below a limit, or the refusal given.
 fn below(a: Entry, limit: u64, number: u16, place: u64) -> Entry
-    ensures { λ r. ⌜ meant r ≡ limited limit number place (meant a) ⌝ }
+    ensures { λ r. ⌜ entryAs r ≡ limited limit number place (entryAs a) ⌝ }
 {
     let Entry::Value(x) = a else {
         return a;
@@ -116,39 +107,27 @@ fn below(a: Entry, limit: u64, number: u16, place: u64) -> Entry
     }
 }
 
-fn judge_numbers(m: Numbers) -> Entry
-    ensures { λ r. ⌜ meant r ≡ passNumbers m ⌝ }
+fn judge_numbers(m: Header) -> Entry
+    ensures { λ r. ⌜ entryAs r ≡ checkHeader m ⌝ }
 {
     if m.locations > 256 {
-        return Entry::Refused(Refusal {
-            number: 4,
-            place: 65535,
-        });
+        return Entry::Refused(refusal::WRONG_COUNT);
     }
     if m.locations < 1 {
-        return Entry::Refused(Refusal {
-            number: 4,
-            place: 65535,
-        });
+        return Entry::Refused(refusal::WRONG_COUNT);
     }
     if m.initial >= m.locations {
-        return Entry::Refused(Refusal {
-            number: 5,
-            place: 65535,
-        });
+        return Entry::Refused(refusal::NO_SUCH_LOCATION);
     }
     if m.timers > 64 {
-        return Entry::Refused(Refusal {
-            number: 4,
-            place: 65535,
-        });
+        return Entry::Refused(refusal::WRONG_COUNT);
     }
     Entry::Value(0)
 }
 
 // n accepting locations, strictly rising and below the number of locations.
 fn judge_accepting(accepting: &[u16], locations: u16, n: u16) -> Entry
-    ensures { λ r. ⌜ meant r ≡ passAccepting locations (now (accepting .entry)) n ⌝ }
+    ensures { λ r. ⌜ entryAs r ≡ checkAccepting locations (now (accepting .entry)) n ⌝ }
 {
     let mut lowest: u64 = 0;
     let mut k: u16 = 0;
@@ -158,10 +137,7 @@ fn judge_accepting(accepting: &[u16], locations: u16, n: u16) -> Entry
             return a;
         };
         if x < lowest {
-            return Entry::Refused(Refusal {
-                number: 7,
-                place: 65535,
-            });
+            return Entry::Refused(refusal::NOT_RISING);
         }
         lowest = x + 1;
         k += 1;
@@ -171,13 +147,10 @@ fn judge_accepting(accepting: &[u16], locations: u16, n: u16) -> Entry
 
 // The code of a comparison.
 fn judge_code(codes: &[u8], place: u64, k: usize) -> Entry
-    ensures { λ r. ⌜ meant r ≡ passCode (now (codes .entry)) place k ⌝ }
+    ensures { λ r. ⌜ entryAs r ≡ checkCode (now (codes .entry)) place k ⌝ }
 {
     if k >= codes.len() {
-        return Entry::Refused(Refusal {
-            number: 3,
-            place: 65535,
-        });
+        return Entry::Refused(refusal::CUT_OFF);
     }
     let code = codes[k];
     let d = comparison::decode(code);
@@ -195,7 +168,7 @@ fn judge_test(
     place: u64,
     k: usize,
 ) -> Entry
-    ensures { λ r. ⌜ meant r ≡ passTest (testLists (now (timers .entry)) (now (codes .entry)) (now (constants .entry))) limit place k ⌝ }
+    ensures { λ r. ⌜ entryAs r ≡ checkTest (testLists (now (timers .entry)) (now (codes .entry)) (now (constants .entry))) limit place k ⌝ }
 {
     let a = below(byte_at(timers, k), limit as u64, 6, place);
     let Entry::Value(_) = a else {
@@ -219,7 +192,7 @@ fn judge_tests(
     g: u64,
 ) -> Entry
     requires { ⌜ (k < 4294967296) × (g ≤ 8) ⌝ }
-    ensures { λ r. ⌜ meant r ≡ passTests (testLists (now (timers .entry)) (now (codes .entry)) (now (constants .entry))) limit place k g ⌝ }
+    ensures { λ r. ⌜ entryAs r ≡ checkTests (testLists (now (timers .entry)) (now (codes .entry)) (now (constants .entry))) limit place k g ⌝ }
 {
     let mut at = k;
     let mut t: u64 = 0;
@@ -236,7 +209,7 @@ fn judge_tests(
 
 // The number of tests of transition i, and these tests.
 fn judge_count(
-    counts: &[u8],
+    test_counts: &[u8],
     timers: &[u8],
     codes: &[u8],
     constants: &[u16],
@@ -245,9 +218,9 @@ fn judge_count(
     k: usize,
 ) -> Entry
     requires { ⌜ k < 4294967296 ⌝ }
-    ensures { λ r. ⌜ meant r ≡ passCount (testLists (now (timers .entry)) (now (codes .entry)) (now (constants .entry))) (now (counts .entry)) limit i k ⌝ }
+    ensures { λ r. ⌜ entryAs r ≡ checkCount (testLists (now (timers .entry)) (now (codes .entry)) (now (constants .entry))) (now («test_counts» .entry)) limit i k ⌝ }
 {
-    let a = byte_at(counts, i);
+    let a = byte_at(test_counts, i);
     let Entry::Value(g) = a else {
         return a;
     };
@@ -262,7 +235,7 @@ fn judge_count(
 
 // The source, the target and the event of transition i.
 fn judge_ends(sources: &[u16], targets: &[u16], events: &[u8], locations: u16, i: usize) -> Entry
-    ensures { λ r. ⌜ meant r ≡ passEnds (now (sources .entry)) (now (targets .entry)) (now (events .entry)) locations i ⌝ }
+    ensures { λ r. ⌜ entryAs r ≡ checkEnds (now (sources .entry)) (now (targets .entry)) (now (events .entry)) locations i ⌝ }
 {
     let a = below(pair_at(sources, i), locations as u64, 5, i as u64);
     let Entry::Value(_) = a else {
@@ -277,7 +250,7 @@ fn judge_ends(sources: &[u16], targets: &[u16], events: &[u8], locations: u16, i
 
 // The timers that transition i starts: how many.
 fn judge_starts(starts: &[u64], timers: u8, i: usize) -> Entry
-    ensures { λ r. ⌜ meant r ≡ passStarts (now (starts .entry)) timers i ⌝ }
+    ensures { λ r. ⌜ entryAs r ≡ checkStarts (now (starts .entry)) timers i ⌝ }
 {
     let a = word_at(starts, i);
     let Entry::Value(bits) = a else {
@@ -296,12 +269,12 @@ fn judge_starts(starts: &[u64], timers: u8, i: usize) -> Entry
 
 // Transition i, its tests from place k on.
 fn judge_transition(
-    m: Numbers,
+    m: Header,
     sources: &[u16],
     targets: &[u16],
     events: &[u8],
     starts: &[u64],
-    counts: &[u8],
+    test_counts: &[u8],
     timers: &[u8],
     codes: &[u8],
     constants: &[u16],
@@ -309,7 +282,7 @@ fn judge_transition(
     k: usize,
 ) -> Record
     requires { ⌜ k < 4294967296 ⌝ }
-    ensures { λ r. ⌜ meantRecord r ≡ passTransition (lists [] (now (sources .entry)) (now (targets .entry)) (now (events .entry)) (now (starts .entry)) (now (counts .entry)) (now (timers .entry)) (now (codes .entry)) (now (constants .entry))) (m .locations) (m .timers) i k ⌝ }
+    ensures { λ r. ⌜ sizesAs r ≡ checkTransition (lists [] (now (sources .entry)) (now (targets .entry)) (now (events .entry)) (now (starts .entry)) (now («test_counts» .entry)) (now (timers .entry)) (now (codes .entry)) (now (constants .entry))) (m .locations) (m .timers) i k ⌝ }
 {
     let a = judge_ends(sources, targets, events, m.locations, i);
     let Entry::Value(_) = a else {
@@ -319,7 +292,7 @@ fn judge_transition(
     let Entry::Value(s) = b else {
         return Record::Refused(refusal_of(b));
     };
-    let d = judge_count(counts, timers, codes, constants, m.timers, i, k);
+    let d = judge_count(test_counts, timers, codes, constants, m.timers, i, k);
     let Entry::Value(g) = d else {
         return Record::Refused(refusal_of(d));
     };
@@ -331,17 +304,17 @@ fn judge_transition(
 
 // All transitions: how many bytes their records have.
 fn judge_transitions(
-    m: Numbers,
+    m: Header,
     sources: &[u16],
     targets: &[u16],
     events: &[u8],
     starts: &[u64],
-    counts: &[u8],
+    test_counts: &[u8],
     timers: &[u8],
     codes: &[u8],
     constants: &[u16],
 ) -> Entry
-    ensures { λ r. ⌜ meant r ≡ passTransitions (lists [] (now (sources .entry)) (now (targets .entry)) (now (events .entry)) (now (starts .entry)) (now (counts .entry)) (now (timers .entry)) (now (codes .entry)) (now (constants .entry))) (m .locations) (m .timers) (m .transitions) ⌝ }
+    ensures { λ r. ⌜ entryAs r ≡ checkTransitions (lists [] (now (sources .entry)) (now (targets .entry)) (now (events .entry)) (now (starts .entry)) (now («test_counts» .entry)) (now (timers .entry)) (now (codes .entry)) (now (constants .entry))) (m .locations) (m .timers) (m .transitions) ⌝ }
 {
     let n = m.transitions as usize;
     let mut bytes: u64 = 0;
@@ -354,7 +327,7 @@ fn judge_transitions(
             targets,
             events,
             starts,
-            counts,
+            test_counts,
             timers,
             codes,
             constants,
@@ -377,18 +350,18 @@ fn judge_transitions(
 
 // All of the chart: the length of its file.
 fn judge(
-    m: Numbers,
+    m: Header,
     accepting: &[u16],
     sources: &[u16],
     targets: &[u16],
     events: &[u8],
     starts: &[u64],
-    counts: &[u8],
+    test_counts: &[u8],
     timers: &[u8],
     codes: &[u8],
     constants: &[u16],
 ) -> Written
-    ensures { λ r. ⌜ meantWritten r ≡ passChart m (lists (now (accepting .entry)) (now (sources .entry)) (now (targets .entry)) (now (events .entry)) (now (starts .entry)) (now (counts .entry)) (now (timers .entry)) (now (codes .entry)) (now (constants .entry))) ⌝ }
+    ensures { λ r. ⌜ writtenAs r ≡ checkChart m (lists (now (accepting .entry)) (now (sources .entry)) (now (targets .entry)) (now (events .entry)) (now (starts .entry)) (now («test_counts» .entry)) (now (timers .entry)) (now (codes .entry)) (now (constants .entry))) ⌝ }
 {
     let a = judge_numbers(m);
     let Entry::Value(_) = a else {
@@ -399,10 +372,7 @@ fn judge(
         return Written::Refused(refusal_of(b));
     };
     if m.transitions > 512 {
-        return Written::Refused(Refusal {
-            number: 4,
-            place: 65535,
-        });
+        return Written::Refused(refusal::WRONG_COUNT);
     }
     let d = judge_transitions(
         m,
@@ -410,7 +380,7 @@ fn judge(
         targets,
         events,
         starts,
-        counts,
+        test_counts,
         timers,
         codes,
         constants,
@@ -540,24 +510,24 @@ fn write_record<'a>(
 // The records of all transitions, each in its own stretch of the buffer.
 fn write_records<'a>(
     out: &mut [u8],
-    m: Numbers,
+    m: Header,
     sources: &'a [u16],
     targets: &'a [u16],
     events: &'a [u8],
     starts: &'a [u64],
-    counts: &'a [u8],
+    test_counts: &'a [u8],
     timers: &'a [u8],
     codes: &'a [u8],
     constants: &'a [u16],
 )
-    requires { ⌜ Room records (handedTransitions (lists [] (now sources) (now targets) (now events) (now starts) (now counts) (now timers) (now codes) (now constants)) (m .locations) (m .timers) 0 0 (m .transitions)) (length (now out)) ⌝ }
-    ensures { λ _. ⌜ now (out .exit) ≡ put (bytesOf records (handedTransitions (lists [] (now (sources .entry)) (now (targets .entry)) (now (events .entry)) (now (starts .entry)) (now (counts .entry)) (now (timers .entry)) (now (codes .entry)) (now (constants .entry))) (m .locations) (m .timers) 0 0 (m .transitions))) (now (out .entry)) ⌝ }
+    requires { ⌜ Room records (transitionsFrom (lists [] (now sources) (now targets) (now events) (now starts) (now «test_counts») (now timers) (now codes) (now constants)) (m .locations) (m .timers) 0 0 (m .transitions)) (length (now out)) ⌝ }
+    ensures { λ _. ⌜ now (out .exit) ≡ put (bytesOf records (transitionsFrom (lists [] (now (sources .entry)) (now (targets .entry)) (now (events .entry)) (now (starts .entry)) (now («test_counts» .entry)) (now (timers .entry)) (now (codes .entry)) (now (constants .entry))) (m .locations) (m .timers) 0 0 (m .transitions))) (now (out .entry)) ⌝ }
 {
     let mut at: usize = 0;
     let mut k: usize = 0;
     let mut i: usize = 0;
     while i < m.transitions as usize {
-        let g = counts[i];
+        let g = test_counts[i];
         let set = TimerSet { bits: starts[i] };
         at += write_record(
             &mut out[at..],
@@ -590,7 +560,7 @@ fn put_accepting(out: &mut [u8], accepting: &[u16], n: u16)
 }
 
 // Version, length of what follows, and the header up to the accepting locations.
-fn put_front(out: &mut [u8], size: u32, m: Numbers)
+fn put_front(out: &mut [u8], size: u32, m: Header)
     requires { ⌜ 12 ≤ length (now out) ⌝ }
     ensures { λ _. ⌜ now (out .exit) ≡ put (frontBytes size m) (now (out .entry)) ⌝ }
 {
@@ -606,19 +576,19 @@ fn put_front(out: &mut [u8], size: u32, m: Numbers)
 fn write_file<'a>(
     out: &mut [u8],
     n: usize,
-    m: Numbers,
+    m: Header,
     accepting: &'a [u16],
     sources: &'a [u16],
     targets: &'a [u16],
     events: &'a [u8],
     starts: &'a [u64],
-    counts: &'a [u8],
+    test_counts: &'a [u8],
     timers: &'a [u8],
     codes: &'a [u8],
     constants: &'a [u16],
 )
-    requires { ⌜ Judged m (lists (now accepting) (now sources) (now targets) (now events) (now starts) (now counts) (now timers) (now codes) (now constants)) n (length (now out)) ⌝ }
-    ensures { λ _. ⌜ now (out .exit) ≡ put (bytesOf fileOf (handed m (lists (now (accepting .entry)) (now (sources .entry)) (now (targets .entry)) (now (events .entry)) (now (starts .entry)) (now (counts .entry)) (now (timers .entry)) (now (codes .entry)) (now (constants .entry))))) (now (out .entry)) ⌝ }
+    requires { ⌜ Judged m (lists (now accepting) (now sources) (now targets) (now events) (now starts) (now «test_counts») (now timers) (now codes) (now constants)) n (length (now out)) ⌝ }
+    ensures { λ _. ⌜ now (out .exit) ≡ put (bytesOf fileOf (chartFrom m (lists (now (accepting .entry)) (now (sources .entry)) (now (targets .entry)) (now (events .entry)) (now (starts .entry)) (now («test_counts» .entry)) (now (timers .entry)) (now (codes .entry)) (now (constants .entry))))) (now (out .entry)) ⌝ }
 {
     put_front(out, (n - 5) as u32, m);
     put_accepting(&mut out[12..], accepting, m.accepting);
@@ -632,7 +602,7 @@ fn write_file<'a>(
         targets,
         events,
         starts,
-        counts,
+        test_counts,
         timers,
         codes,
         constants,
@@ -641,20 +611,20 @@ fn write_file<'a>(
 
 // Judges all of the chart, then the room, and only then writes its file over the front of the buffer.
 pub fn write<'a>(
-    numbers: Numbers,
+    numbers: Header,
     accepting: &'a [u16],
     sources: &'a [u16],
     targets: &'a [u16],
     events: &'a [u8],
     starts: &'a [u64],
-    counts: &'a [u8],
+    test_counts: &'a [u8],
     timers: &'a [u8],
     codes: &'a [u8],
     constants: &'a [u16],
     out: &mut [u8],
 ) -> Written
-    ensures answer { λ r. ⌜ meantWritten r ≡ writeAnswer (length (now (out .entry))) numbers (lists (now (accepting .entry)) (now (sources .entry)) (now (targets .entry)) (now (events .entry)) (now (starts .entry)) (now (counts .entry)) (now (timers .entry)) (now (codes .entry)) (now (constants .entry))) ⌝ }
-    ensures lent { λ _. ⌜ now (out .exit) ≡ bufferAfter (writeInto (length (now (out .entry))) numbers (lists (now (accepting .entry)) (now (sources .entry)) (now (targets .entry)) (now (events .entry)) (now (starts .entry)) (now (counts .entry)) (now (timers .entry)) (now (codes .entry)) (now (constants .entry)))) (now (out .entry)) ⌝ }
+    ensures answer { λ r. ⌜ writtenAs r ≡ writeAnswer (length (now (out .entry))) numbers (lists (now (accepting .entry)) (now (sources .entry)) (now (targets .entry)) (now (events .entry)) (now (starts .entry)) (now («test_counts» .entry)) (now (timers .entry)) (now (codes .entry)) (now (constants .entry))) ⌝ }
+    ensures lent { λ _. ⌜ now (out .exit) ≡ bufferAfter (writeInto (length (now (out .entry))) numbers (lists (now (accepting .entry)) (now (sources .entry)) (now (targets .entry)) (now (events .entry)) (now (starts .entry)) (now («test_counts» .entry)) (now (timers .entry)) (now (codes .entry)) (now (constants .entry)))) (now (out .entry)) ⌝ }
 {
     let a = judge(
         numbers,
@@ -663,7 +633,7 @@ pub fn write<'a>(
         targets,
         events,
         starts,
-        counts,
+        test_counts,
         timers,
         codes,
         constants,
@@ -672,10 +642,7 @@ pub fn write<'a>(
         return a;
     };
     if out.len() < n {
-        return Written::Refused(Refusal {
-            number: 21,
-            place: 65535,
-        });
+        return Written::Refused(refusal::NO_ROOM);
     }
     write_file(
         out,
@@ -686,7 +653,7 @@ pub fn write<'a>(
         targets,
         events,
         starts,
-        counts,
+        test_counts,
         timers,
         codes,
         constants,

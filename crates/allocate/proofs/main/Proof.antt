@@ -4,7 +4,7 @@ use Prim.Native.Nat.{_≤_}
 use native.Mathlib.Omega.{arith}
 use lib.ListN.{length}
 use lib.Seq.{length-take-le}
-use Rattle.listing.specs.Listing.{meantListed}
+use Rattle.listing.specs.Listing.{listedAs}
 use Rattle.listing.proofs.Answers.{listed-within}
 use borrow.Author.Needs.{needs}
 use Rattle.allocate.proofs.main.Statement.{statement}
@@ -14,7 +14,7 @@ use Rattle.allocate.proofs.main.Tie as tie
 within : (c : tie.After-answer) → c .answer .given .0 .0 ≤ length (c .before .before .before .list .last .1 .0)
 within c =
     let l = c .before .before .before .list in
-    omega (arith, listed-within _ _ (sym (ap meantListed (c .answer .given .1)) ∙ l .ensures .0), l .kept .1 .0)
+    omega (arith, listed-within _ _ (sym (ap listedAs (c .answer .given .1)) ∙ l .ensures .0), l .kept .1 .0)
 
 slice-aggregate-read-full : tie.Need-slice-aggregate-read-full
 slice-aggregate-read-full c = search needs

@@ -2,7 +2,7 @@
 use mathlib.Core.Path.{refl, sym, ap, _∙_}
 use mathlib.Core.List.{List}
 use Prim.Native.Nat.{ℕ}
-use Rattle.reader.specs.Reading.{meantRead}
+use Rattle.chart_lists.specs.Read.{readAs}
 use Rattle.judgement.specs.Judging.{largest}
 use Rattle.judgement.proofs.Loading.{bytes-are}
 use Rattle.judgement.proofs.Fronts.{lent-room, lent-part}
@@ -30,7 +30,7 @@ handed : (c : Found) → let l = judged c .judge .last in
     HandedOn (file (judged c)) (c .a2 .given .0 .0) (l .1 .1 .0) (l .1 .1 .1 .0) (l .1 .1 .1 .1 .1 .0) (l .1 .1 .1 .1 .1 .1 .0) (l .1 .1 .1 .1 .1 .1 .1 .0) (l .1 .1 .1 .1 .1 .1 .1 .1 .1 .1 .0)
 handed c =
     let j = judged c in
-    handed-on (file j) (bytes-are (file j) (λ i. j .before .before .before .before .before .before .before .before .before .before .before .before .shared-slice-known .given i .fits)) _ _ _ _ _ _ _ _ _ _ (sym (ap meantRead (c .a2 .given .1)) ∙ j .judge .ensures .0)
+    handed-on (file j) (bytes-are (file j) (λ i. j .before .before .before .before .before .before .before .before .before .before .before .before .shared-slice-known .given i .fits)) _ _ _ _ _ _ _ _ _ _ (sym (ap readAs (c .a2 .given .1)) ∙ j .judge .ensures .0)
     (j .judge .ensures .1 .0) (j .judge .ensures .1 .1)
 
 slice-aggregate-judge : tie.Need-slice-aggregate-judge
@@ -106,7 +106,7 @@ analyse-chart-requires c κs = let h = handed (c .before .before .before .before
 returns : tie.Need-returns
 returns c =
     let j = c .before .before .before .before .before .before .before .before .before .before .before .before .before in
-    let e = sym (ap meantRead (c .before .a .given .1)) ∙ j .judge .ensures .0 in
+    let e = sym (ap readAs (c .before .a .given .1)) ∙ j .judge .ensures .0 in
     let a = start j .args in
     (refused-answer (a .file .now) (a .live .now) e, refused-list (a .file .now) (a .live .now) e)
 

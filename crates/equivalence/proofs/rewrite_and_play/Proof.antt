@@ -3,9 +3,9 @@ use mathlib.Core.Path.{sym, ap, _∙_}
 use lib.ListN.{length-take}
 use Prim.Native.Nat.{ℕ}
 use native.Mathlib.Omega.{arith}
-use Rattle.file_format.proofs.RoundTrip.{Bytes}
+use Rattle.file_format.specs.Parse.{Bytes}
 use Rattle.judgement.proofs.Loading.{bytes-are}
-use Rattle.rewriting.specs.Rewriting.{meantRewritten}
+use Rattle.rewriting.specs.Rewriting.{rewrittenAs}
 use Rattle.equivalence.proofs.RewrittenFile.{Left, left, claim-of, board-refused, board-played}
 use borrow.Author.Needs.{needs}
 use Rattle.equivalence.proofs.rewrite_and_play.Statement.{statement}
@@ -27,7 +27,7 @@ size c = c .before .a2 .given .0 .1 .0
 
 written : (c : tie.After-known-told2) → Left (start (answered c) .args .k) (start (answered c) .args .file .now) (size c) (answered c .rewrite .last .1 .1 .0)
 written c = let r = answered c .rewrite in
-    left _ _ _ _ _ (sym (ap meantRewritten (c .before .a2 .given .1)) ∙ r .ensures .0) (r .ensures .1)
+    left _ _ _ _ _ (sym (ap rewrittenAs (c .before .a2 .given .1)) ∙ r .ensures .0) (r .ensures .1)
 
 play-requires : tie.Need-play-requires
 play-requires c κs = search needs
@@ -56,7 +56,7 @@ play-requires-2 c κs = search needs
 returns : tie.Need-returns
 returns c = let a = c .before .before .before .before in
     claim-of _ _ _ _ _ _ _ (bytes a) (c .before .before .before .before .before .before .play .ensures)
-    (board-refused _ _ _ _ _ (sym (ap meantRewritten (c .before .a .given .1)) ∙ a .rewrite .ensures .0))
+    (board-refused _ _ _ _ _ (sym (ap rewrittenAs (c .before .a .given .1)) ∙ a .rewrite .ensures .0))
 
 returns-2 : tie.Need-returns-2
 returns-2 c = let d = c .before .before in

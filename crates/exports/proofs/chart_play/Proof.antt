@@ -5,7 +5,7 @@ use Prim.Native.Nat.{ℕ}
 use mir.Val.{boolByte}
 use Rattle.model.specs.Answer.{result}
 use Rattle.exports.specs.declared.chart_playing.{«chart_playing»}
-use Rattle.player.specs.Playing.{meantPlayed}
+use Rattle.player.specs.Playing.{playedAs}
 use Rattle.exports.specs.Exported.{playingOf}
 use borrow.Author.Needs.{needs}
 use Rattle.exports.proofs.chart_play.Statement.{statement}
@@ -36,10 +36,10 @@ cast-t13 : tie.Need-cast-t13
 cast-t13 c = search needs
 
 returns : tie.Need-returns
-returns c = let g = c .before .a .given .0 in arrived (g .0) (g .1 .0) (g .1 .1 .0) ∙ ap playingOf (sym (ap meantPlayed (c .before .a .given .1)) ∙ c .before .before .before .play .ensures)
+returns c = let g = c .before .a .given .0 in arrived (g .0) (g .1 .0) (g .1 .1 .0) ∙ ap playingOf (sym (ap playedAs (c .before .a .given .1)) ∙ c .before .before .before .play .ensures)
 
 returns-2 : tie.Need-returns-2
-returns-2 c = ap playingOf (sym (ap meantPlayed (c .before .before .a2 .given .1)) ∙ c .before .before .before .before .play .ensures)
+returns-2 c = ap playingOf (sym (ap playedAs (c .before .before .a2 .given .1)) ∙ c .before .before .before .before .play .ensures)
 
 pub chart-play-spec : {M : Type 1} → statement M
 chart-play-spec =

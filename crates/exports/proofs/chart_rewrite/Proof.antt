@@ -1,6 +1,6 @@
 -- `chart_rewrite`: the answer of the rewriting, field by field, and its lent memory. Assumes nothing.
 use mathlib.Core.Path.{sym, ap, _∙_}
-use Rattle.rewriting.specs.Rewriting.{meantRewritten}
+use Rattle.rewriting.specs.Rewriting.{rewrittenAs}
 use Rattle.exports.specs.Exported.{rewritingOf}
 use borrow.Author.Needs.{needs}
 use Rattle.exports.proofs.chart_rewrite.Statement.{statement}
@@ -25,13 +25,13 @@ same-length : tie.Need-same-length
 same-length c = search needs
 
 returns : tie.Need-returns
-returns c = let e = c .before .before .before .before .before .rewrite .ensures in (ap rewritingOf (sym (ap meantRewritten (c .before .a .given .1)) ∙ e .0), e .1)
+returns c = let e = c .before .before .before .before .before .rewrite .ensures in (ap rewritingOf (sym (ap rewrittenAs (c .before .a .given .1)) ∙ e .0), e .1)
 
 same-length-2 : tie.Need-same-length-2
 same-length-2 c = search needs
 
 returns-2 : tie.Need-returns-2
-returns-2 c = let e = c .before .before .before .before .before .before .rewrite .ensures in (ap rewritingOf (sym (ap meantRewritten (c .before .before .a2 .given .1)) ∙ e .0), e .1)
+returns-2 c = let e = c .before .before .before .before .before .before .rewrite .ensures in (ap rewritingOf (sym (ap rewrittenAs (c .before .before .a2 .given .1)) ∙ e .0), e .1)
 
 pub chart-rewrite-spec : {M : Type 1} → statement M
 chart-rewrite-spec =

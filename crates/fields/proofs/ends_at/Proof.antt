@@ -5,7 +5,7 @@ use denote.Ref.{now}
 use borrow.Author.Needs.{needs}
 use Rattle.file_format.specs.Parse.{value, number, below}
 use Rattle.file_format.proofs.Parsed.{below-limit}
-use Rattle.fields.specs.Meaning.{meant}
+use Rattle.fields.specs.Meaning.{fieldAs}
 use Rattle.fields.proofs.Answers.{told, turned}
 use Rattle.fields.proofs.Steps.{ends-length, ends-source, ends-target, ends-event, ends-whole}
 use Rattle.fields.proofs.ends_at.Statement.{statement}
@@ -14,19 +14,19 @@ use Rattle.fields.proofs.ends_at.Tie as tie
 -- what each field is where its value was bound
 length-at : (c : tie.After-known-told) → let a = c .before .before .before .before .before .args in
     number 2 (drop (a .at) (now (a .s))) ≡ value (c .before .a .given .0 .0) (drop (c .before .a .given .0 .1 .0) (now (a .s)))
-length-at c = told (meant (now (c .before .before .before .before .before .args .s))) (c .before .a .given .1) (c .before .before .before .pair-at .ensures .reads)
+length-at c = told (fieldAs (now (c .before .before .before .before .before .args .s))) (c .before .a .given .1) (c .before .before .before .pair-at .ensures .reads)
 
 source-at : (c : tie.After-known-told2) → let a = c .before .before .before .before .before .before .before .before .before .args in
     below 2 (a .locations) 5 (a .place) (drop (c .before .before .before .before .before .a .given .0 .1 .0) (now (a .s))) ≡ value (c .before .b .given .0 .0) (drop (c .before .b .given .0 .1 .0) (now (a .s)))
-source-at c = told (meant (now (c .before .before .before .before .before .before .before .before .before .args .s))) (c .before .b .given .1) (c .before .before .before .pair-below .ensures)
+source-at c = told (fieldAs (now (c .before .before .before .before .before .before .before .before .before .args .s))) (c .before .b .given .1) (c .before .before .before .pair-below .ensures)
 
 target-at : (c : tie.After-known-told3) → let a = c .before .before .before .before .before .before .before .before .before .before .before .before .before .args in
     below 2 (a .locations) 5 (a .place) (drop (c .before .before .before .before .before .b .given .0 .1 .0) (now (a .s))) ≡ value (c .before .d .given .0 .0) (drop (c .before .d .given .0 .1 .0) (now (a .s)))
-target-at c = told (meant (now (c .before .before .before .before .before .before .before .before .before .before .before .before .before .args .s))) (c .before .d .given .1) (c .before .before .before .pair-below2 .ensures)
+target-at c = told (fieldAs (now (c .before .before .before .before .before .before .before .before .before .before .before .before .before .args .s))) (c .before .d .given .1) (c .before .before .before .pair-below2 .ensures)
 
 event-at : (c : tie.After-known-told4) → let a = c .before .before .before .before .before .before .before .before .before .before .before .before .before .before .before .before .before .args in
     number 1 (drop (c .before .before .before .before .before .d .given .0 .1 .0) (now (a .s))) ≡ value (c .before .e .given .0 .0) (drop (c .before .e .given .0 .1 .0) (now (a .s)))
-event-at c = told (meant (now (c .before .before .before .before .before .before .before .before .before .before .before .before .before .before .before .before .before .args .s))) (c .before .e .given .1) (c .before .before .before .byte-at .ensures .reads)
+event-at c = told (fieldAs (now (c .before .before .before .before .before .before .before .before .before .before .before .before .before .before .before .before .before .args .s))) (c .before .e .given .1) (c .before .before .before .byte-at .ensures .reads)
 
 pair-at-requires : tie.Need-pair-at-requires
 pair-at-requires c κs = search needs

@@ -5,7 +5,7 @@ use denote.Ref.{now}
 use borrow.Author.Needs.{needs}
 use Rattle.file_format.specs.Parse.{value, number, below}
 use Rattle.file_format.proofs.Parsed.{below-limit}
-use Rattle.fields.specs.Meaning.{meant, meantEnds}
+use Rattle.fields.specs.Meaning.{fieldAs, endsAs}
 use Rattle.fields.specs.Parts.{readEnds, readStarts}
 use Rattle.fields.proofs.Answers.{told, turned}
 use Rattle.fields.proofs.Steps.{head-ends, head-count, head-starts, head-tests, head-length, head-most, head-whole}
@@ -16,19 +16,19 @@ use Rattle.fields.proofs.head_at.Tie as tie
 ends-at : (c : tie.After-known-told) → let a = c .before .before .before .before .before .args in let g = c .before .a .given .0 in
     readEnds (a .locations) (a .place) (drop (a .at) (now (a .s)))
     ≡ value (record { length = g .0; source = g .1 .0; target = g .1 .1 .0; event = g .1 .1 .1 .0 }) (drop (g .1 .1 .1 .1 .0) (now (a .s)))
-ends-at c = told (meantEnds (now (c .before .before .before .before .before .args .s))) (c .before .a .given .1) (c .before .before .before .ends-at .ensures)
+ends-at c = told (endsAs (now (c .before .before .before .before .before .args .s))) (c .before .a .given .1) (c .before .before .before .ends-at .ensures)
 
 count-at : (c : tie.After-known-told2) → let a = c .before .before .before .before .before .before .before .before .before .args in
     below 1 65 4 (a .place) (drop (c .before .before .before .before .before .a .given .0 .1 .1 .1 .1 .0) (now (a .s))) ≡ value (c .before .b .given .0 .0) (drop (c .before .b .given .0 .1 .0) (now (a .s)))
-count-at c = told (meant (now (c .before .before .before .before .before .before .before .before .before .args .s))) (c .before .b .given .1) (c .before .before .before .byte-below .ensures)
+count-at c = told (fieldAs (now (c .before .before .before .before .before .before .before .before .before .args .s))) (c .before .b .given .1) (c .before .before .before .byte-below .ensures)
 
 starts-at : (c : tie.After-known-told3) → let a = c .before .before .before .before .before .before .before .before .before .before .before .before .before .args in
     readStarts (a .timers) (a .place) (c .before .before .before .before .before .b .given .0 .0) (drop (c .before .before .before .before .before .b .given .0 .1 .0) (now (a .s))) ≡ value (c .before .d .given .0 .0) (drop (c .before .d .given .0 .1 .0) (now (a .s)))
-starts-at c = told (meant (now (c .before .before .before .before .before .before .before .before .before .before .before .before .before .args .s))) (c .before .d .given .1) (c .before .before .before .starts-at .ensures)
+starts-at c = told (fieldAs (now (c .before .before .before .before .before .before .before .before .before .before .before .before .before .args .s))) (c .before .d .given .1) (c .before .before .before .starts-at .ensures)
 
 tests-at : (c : tie.After-known-told4) → let a = c .before .before .before .before .before .before .before .before .before .before .before .before .before .before .before .before .before .args in
     number 1 (drop (c .before .before .before .before .before .d .given .0 .1 .0) (now (a .s))) ≡ value (c .before .e .given .0 .0) (drop (c .before .e .given .0 .1 .0) (now (a .s)))
-tests-at c = told (meant (now (c .before .before .before .before .before .before .before .before .before .before .before .before .before .before .before .before .before .args .s))) (c .before .e .given .1) (c .before .before .before .byte-at .ensures .reads)
+tests-at c = told (fieldAs (now (c .before .before .before .before .before .before .before .before .before .before .before .before .before .before .before .before .before .args .s))) (c .before .e .given .1) (c .before .before .before .byte-at .ensures .reads)
 
 ends-at-requires : tie.Need-ends-at-requires
 ends-at-requires c κs = search needs
@@ -46,7 +46,7 @@ returns : tie.Need-returns
 returns c =
     let a = c .before .before .before .before .before .args in
     rw (c .ends-refusal .ensures, c .before .enum-told .given .1)
-    (head-ends (a .locations) (a .timers) (a .place) _ (told (meantEnds (now (a .s))) (c .before .enum-told .given .1) (c .before .before .before .ends-at .ensures)))
+    (head-ends (a .locations) (a .timers) (a .place) _ (told (endsAs (now (a .s))) (c .before .enum-told .given .1) (c .before .before .before .ends-at .ensures)))
 
 byte-below-requires : tie.Need-byte-below-requires
 byte-below-requires c κs = search needs

@@ -6,7 +6,7 @@ use denote.Ref.{now}
 use borrow.Author.Needs.{needs}
 use Rattle.file_format.specs.Parse.{value, below}
 use Rattle.file_format.proofs.Parsed.{below-limit}
-use Rattle.fields.specs.Meaning.{meant}
+use Rattle.fields.specs.Meaning.{fieldAs}
 use Rattle.fields.proofs.Answers.{told}
 use Rattle.fields.proofs.StartsLoop.{Starting, starts-first, starts-done, starts-refused, starts-low, starts-again}
 use Rattle.fields.proofs.starts_at.Statement.{statement}
@@ -21,7 +21,7 @@ abbrev μ-loop : tie.MeasureT-loop
 -- what stands at `here` where it is a number below the limit
 read-at : (c : tie.After-known-told Inv-loop μ-loop) → let d = c .before .before .before .before .before in let a = d .before .before .args in
     below 1 (a .timers) 6 (a .place) (drop (d .loop .here) (now (a .s))) ≡ value (c .before .a .given .0 .0) (drop (c .before .a .given .0 .1 .0) (now (a .s)))
-read-at c = let d = c .before .before .before in told (meant (now (d .before .before .before .before .args .s))) (c .before .a .given .1) (d .byte-below .ensures)
+read-at c = let d = c .before .before .before in told (fieldAs (now (d .before .before .before .before .args .s))) (c .before .a .given .1) (d .byte-below .ensures)
 
 loop-holds : tie.Need-loop-holds Inv-loop μ-loop
 loop-holds c = let a = c .before .args in starts-first (a .timers) (a .place) (now (a .s)) (a .at) (a .n)
@@ -39,7 +39,7 @@ returns : tie.Need-returns Inv-loop μ-loop
 returns c =
     let d = c .before .before in
     let k = d .byte-below .ensures in
-    let h = told (meant (now (d .before .before .before .before .args .s))) (c .enum-told .given .1) k in
+    let h = told (fieldAs (now (d .before .before .before .before .args .s))) (c .enum-told .given .1) k in
     (k ∙ h) ∙ starts-refused (d .before .before .loop .inv) (d .before .loop-test .taken) h
 
 returns-2 : tie.Need-returns-2 Inv-loop μ-loop

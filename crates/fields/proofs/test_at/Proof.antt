@@ -8,7 +8,7 @@ use Rattle.comparison.specs.Comparison.{comparisonOf}
 use Rattle.comparison.specs.Decoding.{decodedOf}
 use Rattle.file_format.specs.Parse.{value, number, below}
 use Rattle.file_format.proofs.Parsed.{below-limit}
-use Rattle.fields.specs.Meaning.{meant}
+use Rattle.fields.specs.Meaning.{fieldAs}
 use Rattle.fields.proofs.Answers.{told, turned}
 use Rattle.fields.proofs.Steps.{test-timer, test-code, test-unknown, test-constant, test-whole}
 use Rattle.fields.proofs.test_at.Statement.{statement}
@@ -17,18 +17,18 @@ use Rattle.fields.proofs.test_at.Tie as tie
 -- what each field is where its value was bound
 timer-at : (c : tie.After-known-told) → let a = c .before .before .before .before .before .args in
     below 1 (a .timers) 6 (a .place) (drop (a .at) (now (a .s))) ≡ value (c .before .a .given .0 .0) (drop (c .before .a .given .0 .1 .0) (now (a .s)))
-timer-at c = told (meant (now (c .before .before .before .before .before .args .s))) (c .before .a .given .1) (c .before .before .before .byte-below .ensures)
+timer-at c = told (fieldAs (now (c .before .before .before .before .before .args .s))) (c .before .a .given .1) (c .before .before .before .byte-below .ensures)
 
 code-at : (c : tie.After-known-told2) → let a = c .before .before .before .before .before .before .before .before .before .args in
     number 1 (drop (c .before .before .before .before .before .a .given .0 .1 .0) (now (a .s))) ≡ value (c .before .b .given .0 .0) (drop (c .before .b .given .0 .1 .0) (now (a .s)))
-code-at c = told (meant (now (c .before .before .before .before .before .before .before .before .before .args .s))) (c .before .b .given .1) (c .before .before .before .byte-at .ensures .reads)
+code-at c = told (fieldAs (now (c .before .before .before .before .before .before .before .before .before .args .s))) (c .before .b .given .1) (c .before .before .before .byte-at .ensures .reads)
 
 comparison-at : (c : tie.After-known-told3) → comparisonOf (c .before .before .before .before .before .b .given .0 .0) ≡ some (c .before .d .given .0 .0)
 comparison-at c = sym (c .before .before .before .decode .ensures) ∙ ap decodedOf (c .before .d .given .1)
 
 constant-at : (c : tie.After-known-told4) → let a = c .before .before .before .before .before .before .before .before .before .before .before .before .before .before .before .before .before .args in
     number 2 (drop (c .before .before .before .before .before .before .before .before .before .b .given .0 .1 .0) (now (a .s))) ≡ value (c .before .e .given .0 .0) (drop (c .before .e .given .0 .1 .0) (now (a .s)))
-constant-at c = told (meant (now (c .before .before .before .before .before .before .before .before .before .before .before .before .before .before .before .before .before .args .s))) (c .before .e .given .1) (c .before .before .before .pair-at .ensures .reads)
+constant-at c = told (fieldAs (now (c .before .before .before .before .before .before .before .before .before .before .before .before .before .before .before .before .before .args .s))) (c .before .e .given .1) (c .before .before .before .pair-at .ensures .reads)
 
 byte-below-requires : tie.Need-byte-below-requires
 byte-below-requires c κs = search needs

@@ -6,7 +6,7 @@ use native.Mathlib.Omega.{arith}
 use lib.ListN.{length, length-replicate}
 use borrow.Author.Count.{below-none}
 use Rattle.model.specs.Flow.{Flow, roundsOf}
-use Rattle.model.proofs.Flow.{Shaped}
+use Rattle.model.specs.Comes.{Shaped}
 use Rattle.model.proofs.Settled.{Changes}
 use Rattle.flow.specs.Edges.{flowOf, Matching}
 use Rattle.flow.proofs.EdgeLists.{shaped-lists, few-rounds}

@@ -6,7 +6,7 @@ use native.Mathlib.Omega.{arith}
 use lib.ListN.{length}
 use Rattle.lists.specs.Lists.{sumOf}
 use Rattle.model.specs.Flow.{Flow}
-use Rattle.model.proofs.Flow.{Shaped}
+use Rattle.model.specs.Comes.{Shaped}
 use Rattle.model.proofs.Rounds.{Words}
 use Rattle.flow.specs.Edges.{flowOf}
 use Rattle.flow.proofs.EdgeLists.{shaped-lists}

@@ -4,11 +4,12 @@ use mathlib.Core.List.{List}
 use Prim.Native.Nat.{ℕ}
 use denote.Ref.{now}
 use Rattle.file_format.specs.File.{chartIn}
-use Rattle.file_format.proofs.RoundTrip.{Bytes}
 use Rattle.chart_lists.specs.Lists.{lists}
-use Rattle.reader.specs.Reading.{meantRead, listsAfter}
-use Rattle.judgement.specs.Judging.{numbersRead, largest}
+use Rattle.chart_lists.specs.Read.{readAs}
+use Rattle.reader.specs.Reading.{listsAfter}
+use Rattle.judgement.specs.Judging.{headerRead, largest}
 use Rattle.judgement.specs.Holds.{Holds}
+use Rattle.file_format.specs.Parse.{Bytes}
 use Rattle.judgement.proofs.Loading.{bytes-are, loaded-answer, loaded-lists}
 use Rattle.judgement.proofs.Fronts.{holds, refused-answer, refused-tested}
 use borrow.Author.Needs.{needs}
@@ -28,7 +29,7 @@ file c = now (start c .args .file)
 bytes : (c : Loaded) → Bytes (file c)
 bytes c = bytes-are (file c) (λ i. c .before .before .before .before .before .before .before .before .before .before .before .before .before .before .before .before .before .before .before .before .shared-slice-known .given i .fits)
 
-answer-is : (c : Loaded) → meantRead (c .read-chart .result) ≡ numbersRead (file c)
+answer-is : (c : Loaded) → readAs (c .read-chart .result) ≡ headerRead (file c)
 answer-is c = loaded-answer (start c .pre) (file c) (bytes c) (c .read-chart .ensures .0)
 
 lists-are : (c : Loaded) → let l = c .read-chart .last in
@@ -43,7 +44,7 @@ held : (c : tie.After-answer) → let l = loaded c .read-chart .last in
     Holds (file (loaded c)) (c .answer .given .0 .0) (l .1 .1 .0) (l .1 .1 .1 .0) (l .1 .1 .1 .1 .1 .0) (l .1 .1 .1 .1 .1 .1 .0) (l .1 .1 .1 .1 .1 .1 .1 .0)
 held c =
     let r = loaded c in
-    holds (file r) (bytes r) _ _ _ _ _ _ _ _ _ (sym (ap meantRead (c .answer .given .1)) ∙ answer-is r) (lists-are r)
+    holds (file r) (bytes r) _ _ _ _ _ _ _ _ _ (sym (ap readAs (c .answer .given .1)) ∙ answer-is r) (lists-are r)
 
 read-chart-requires : tie.Need-read-chart-requires
 read-chart-requires c κs = search needs
@@ -84,8 +85,8 @@ same-length-9 c = search needs
 returns : tie.Need-returns
 returns c =
     let r = c .before .before .before .before .before .before .before .before .before .before .before .before .before .before .before .before .before .before .before .before in
-    let e = sym (ap meantRead (c .enum-told .given .1)) ∙ answer-is r in
-    (ap meantRead (c .enum-told .given .1) ∙ refused-answer _ e, (lists-are r, refused-tested _ e (start r .pre .tested-are)))
+    let e = sym (ap readAs (c .enum-told .given .1)) ∙ answer-is r in
+    (ap readAs (c .enum-told .given .1) ∙ refused-answer _ e, (lists-are r, refused-tested _ e (start r .pre .tested-are)))
 
 judge-chart-requires : tie.Need-judge-chart-requires
 judge-chart-requires c κs = let f = c .before .before .before .before .before .before .before in ((file (loaded f), held f), start (loaded f) .pre .tested-are)

@@ -20,7 +20,7 @@ abbrev start : Made → tie.Start
 start c = c .before .before .before .before .before .before .before .before .before .before
 
 abbrev HoldsIn : Made → List ℕ → Type 0
-HoldsIn c bs = let a = start c .args in Holds bs (a .numbers) (a .sources .now) (a .targets .now) (a .starts .now) (a .counts .now) (a .timers .now)
+HoldsIn c bs = let a = start c .args in Holds bs (a .numbers) (a .sources .now) (a .targets .now) (a .starts .now) (a .test-counts .now) (a .timers .now)
 
 tested-is : (c : Made) (bs : List ℕ) (h : HoldsIn c bs) → c .tested-sets .last .1 .1 .0 ≡ put (map testsSet (h .chart .transitions)) (replicate 512 0)
 tested-is c bs h = rw (start c .pre .1) at (c .tested-sets .ensures (h .chart .transitions) (tests-of h))
@@ -29,13 +29,13 @@ cast-n : tie.Need-cast-n
 cast-n c = search needs
 
 slice-aggregate-tested-sets : tie.Need-slice-aggregate-tested-sets
-slice-aggregate-tested-sets c = let h = c .before .before .before .before .before .before .before .before .pre .0 .1 in sym (lent-part h _ (h .counts-are))
+slice-aggregate-tested-sets c = let h = c .before .before .before .before .before .before .before .before .pre .0 .1 in sym (lent-part h _ (h .test-counts-are))
 
 tested-sets-requires : tie.Need-tested-sets-requires
 tested-sets-requires c κs =
     let p = c .before .before .before .before .before .before .before .before .before .pre in
     let h = p .0 .1 in
-    (timers-for h, omega (arith, few h, lent-part h _ (h .counts-are), ap length (p .1), length-replicate {A = ℕ} 512 0))
+    (timers-for h, omega (arith, few h, lent-part h _ (h .test-counts-are), ap length (p .1), length-replicate {A = ℕ} 512 0))
 
 slice-aggregate-judge-lists : tie.Need-slice-aggregate-judge-lists
 slice-aggregate-judge-lists c = let h = c .before .before .before .before .before .before .before .before .before .before .before .before .before .pre .0 .1 in sym (lent-part h _ (h .sources-are))

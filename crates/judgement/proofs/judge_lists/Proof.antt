@@ -4,8 +4,8 @@ use Prim.Native.Nat.{ℕ}
 use lib.ListN.{length, take, replicate}
 use Rattle.model.specs.Chart.{Chart}
 use Rattle.model.specs.Live.{firstUnreached}
-use Rattle.chart_lists.specs.declared.Numbers.{Numbers}
-use Rattle.chart_lists.specs.Numbers.{numbersOf}
+use Rattle.chart_lists.specs.declared.Header.{Header}
+use Rattle.chart_lists.specs.Header.{headerOf}
 use Rattle.judgement.specs.Drawn.{Drawable, Drawn}
 use Rattle.judgement.proofs.OwnSets.{few-locations}
 use Rattle.judgement.proofs.Lent.{none-front, none-length, none-cut, lent-length, lent-drawable, made-room, seen-length, seen-sets, sources-seen}
@@ -56,16 +56,16 @@ first-unreached-requires c κs =
 
 -- the place of 9, if there is one
 lost-is : (c : tie.After-first-unreached) (chart : Chart) → let a = c .before .before .before .before .before .before .before .before .before .before .before .before .before .args in
-    Drawn chart (a .numbers .initial) (a .numbers .locations) (a .sources .now) (a .targets .now) (a .starts .now) (a .tested .now) → a .numbers ≡ numbersOf chart
+    Drawn chart (a .numbers .initial) (a .numbers .locations) (a .sources .now) (a .targets .now) (a .starts .now) (a .tested .now) → a .numbers ≡ headerOf chart
     → c .first-unreached .result ≡ firstUnreached chart
-unfolding numbersOf
+unfolding headerOf
 lost-is c chart d k =
     let s = c .before .before .before .before .before .before .before .before .before .before .before .before .before in
     let a = s .args in
     let f = c .before .before .before .before .forward .ensures in
     c .first-unreached .ensures chart (a .starts .now) (a .tested .now)
     (subst (λ (n : ℕ). Drawn chart (a .numbers .initial) n (a .sources .now) (a .targets .now) (a .starts .now) (a .tested .now)) (sym (seen-length (s .pre .0) f _)) d)
-    (ap (λ (m : Numbers). m .timers) k) (seen-sets (s .pre .0) f _ ∙ unstarted-are d)
+    (ap (λ (m : Header). m .timers) k) (seen-sets (s .pre .0) f _ ∙ unstarted-are d)
 
 returns : tie.Need-returns
 returns c chart d k = answer-9 d (lost-is (c .before) chart d k) (c .if1 .taken)

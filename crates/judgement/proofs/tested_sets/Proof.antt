@@ -12,11 +12,11 @@ use Rattle.judgement.proofs.tested_sets.Statement.{statement}
 use Rattle.judgement.proofs.tested_sets.Tie as tie
 
 abbrev Inv-loop : tie.InvT-loop
-Inv-loop counts timers tested₀ n base₀ i₀ tested base i = (i ≤ n) × (n ≡ length counts) × (length tested ≡ length tested₀)
-    × (base ≡ total (take i counts)) × (tested ≡ put (setsIn (take i counts) timers) tested₀)
+Inv-loop test-counts timers tested₀ n base₀ i₀ tested base i = (i ≤ n) × (n ≡ length test-counts) × (length tested ≡ length tested₀)
+    × (base ≡ total (take i test-counts)) × (tested ≡ put (setsIn (take i test-counts) timers) tested₀)
 
 abbrev μ-loop : tie.MeasureT-loop
-μ-loop counts timers tested₀ n base₀ i₀ tested base i = n - i
+μ-loop test-counts timers tested₀ n base₀ i₀ tested base i = n - i
 
 loop-holds : tie.Need-loop-holds Inv-loop μ-loop
 unfolding total setsIn put
@@ -24,11 +24,11 @@ loop-holds c = (omega arith, refl, refl, refl, refl)
 
 -- the timers of the next transition's tests are there
 room : (c : tie.In-loop Inv-loop μ-loop) → let a = c .before .before .before .before .before .args in
-    c .before .loop .base + getD (a .counts .now) (c .before .loop .i) 0 ≤ length (a .timers .now)
+    c .before .loop .base + getD (a .test-counts .now) (c .before .loop .i) 0 ≤ length (a .timers .now)
 room c =
     let a = c .before .before .before .before .before .args in
     let l = c .before .loop in
-    omega (arith, total-room (a .counts .now) (a .timers .now) (l .i) (omega arith), c .before .before .before .before .before .pre .0 .enough)
+    omega (arith, total-room (a .test-counts .now) (a .timers .now) (l .i) (omega arith), c .before .before .before .before .before .pre .0 .enough)
 
 shared-slice-read-count : tie.Need-shared-slice-read-count Inv-loop μ-loop
 shared-slice-read-count c = search needs
@@ -58,12 +58,12 @@ loop-again : tie.Need-loop-again Inv-loop μ-loop
 loop-again c =
     let l = c .before .before .before .loop in
     let a = c .before .before .before .before .before .before .before .args in
-    let h : l .i < length (a .counts .now) = omega arith in (
+    let h : l .i < length (a .test-counts .now) = omega arith in (
       omega arith,
       refl,
       length-set (l .tested) (l .i) (c .set-of .result) ∙ l .inv .2,
-      total-more (a .counts .now) (a .timers .now) (l .i) h (l .inv .3),
-      sets-more (a .counts .now) (a .timers .now) (l .i) h (a .tested .now) (c .before .before .before .before .before .before .before .pre .1) (l .inv .3) (l .inv .4) (c .set-of .ensures),
+      total-more (a .test-counts .now) (a .timers .now) (l .i) h (l .inv .3),
+      sets-more (a .test-counts .now) (a .timers .now) (l .i) h (a .tested .now) (c .before .before .before .before .before .before .before .pre .1) (l .inv .3) (l .inv .4) (c .set-of .ensures),
     )
 
 same-length : tie.Need-same-length Inv-loop μ-loop
@@ -73,8 +73,8 @@ returns : tie.Need-returns Inv-loop μ-loop
 returns c rs t =
     let l = c .before .loop in
     let a = c .before .before .before .before .before .args in
-    let e : l .i ≡ length (a .counts .now) = omega arith in
-    l .inv .4 ∙ ap (λ (s : List ℕ). put s (a .tested .now)) (rw e (tested-are rs (a .counts .now) (a .timers .now) t))
+    let e : l .i ≡ length (a .test-counts .now) = omega arith in
+    l .inv .4 ∙ ap (λ (s : List ℕ). put s (a .tested .now)) (rw e (tested-are rs (a .test-counts .now) (a .timers .now) t))
 
 pub tested-sets-spec : {M : Type 1} → statement M
 tested-sets-spec =

@@ -3,7 +3,7 @@ use mathlib.Core.Path.{refl, sym, ap, _∙_}
 use mathlib.Core.List.{List}
 use Prim.Native.Nat.{ℕ}
 use native.Mathlib.Omega.{arith}
-use Rattle.reader.specs.Reading.{meantRead}
+use Rattle.chart_lists.specs.Read.{readAs}
 use Rattle.judgement.specs.Judging.{largest}
 use Rattle.judgement.proofs.Loading.{bytes-are}
 use Rattle.judgement.proofs.Fronts.{lent-room, lent-part}
@@ -35,7 +35,7 @@ handed : (c : Found) → let l = judged c .judge .last in
     HandedOn (file (judged c)) (c .a2 .given .0 .0) (l .1 .1 .0) (l .1 .1 .1 .0) (l .1 .1 .1 .1 .1 .0) (l .1 .1 .1 .1 .1 .1 .0) (l .1 .1 .1 .1 .1 .1 .1 .0) (l .1 .1 .1 .1 .1 .1 .1 .1 .1 .1 .0)
 handed c =
     let j = judged c in
-    handed-on (file j) (bytes-are (file j) (λ i. j .before .before .before .before .before .before .before .before .before .before .before .shared-slice-known .given i .fits)) _ _ _ _ _ _ _ _ _ _ (sym (ap meantRead (c .a2 .given .1)) ∙ j .judge .ensures .0)
+    handed-on (file j) (bytes-are (file j) (λ i. j .before .before .before .before .before .before .before .before .before .before .before .shared-slice-known .given i .fits)) _ _ _ _ _ _ _ _ _ _ (sym (ap readAs (c .a2 .given .1)) ∙ j .judge .ensures .0)
     (j .judge .ensures .1 .0) (j .judge .ensures .1 .1)
 
 slice-aggregate-judge : tie.Need-slice-aggregate-judge
@@ -121,7 +121,7 @@ returns : tie.Need-returns
 returns c =
     let j = c .before .before .before .before .before .before .before .before .before .before .before .before .before .before .before .before .before in
     let a = start j .args in
-    let e = sym (ap meantRead (c .before .before .before .before .before .a .given .1)) ∙ j .judge .ensures .0 in
+    let e = sym (ap readAs (c .before .before .before .before .before .a .given .1)) ∙ j .judge .ensures .0 in
     written-as (c .before .before .put-refusal .ensures) (sym (ap (answerText (a .limit)) (accepted-refused (a .limit) (a .file .now) (judged-refused (a .file .now) e))))
 
 same-length-2 : tie.Need-same-length-2

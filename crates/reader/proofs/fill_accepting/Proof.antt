@@ -4,7 +4,7 @@ use Prim.Native.Nat.{_-_}
 use mathlib.Core.Path.{_≡_, refl}
 use denote.Ref.{now}
 use lib.ListN.{length, drop, length-set}
-use Rattle.fields.specs.Meaning.{meant}
+use Rattle.fields.specs.Meaning.{fieldAs}
 use Rattle.fields.proofs.Answers.{told}
 use Rattle.reader.proofs.Passing.{entry-limit}
 use Rattle.reader.proofs.Filling.{AcceptingFilled, filled-first, filled-done, filled-never, filled-again}
@@ -33,11 +33,11 @@ same-length : tie.Need-same-length Inv-loop μ-loop
 same-length c = c .before .before .before .before .loop .inv .0
 
 returns : tie.Need-returns Inv-loop μ-loop
-returns c = λ xs t e. let h = told (meant (now (c .before .before .before .before .before .before .before .args .s))) (c .enum-told .given .1) (c .before .before .entry-at .ensures) in
+returns c = λ xs t e. let h = told (fieldAs (now (c .before .before .before .before .before .before .before .args .s))) (c .enum-told .given .1) (c .before .before .entry-at .ensures) in
     absurd (filled-never (c .before .before .before .before .loop .inv .1) (c .before .before .before .loop-test .taken) h xs t e)
 
 cast-accepting : tie.Need-cast-accepting Inv-loop μ-loop
-cast-accepting c = omega (arith, entry-limit _ _ _ _ _ _ (told (meant (now (c .before .before .before .before .before .before .before .before .args .s))) (c .before .a .given .1) (c .before .before .before .entry-at .ensures)))
+cast-accepting c = omega (arith, entry-limit _ _ _ _ _ _ (told (fieldAs (now (c .before .before .before .before .before .before .before .before .args .s))) (c .before .a .given .1) (c .before .before .before .entry-at .ensures)))
 
 mul-accepting : tie.Need-mul-accepting Inv-loop μ-loop
 mul-accepting c = search needs
@@ -46,7 +46,7 @@ slice-write-accepting : tie.Need-slice-write-accepting Inv-loop μ-loop
 slice-write-accepting c = search needs
 
 add-lowest : tie.Need-add-lowest Inv-loop μ-loop
-add-lowest c = omega (arith, entry-limit _ _ _ _ _ _ (told (meant (now (c .before .before .before .before .before .before .before .before .args .s))) (c .before .a .given .1) (c .before .before .before .entry-at .ensures)))
+add-lowest c = omega (arith, entry-limit _ _ _ _ _ _ (told (fieldAs (now (c .before .before .before .before .before .before .before .before .args .s))) (c .before .a .given .1) (c .before .before .before .entry-at .ensures)))
 
 add-k : tie.Need-add-k Inv-loop μ-loop
 add-k c = search needs
@@ -56,7 +56,7 @@ loop-less c = search needs
 
 loop-again : tie.Need-loop-again Inv-loop μ-loop
 loop-again c =
-    let h = told (meant (now (c .before .before .before .before .before .before .before .before .args .s))) (c .before .a .given .1) (c .before .before .before .entry-at .ensures) in
+    let h = told (fieldAs (now (c .before .before .before .before .before .before .before .before .args .s))) (c .before .a .given .1) (c .before .before .before .entry-at .ensures) in
     (simp length-set (c .before .before .before .before .before .loop .inv .0), filled-again (c .before .before .before .before .before .loop .inv .1) (c .before .before .before .before .loop-test .taken) (c .before .before .before .before .before .before .before .before .pre) h)
 
 same-length-2 : tie.Need-same-length-2 Inv-loop μ-loop

@@ -3,7 +3,7 @@ use Prim.Native.Nat.{_-_}
 use mathlib.Core.Path.{_≡_, refl}
 use denote.Ref.{now}
 use lib.ListN.{length, drop, length-set}
-use Rattle.fields.specs.Meaning.{meantTest}
+use Rattle.fields.specs.Meaning.{testAs}
 use Rattle.fields.proofs.Answers.{told}
 use Rattle.reader.proofs.FillingTests.{TestsFilled, tests-begin, tests-done, tests-never, tests-again}
 use Rattle.reader.proofs.fill_record_tests.Statement.{statement}
@@ -44,7 +44,7 @@ same-length-3 c = c .before .before .before .before .loop .inv .2
 returns : tie.Need-returns Inv-loop μ-loop
 returns c = λ ts t e. let a = c .before .before .before .before .before .before .before .before .before .args in
     let p = c .before .before .before .before .before .before .before .before .before .pre in
-    let h = told (meantTest (now (a .s))) (c .enum-told .given .1) (c .before .before .test-at .ensures) in
+    let h = told (testAs (now (a .s))) (c .enum-told .given .1) (c .before .before .test-at .ensures) in
     absurd (tests-never (a .timers) (a .place) (a .g) (a .base) (drop (a .at) (now (a .s))) _ _ _ (p .0) (p .1) (p .2) (c .before .before .before .before .loop .inv .3) (c .before .before .before .loop-test .taken) h ts t e)
 
 cast-to : tie.Need-cast-to Inv-loop μ-loop
@@ -79,7 +79,7 @@ loop-again c =
     let a = c .before .before .before .before .before .before .before .before .before .before .before .args in
     let p = c .before .before .before .before .before .before .before .before .before .before .before .pre in
     let l = c .before .before .before .before .before .before .loop .inv in
-    let h = told (meantTest (now (a .s))) (c .before .before .a .given .1) (c .before .before .before .before .test-at .ensures) in (
+    let h = told (testAs (now (a .s))) (c .before .before .a .given .1) (c .before .before .before .before .test-at .ensures) in (
       simp length-set (l .0),
       simp length-set (l .1),
       simp length-set (l .2),

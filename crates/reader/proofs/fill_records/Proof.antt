@@ -11,13 +11,13 @@ use Rattle.reader.proofs.fill_records.Statement.{statement}
 use Rattle.reader.proofs.fill_records.Tie as tie
 
 abbrev Inv-loop : tie.InvT-loop
-Inv-loop s at n locations timers sources₀ targets₀ events₀ starts₀ counts₀ tested₀ codes₀ constants₀ here₀ base₀ k₀ sources targets events starts counts tested codes constants here base k =
-    (length sources ≡ length sources₀) × (length targets ≡ length targets₀) × (length events ≡ length events₀) × (length starts ≡ length starts₀) × (length counts ≡ length counts₀)
+Inv-loop s at n locations timers sources₀ targets₀ events₀ starts₀ counts₀ tested₀ codes₀ constants₀ here₀ base₀ k₀ sources targets events starts test-counts tested codes constants here base k =
+    (length sources ≡ length sources₀) × (length targets ≡ length targets₀) × (length events ≡ length events₀) × (length starts ≡ length starts₀) × (length test-counts ≡ length counts₀)
     × (length tested ≡ length tested₀) × (length codes ≡ length codes₀) × (length constants ≡ length constants₀)
-    × RecordsFilled locations timers n k base (drop at s) (drop here s) sources₀ targets₀ events₀ starts₀ counts₀ tested₀ codes₀ constants₀ sources targets events starts counts tested codes constants
+    × RecordsFilled locations timers n k base (drop at s) (drop here s) sources₀ targets₀ events₀ starts₀ counts₀ tested₀ codes₀ constants₀ sources targets events starts test-counts tested codes constants
 
 abbrev μ-loop : tie.MeasureT-loop
-μ-loop s at n locations timers sources₀ targets₀ events₀ starts₀ counts₀ tested₀ codes₀ constants₀ here₀ base₀ k₀ sources targets events starts counts tested codes constants here base k = n - k
+μ-loop s at n locations timers sources₀ targets₀ events₀ starts₀ counts₀ tested₀ codes₀ constants₀ here₀ base₀ k₀ sources targets events starts test-counts tested codes constants here base k = n - k
 
 loop-holds : tie.Need-loop-holds Inv-loop μ-loop
 loop-holds c =
@@ -66,8 +66,8 @@ mul-starts c = search needs
 slice-write-starts : tie.Need-slice-write-starts Inv-loop μ-loop
 slice-write-starts c = search needs
 
-slice-write-counts : tie.Need-slice-write-counts Inv-loop μ-loop
-slice-write-counts c = search needs
+slice-write-test-counts : tie.Need-slice-write-test-counts Inv-loop μ-loop
+slice-write-test-counts c = search needs
 
 fill-record-tests-requires : tie.Need-fill-record-tests-requires Inv-loop μ-loop
 fill-record-tests-requires c κs =
@@ -151,7 +151,7 @@ fill-records-spec =
     slice-write-events
     mul-starts
     slice-write-starts
-    slice-write-counts
+    slice-write-test-counts
     fill-record-tests-requires
     cast-base
     add-base

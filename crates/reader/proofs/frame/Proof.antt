@@ -1,6 +1,6 @@
 use denote.Ref.{now}
 use native.Mathlib.Omega.{arith}
-use Rattle.fields.specs.Meaning.{meant}
+use Rattle.fields.specs.Meaning.{fieldAs}
 use Rattle.fields.proofs.Answers.{told}
 use Rattle.reader.proofs.FrameParts.{no-version, no-length, wrong-length, wrong-version, good-frame}
 use borrow.Author.Needs.{needs}
@@ -19,7 +19,7 @@ enum-told c = search needs
 returns : tie.Need-returns
 returns c =
     let s = now (c .before .before .before .before .args .s) in
-    no-version s (told (meant s) (c .enum-told .given .1) (c .before .before .byte-at .ensures .reads))
+    no-version s (told (fieldAs s) (c .enum-told .given .1) (c .before .before .byte-at .ensures .reads))
 
 quad-at-requires : tie.Need-quad-at-requires
 quad-at-requires c κs = search needs
@@ -33,7 +33,7 @@ enum-told-2 c = search needs
 returns-2 : tie.Need-returns-2
 returns-2 c =
     let s = now (c .before .before .before .before .before .before .before .before .args .s) in
-    no-length s (told (meant s) (c .before .before .before .before .a .given .1) (c .before .before .before .before .before .before .byte-at .ensures .reads)) (told (meant s) (c .enum-told2 .given .1) (c .before .before .quad-at .ensures .reads))
+    no-length s (told (fieldAs s) (c .before .before .before .before .a .given .1) (c .before .before .before .before .before .before .byte-at .ensures .reads)) (told (fieldAs s) (c .enum-told2 .given .1) (c .before .before .quad-at .ensures .reads))
 
 add-if1 : tie.Need-add-if1
 add-if1 c = omega (arith, c .before .before .before .quad-at .ensures .small _ _ (c .before .b .given .1))
@@ -41,17 +41,17 @@ add-if1 c = omega (arith, c .before .before .before .quad-at .ensures .small _ _
 returns-3 : tie.Need-returns-3
 returns-3 c =
     let s = now (c .before .before .before .before .before .before .before .before .before .before .args .s) in
-    wrong-length s (told (meant s) (c .before .before .before .before .before .before .a .given .1) (c .before .before .before .before .before .before .before .before .byte-at .ensures .reads)) (told (meant s) (c .before .before .b .given .1) (c .before .before .before .before .quad-at .ensures .reads)) (c .if1 .taken)
+    wrong-length s (told (fieldAs s) (c .before .before .before .before .before .before .a .given .1) (c .before .before .before .before .before .before .before .before .byte-at .ensures .reads)) (told (fieldAs s) (c .before .before .b .given .1) (c .before .before .before .before .quad-at .ensures .reads)) (c .if1 .taken)
 
 returns-4 : tie.Need-returns-4
 returns-4 c =
     let s = now (c .before .before .before .before .before .before .before .before .before .before .before .args .s) in
-    wrong-version s (told (meant s) (c .before .before .before .before .before .before .before .a .given .1) (c .before .before .before .before .before .before .before .before .before .byte-at .ensures .reads)) (told (meant s) (c .before .before .before .b .given .1) (c .before .before .before .before .before .quad-at .ensures .reads)) (c .before .if1 .left) (c .if2 .taken)
+    wrong-version s (told (fieldAs s) (c .before .before .before .before .before .before .before .a .given .1) (c .before .before .before .before .before .before .before .before .before .byte-at .ensures .reads)) (told (fieldAs s) (c .before .before .before .b .given .1) (c .before .before .before .before .before .quad-at .ensures .reads)) (c .before .if1 .left) (c .if2 .taken)
 
 returns-5 : tie.Need-returns-5
 returns-5 c =
     let s = now (c .before .before .before .before .before .before .before .before .before .before .before .args .s) in
-    good-frame s (told (meant s) (c .before .before .before .before .before .before .before .a .given .1) (c .before .before .before .before .before .before .before .before .before .byte-at .ensures .reads)) (told (meant s) (c .before .before .before .b .given .1) (c .before .before .before .before .before .quad-at .ensures .reads)) (c .before .if1 .left) (c .if2 .left)
+    good-frame s (told (fieldAs s) (c .before .before .before .before .before .before .before .a .given .1) (c .before .before .before .before .before .before .before .before .before .byte-at .ensures .reads)) (told (fieldAs s) (c .before .before .before .b .given .1) (c .before .before .before .before .before .quad-at .ensures .reads)) (c .before .if1 .left) (c .if2 .left)
 
 pub frame-spec : {M : Type 1} → statement M
 frame-spec =

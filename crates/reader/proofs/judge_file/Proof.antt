@@ -3,8 +3,8 @@ use Rattle.fields.proofs.Answers.{told, turned}
 use mathlib.Core.Path.{sym, ap, _∙_, subst}
 use denote.Ref.{now}
 use Rattle.file_format.proofs.Frame.{end-at, more-at}
-use Rattle.fields.specs.Meaning.{meant}
-use Rattle.reader.specs.Meaning.{meantFrame}
+use Rattle.fields.specs.Meaning.{fieldAs}
+use Rattle.reader.specs.Meaning.{frameAs}
 use Rattle.reader.proofs.JudgeParts.{judge-frame, judge-header, judge-transitions, judge-left, judge-good}
 use borrow.Author.Needs.{needs}
 use Rattle.reader.proofs.judge_file.Statement.{statement}
@@ -25,7 +25,7 @@ refusal-of-requires c κs = search needs
 returns : tie.Need-returns
 returns c =
     let s = now (c .before .before .before .before .before .args .s) in
-    rw (c .refusal-of .ensures, c .before .enum-told .given .1) (judge-frame s (sym (c .before .before .before .frame .ensures) ∙ ap (meantFrame s) (c .before .enum-told .given .1)))
+    rw (c .refusal-of .ensures, c .before .enum-told .given .1) (judge-frame s (sym (c .before .before .before .frame .ensures) ∙ ap (frameAs s) (c .before .enum-told .given .1)))
 
 header-at-requires : tie.Need-header-at-requires
 header-at-requires c κs = search needs
@@ -43,7 +43,7 @@ returns-2 : tie.Need-returns-2
 returns-2 c =
     let c₁ = c .before .before .before .before in
     let s = now (c₁ .before .before .before .before .before .args .s) in
-    let e₁ = sym (c₁ .before .before .before .frame .ensures) ∙ ap (meantFrame s) (c₁ .before .a .given .1) in
+    let e₁ = sym (c₁ .before .before .before .frame .ensures) ∙ ap (frameAs s) (c₁ .before .a .given .1) in
     rw (c .header-refusal .ensures, c .before .enum-told2 .given .1) (judge-header s e₁ (subst (HeaderAt s _) (c .before .enum-told2 .given .1) (c .before .before .before .header-at .ensures)))
 
 judge-records-requires : tie.Need-judge-records-requires
@@ -63,7 +63,7 @@ returns-3 c =
     let c₂ = c .before .before .before .before in
     let c₁ = c₂ .before .before .before .before in
     let s = now (c₁ .before .before .before .before .before .args .s) in
-    let e₁ = sym (c₁ .before .before .before .frame .ensures) ∙ ap (meantFrame s) (c₁ .before .a .given .1) in
+    let e₁ = sym (c₁ .before .before .before .frame .ensures) ∙ ap (frameAs s) (c₁ .before .a .given .1) in
     let h = subst (HeaderAt s _) (c₂ .before .b .given .1) (c₂ .before .before .before .header-at .ensures) in
     judge-transitions s e₁ h (turned s (c .before .enum-told3 .given .1) (c .refusal-of2 .ensures) (c .before .before .before .judge-records .ensures))
 
@@ -73,9 +73,9 @@ returns-4 c =
     let c₂ = c₃ .before .before .before .before in
     let c₁ = c₂ .before .before .before .before in
     let s = now (c₁ .before .before .before .before .before .args .s) in
-    let e₁ = sym (c₁ .before .before .before .frame .ensures) ∙ ap (meantFrame s) (c₁ .before .a .given .1) in
+    let e₁ = sym (c₁ .before .before .before .frame .ensures) ∙ ap (frameAs s) (c₁ .before .a .given .1) in
     let h = subst (HeaderAt s _) (c₂ .before .b .given .1) (c₂ .before .before .before .header-at .ensures) in
-    judge-left s e₁ h (told (meant s) (c₃ .before .d .given .1) (c₃ .before .before .before .judge-records .ensures)) (more-at s _ (c .if1 .taken))
+    judge-left s e₁ h (told (fieldAs s) (c₃ .before .d .given .1) (c₃ .before .before .before .judge-records .ensures)) (more-at s _ (c .if1 .taken))
 
 returns-5 : tie.Need-returns-5
 returns-5 c =
@@ -83,9 +83,9 @@ returns-5 c =
     let c₂ = c₃ .before .before .before .before in
     let c₁ = c₂ .before .before .before .before in
     let s = now (c₁ .before .before .before .before .before .args .s) in
-    let e₁ = sym (c₁ .before .before .before .frame .ensures) ∙ ap (meantFrame s) (c₁ .before .a .given .1) in
+    let e₁ = sym (c₁ .before .before .before .frame .ensures) ∙ ap (frameAs s) (c₁ .before .a .given .1) in
     let h = subst (HeaderAt s _) (c₂ .before .b .given .1) (c₂ .before .before .before .header-at .ensures) in
-    judge-good s e₁ h (told (meant s) (c₃ .before .d .given .1) (c₃ .before .before .before .judge-records .ensures)) (end-at s _ (c .if1 .left))
+    judge-good s e₁ h (told (fieldAs s) (c₃ .before .d .given .1) (c₃ .before .before .before .judge-records .ensures)) (end-at s _ (c .if1 .left))
 
 pub judge-file-spec : {M : Type 1} → statement M
 judge-file-spec =

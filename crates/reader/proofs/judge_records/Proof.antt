@@ -4,7 +4,7 @@ use Prim.Native.Nat.{_-_}
 use mathlib.Core.Path.{_∙_}
 use denote.Ref.{now}
 use lib.ListN.{drop}
-use Rattle.fields.specs.Meaning.{meant}
+use Rattle.fields.specs.Meaning.{fieldAs}
 use Rattle.fields.proofs.Answers.{told}
 use Rattle.fields.proofs.Parts.{pass-at-most}
 use Rattle.reader.proofs.Passing.{TestsCounted, counted-first, counted-done, counted-refused, counted-again}
@@ -20,11 +20,11 @@ abbrev μ-loop : tie.MeasureT-loop
 loop-holds : tie.Need-loop-holds Inv-loop μ-loop
 loop-holds c = let a = c .before .args in counted-first (a .locations) (a .timers) (a .n) (drop (a .at) (now (a .s)))
 
-cast-pass-record : tie.Need-cast-pass-record Inv-loop μ-loop
-cast-pass-record c = search needs
+cast-skip-record : tie.Need-cast-skip-record Inv-loop μ-loop
+cast-skip-record c = search needs
 
-pass-record-requires : tie.Need-pass-record-requires Inv-loop μ-loop
-pass-record-requires c κs = search needs
+skip-record-requires : tie.Need-skip-record-requires Inv-loop μ-loop
+skip-record-requires c κs = search needs
 
 enum-known-a : tie.Need-enum-known-a Inv-loop μ-loop
 enum-known-a c = search needs
@@ -35,14 +35,14 @@ enum-told c = search needs
 returns : tie.Need-returns Inv-loop μ-loop
 returns c =
     let a = c .before .before .before .before .before .before .args in
-    let k = c .before .before .pass-record .ensures in
-    let h = told (meant (now (a .s))) (c .enum-told .given .1) k in
+    let k = c .before .before .skip-record .ensures in
+    let h = told (fieldAs (now (a .s))) (c .enum-told .given .1) k in
     k ∙ h ∙ counted-refused (c .before .before .before .before .loop .inv) (c .before .before .before .loop-test .taken) h
 
 add-tests : tie.Need-add-tests Inv-loop μ-loop
 add-tests c =
     let a = c .before .before .before .before .before .before .before .args in
-    let h = pass-at-most _ _ _ _ _ (told (meant (now (a .s))) (c .before .a .given .1) (c .before .before .before .pass-record .ensures)) in
+    let h = pass-at-most _ _ _ _ _ (told (fieldAs (now (a .s))) (c .before .a .given .1) (c .before .before .before .skip-record .ensures)) in
     omega (arith, c .before .before .before .before .before .loop .inv .few)
 
 add-i : tie.Need-add-i Inv-loop μ-loop
@@ -52,7 +52,7 @@ loop-less : tie.Need-loop-less Inv-loop μ-loop
 loop-less c = search needs
 
 loop-again : tie.Need-loop-again Inv-loop μ-loop
-loop-again c = counted-again (c .before .before .before .before .before .loop .inv) (c .before .before .before .before .loop-test .taken) (told (meant (now (c .before .before .before .before .before .before .before .args .s))) (c .before .a .given .1) (c .before .before .before .pass-record .ensures))
+loop-again c = counted-again (c .before .before .before .before .before .loop .inv) (c .before .before .before .before .loop-test .taken) (told (fieldAs (now (c .before .before .before .before .before .before .before .args .s))) (c .before .a .given .1) (c .before .before .before .skip-record .ensures))
 
 returns-2 : tie.Need-returns-2 Inv-loop μ-loop
 returns-2 c = counted-done (c .before .loop .inv) (c .loop-test .left)
@@ -64,8 +64,8 @@ judge-records-spec =
     Inv-loop
     μ-loop
     loop-holds
-    cast-pass-record
-    pass-record-requires
+    cast-skip-record
+    skip-record-requires
     enum-known-a
     enum-told
     returns

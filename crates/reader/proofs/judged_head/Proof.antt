@@ -2,7 +2,7 @@ use mathlib.Core.Path.{sym, _∙_}
 use denote.Ref.{now}
 use borrow.Author.Needs.{needs}
 use Rattle.file_format.proofs.Parsed.{value-refused}
-use Rattle.fields.specs.Meaning.{meantHead}
+use Rattle.fields.specs.Meaning.{headAs}
 use Rattle.fields.proofs.Answers.{told}
 use Rattle.reader.proofs.judged_head.Statement.{statement}
 use Rattle.reader.proofs.judged_head.Tie as tie
@@ -18,11 +18,11 @@ enum-told c = search needs
 
 returns : tie.Need-returns
 returns c = λ h t e. let a = c .before .before .before .before .args in
-    absurd (value-refused e (told (meantHead (now (a .s))) (c .enum-told .given .1) (c .before .before .head-at .ensures)))
+    absurd (value-refused e (told (headAs (now (a .s))) (c .enum-told .given .1) (c .before .before .head-at .ensures)))
 
 returns-2 : tie.Need-returns-2
 returns-2 c = λ h t e. let a = c .before .before .before .before .before .args in
-    sym (told (meantHead (now (a .s))) (c .before .a .given .1) (c .before .before .before .head-at .ensures)) ∙ e
+    sym (told (headAs (now (a .s))) (c .before .a .given .1) (c .before .before .before .head-at .ensures)) ∙ e
 
 pub judged-head-spec : {M : Type 1} → statement M
 judged-head-spec = tie.close (tie.spec head-at-requires enum-known-a enum-told returns returns-2)

@@ -17,7 +17,7 @@ start c = c .before .before .before .before .before .before .before .before .bef
 abbrev lent : tie.Else1 → Lists
 lent c =
     let a = start c .args in
-    lists (now (a .accepting)) (now (a .sources)) (now (a .targets)) (now (a .events)) (now (a .starts)) (now (a .counts)) (now (a .timers)) (now (a .codes)) (now (a .constants))
+    lists (now (a .accepting)) (now (a .sources)) (now (a .targets)) (now (a .events)) (now (a .starts)) (now (a .test-counts)) (now (a .timers)) (now (a .codes)) (now (a .constants))
 
 -- the file's chart, and that the lists have room for it
 chart-is : (c : tie.Else1) → let g = c .before .before .before .before .a .given .0 in ChartIs (now (start c .args .file)) (g .0) (g .1 .0) (g .1 .1 .0) (g .1 .1 .1 .0)
@@ -65,7 +65,7 @@ fill-records-requires : tie.Need-fill-records-requires
 fill-records-requires c κs =
     let d = c .before .before .before .before .before .before .before .before .before .before .before .before in
     let r = room _ (lent d) (chart-is d) (has-room d) in
-    ((chart-is d .few-timers, r .sources-fit, r .targets-fit, r .events-fit, r .starts-fit, r .counts-fit), tests-fit _ (lent d) (chart-is d) (has-room d))
+    ((chart-is d .few-timers, r .sources-fit, r .targets-fit, r .events-fit, r .starts-fit, r .test-counts-fit), tests-fit _ (lent d) (chart-is d) (has-room d))
 
 same-length : tie.Need-same-length
 same-length c = search needs

@@ -14,12 +14,12 @@ use Rattle.renaming.proofs.rename_tests.Statement.{statement}
 use Rattle.renaming.proofs.rename_tests.Tie as tie
 
 abbrev Inv-loop : tie.InvT-loop
-Inv-loop sources counts timers numbers renamed₀ n base₀ i₀ renamed base i =
-    (i ≤ n) × (n ≡ length sources) × (length renamed ≡ length renamed₀) × (base ≡ total (take i counts))
-    × (renamed ≡ put (renamedTimers numbers (take i sources) (take i counts) timers) renamed₀)
+Inv-loop sources test-counts timers numbers renamed₀ n base₀ i₀ renamed base i =
+    (i ≤ n) × (n ≡ length sources) × (length renamed ≡ length renamed₀) × (base ≡ total (take i test-counts))
+    × (renamed ≡ put (renamedTimers numbers (take i sources) (take i test-counts) timers) renamed₀)
 
 abbrev μ-loop : tie.MeasureT-loop
-μ-loop sources counts timers numbers renamed₀ n base₀ i₀ renamed base i = n - i
+μ-loop sources test-counts timers numbers renamed₀ n base₀ i₀ renamed base i = n - i
 
 loop-holds : tie.Need-loop-holds Inv-loop μ-loop
 unfolding total renamedTimers put
@@ -27,11 +27,11 @@ loop-holds c = (omega arith, refl, refl, refl, refl)
 
 -- the timers of the next transition's tests are there
 room : (c : tie.In-loop Inv-loop μ-loop) → let a = c .before .before .before .before .before .before .before .args in
-    c .before .loop .base + getD (a .counts .now) (c .before .loop .i) 0 ≤ length (a .timers .now)
+    c .before .loop .base + getD (a .test-counts .now) (c .before .loop .i) 0 ≤ length (a .timers .now)
 room c =
     let s = c .before .before .before .before .before .before .before in
     let l = c .before .loop in
-    omega (arith, total-room (s .args .counts .now) (s .args .timers .now) (l .i) (omega (arith, s .pre .1)), s .pre .2 .enough)
+    omega (arith, total-room (s .args .test-counts .now) (s .args .timers .now) (l .i) (omega (arith, s .pre .1)), s .pre .2 .enough)
 
 shared-slice-read-count : tie.Need-shared-slice-read-count Inv-loop μ-loop
 shared-slice-read-count c = search needs
@@ -68,7 +68,7 @@ loop-again c =
     let a = s .args in
     let x = c .before .before .rename-row in
     let qs = a .sources .now in
-    let ns = a .counts .now in
+    let ns = a .test-counts .now in
     let h : l .i < length qs = omega arith in
     let n : l .i < length ns = omega (arith, s .pre .1) in
     let enough : total (take (l .i) ns) ≤ length (a .timers .now) = omega (arith, total-room ns (a .timers .now) (l .i) n, s .pre .2 .enough) in (
@@ -89,8 +89,8 @@ returns c chart ps cells sources tests =
     let l = c .before .loop in
     let a = c .before .before .before .before .before .before .before .args in
     let e : l .i ≡ length (a .sources .now) = omega arith in
-    let f : l .i ≡ length (a .counts .now) = omega (arith, c .before .before .before .before .before .before .before .pre .1) in
-    l .inv .4 ∙ ap (λ (z : List ℕ). put z (a .renamed .now)) (timers-all (a .numbers .now) (a .sources .now) (a .counts .now) (a .timers .now) e f ∙ renamed-timers cells (a .sources .now) (a .counts .now) (a .timers .now) sources tests)
+    let f : l .i ≡ length (a .test-counts .now) = omega (arith, c .before .before .before .before .before .before .before .pre .1) in
+    l .inv .4 ∙ ap (λ (z : List ℕ). put z (a .renamed .now)) (timers-all (a .numbers .now) (a .sources .now) (a .test-counts .now) (a .timers .now) e f ∙ renamed-timers cells (a .sources .now) (a .test-counts .now) (a .timers .now) sources tests)
 
 pub rename-tests-spec : {M : Type 1} → statement M
 rename-tests-spec =

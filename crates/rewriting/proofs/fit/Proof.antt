@@ -11,7 +11,7 @@ use Rattle.model.specs.Rewrite.{rewritten}
 use Rattle.file_format.specs.File.{fileOf}
 use Rattle.chart_lists.specs.Lists.{lists}
 use Rattle.writer.specs.declared.Written.{Written}
-use Rattle.writer.specs.Handing.{meantWritten}
+use Rattle.writer.specs.Handing.{writtenAs}
 use Rattle.rewriting.specs.Rewriting.{figuresOf, bufferAfter}
 use Rattle.rewriting.specs.Parts.{intoRoom, fittedInto, ListsOfChart}
 use Rattle.rewriting.proofs.Order.{fitted-11, fitted-20, figures-refused, buffer-refused}
@@ -54,7 +54,7 @@ number-chart-requires c κs = let p = known (c .before .before) .pre in (record 
 
 -- the lists are those of the chart
 abbrev Of : tie.Start → Chart → Type 0
-Of s d = ListsOfChart d (s .args .m) (lists (now (s .args .accepting)) (now (s .args .sources)) (now (s .args .targets)) (now (s .args .events)) (now (s .args .starts)) (now (s .args .counts)) (now (s .args .timers)) (now (s .args .codes)) (now (s .args .constants))) (now (s .args .tested))
+Of s d = ListsOfChart d (s .args .m) (lists (now (s .args .accepting)) (now (s .args .sources)) (now (s .args .targets)) (now (s .args .events)) (now (s .args .starts)) (now (s .args .test-counts)) (now (s .args .timers)) (now (s .args .codes)) (now (s .args .constants))) (now (s .args .tested))
 
 over : (c : tie.Then2) (d : Chart) → Of (known (c .before .before .before .before .before .before)) d → let a = known (c .before .before .before .before .before .before) .args in fittedInto (a .k) (length (now (a .out))) d ≡ refused 20 nowhere
 over c d x =
@@ -118,7 +118,7 @@ fits : (c : Done) (d : Chart) → Of (start c) d → used d ≤ start c .args .k
 fits c d x = omega (arith, c .before .before .before .if2 .left, count c d x)
 
 answer : (c : Done) (d : Chart) → Of (start c) d
-    → meantWritten (c .write-renamed .result) ≡ then (intoRoom (length (now (start c .args .out))) (rewritten d)) (λ y. result (length (fileOf y)))
+    → writtenAs (c .write-renamed .result) ≡ then (intoRoom (length (now (start c .args .out))) (rewritten d)) (λ y. result (length (fileOf y)))
 answer c d x =
     c .write-renamed .ensures .0 d (now (start c .args .tested)) x
     (seen-fit x (c .before .before .before .before .before .before .number-chart .ensures d (lent-lists x)) _ (omega (arith, c .before .before .before .if2 .left, limit c)))
@@ -132,10 +132,10 @@ buffer c d x = let a = start c .args in
 
 -- the writer's answer, with the timers used
 figures : (c : Done) {w : Written} → c .write-renamed .result ≡ w → (d : Chart) → Of (start c) d → let a = start c .args in
-    then (meantWritten w) (λ n. result (record { used = c .before .before .before .before .before .before .number-chart .result; length = n }))
+    then (writtenAs w) (λ n. result (record { used = c .before .before .before .before .before .before .number-chart .result; length = n }))
     ≡ then (fittedInto (a .k) (length (now (a .out))) d) (λ y. result (figuresOf y))
 figures c e d x = let a = start c .args in
-    figures-written (a .k) (length (now (a .out))) d (limit c) (fits c d x) (count c d x) (sym (ap meantWritten e) ∙ answer c d x)
+    figures-written (a .k) (length (now (a .out))) d (limit c) (fits c d x) (count c d x) (sym (ap writtenAs e) ∙ answer c d x)
 
 returns-3 : tie.Need-returns-3
 returns-3 c = let b = c .before .before .before .before .before in (figures b (c .before .w .given .1), buffer b)

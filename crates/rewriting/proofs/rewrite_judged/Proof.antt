@@ -2,7 +2,7 @@
 use mathlib.Core.Path.{sym, ap, _∙_}
 use denote.Ref.{now}
 use lib.ListN.{length}
-use Rattle.reader.specs.Reading.{meantRead}
+use Rattle.chart_lists.specs.Read.{readAs}
 use Rattle.judgement.proofs.Fronts.{lent-part}
 use Rattle.judgement.proofs.Handed.{HandedOn}
 use Rattle.rewriting.proofs.Entry.{entry-refused, buffer-refused, entry-answer, entry-buffer, handed, lists-held}
@@ -18,7 +18,7 @@ abbrev start : Found → tie.Start
 start c = c .before .before .before .before .before .before .before .before .before .before .before .before .before
 
 found : (c : Found) → let a = start c .args in
-    HandedOn (start c .pre .0) (c .a2 .given .0 .0) (now (a .sources)) (now (a .targets)) (now (a .starts)) (now (a .counts)) (now (a .timers)) (now (a .tested))
+    HandedOn (start c .pre .0) (c .a2 .given .0 .0) (now (a .sources)) (now (a .targets)) (now (a .starts)) (now (a .test-counts)) (now (a .timers)) (now (a .tested))
 found c = handed (start c .pre .1) (c .a2 .given .1)
 
 enum-known-a : tie.Need-enum-known-a
@@ -40,7 +40,7 @@ slice-aggregate-fit-3 : tie.Need-slice-aggregate-fit-3
 slice-aggregate-fit-3 c = let h = found (c .before .before .before .before .before) in sym (lent-part (h .held) _ (h .held .starts-are))
 
 slice-aggregate-fit-4 : tie.Need-slice-aggregate-fit-4
-slice-aggregate-fit-4 c = let h = found (c .before .before .before .before .before .before) in sym (lent-part (h .held) _ (h .held .counts-are))
+slice-aggregate-fit-4 c = let h = found (c .before .before .before .before .before .before) in sym (lent-part (h .held) _ (h .held .test-counts-are))
 
 slice-aggregate-fit-5 : tie.Need-slice-aggregate-fit-5
 slice-aggregate-fit-5 c = let h = found (c .before .before .before .before .before .before .before) in sym (lent-part (h .held) _ (h .tested-are))
@@ -51,7 +51,7 @@ fit-requires c κs = let f = c .before .before .before .before .before .before .
 returns : tie.Need-returns
 returns c =
     let a = c .before .before .before .before .before .before .before .before .before .before .before .before .before .before .args in
-    let e = sym (ap meantRead (c .before .a .given .1)) in
+    let e = sym (ap readAs (c .before .a .given .1)) in
     (λ bs x. entry-refused (a .k) (length (now (a .out))) bs (e ∙ x .answer), λ bs x. buffer-refused (a .k) (length (now (a .out))) bs (e ∙ x .answer) (now (a .out)))
 
 same-length : tie.Need-same-length

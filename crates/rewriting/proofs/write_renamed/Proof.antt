@@ -12,7 +12,7 @@ use Rattle.model.specs.Rewrite.{numbering, newTransition}
 use Rattle.chart_lists.specs.Lists.{lists, allTests, put}
 use Rattle.writer.specs.Handing.{bufferAfter as writtenAfter}
 use Rattle.rewriting.specs.Parts.{ListsOfChart, FittingNumbers}
-use Rattle.rewriting.proofs.Board.{target-rows, source-rows, starts-each, counts-each, few-targets, cells-of}
+use Rattle.rewriting.proofs.Board.{target-rows, source-rows, starts-each, test-counts-each, few-targets, cells-of}
 use Rattle.rewriting.proofs.Written.{write-into, write-answer}
 use borrow.Author.Needs.{needs}
 use Rattle.rewriting.proofs.write_renamed.Statement.{statement}
@@ -36,7 +36,7 @@ rename-tests-requires : tie.Need-rename-tests-requires
 rename-tests-requires c κs =
     let p = start (c .before .before .before) .pre in
     let x = p .lists-are in
-    (source-rows x (p .numbers-fit), counts-each x, x .timers-for, x .few-timers)
+    (source-rows x (p .numbers-fit), test-counts-each x, x .timers-for, x .few-timers)
 
 slice-aggregate-write : tie.Need-slice-aggregate-write
 slice-aggregate-write c = search needs
@@ -52,12 +52,12 @@ same-length c = search needs
 
 -- the new starts and the new timers of tests
 starts : (c : tie.After-slice-known2) (d : Chart) (tested : List ℕ) → let a = start (c .before .before .before .before .before .before .before .before .before .before .before) .args in
-    ListsOfChart d (a .m) (lists (now (a .accepting)) (now (a .sources)) (now (a .targets)) (now (a .events)) (now (a .starts)) (now (a .counts)) (now (a .timers)) (now (a .codes)) (now (a .constants))) tested → FittingNumbers d (a .used) (now (a .numbers))
+    ListsOfChart d (a .m) (lists (now (a .accepting)) (now (a .sources)) (now (a .targets)) (now (a .events)) (now (a .starts)) (now (a .test-counts)) (now (a .timers)) (now (a .codes)) (now (a .constants))) tested → FittingNumbers d (a .used) (now (a .numbers))
     → c .before .before .before .before .before .before .before .before .before .before .rename-starts .last .1 .1 .1 .0 ≡ put (map startsSet (map (newTransition (numbering (board d))) (d .transitions))) (replicate 512 0)
 starts c d tested x f = c .before .before .before .before .before .before .before .before .before .before .rename-starts .ensures d (board d) (cells-of x f) (x .targets-are) (x .starts-are)
 
 timers : (c : tie.After-slice-known2) (d : Chart) (tested : List ℕ) → let a = start (c .before .before .before .before .before .before .before .before .before .before .before) .args in
-    ListsOfChart d (a .m) (lists (now (a .accepting)) (now (a .sources)) (now (a .targets)) (now (a .events)) (now (a .starts)) (now (a .counts)) (now (a .timers)) (now (a .codes)) (now (a .constants))) tested → FittingNumbers d (a .used) (now (a .numbers))
+    ListsOfChart d (a .m) (lists (now (a .accepting)) (now (a .sources)) (now (a .targets)) (now (a .events)) (now (a .starts)) (now (a .test-counts)) (now (a .timers)) (now (a .codes)) (now (a .constants))) tested → FittingNumbers d (a .used) (now (a .numbers))
     → c .before .before .before .before .before .before .before .rename-tests .last .1 .1 .1 .1 .0
     ≡ put (map (λ (t : Test). t .timer) (allTests (map (newTransition (numbering (board d))) (d .transitions)))) (replicate 4096 0)
 timers c d tested x f = c .before .before .before .before .before .before .before .rename-tests .ensures d (board d) (cells-of x f) (x .sources-are) (x .tests-are)

@@ -11,10 +11,10 @@ use Rattle.writer.proofs.judge_transitions.Statement.{statement}
 use Rattle.writer.proofs.judge_transitions.Tie as tie
 
 abbrev Inv-loop : tie.InvT-loop
-Inv-loop m sources targets events starts counts timers codes constants n bytes₀ k₀ i₀ bytes k i = TransitionsTurn (lists [] sources targets events starts counts timers codes constants) (m .locations) (m .timers) n bytes k i × (bytes ≤ 105 * i) × (k ≤ 8 * i)
+Inv-loop m sources targets events starts test-counts timers codes constants n bytes₀ k₀ i₀ bytes k i = TransitionsTurn (lists [] sources targets events starts test-counts timers codes constants) (m .locations) (m .timers) n bytes k i × (bytes ≤ 105 * i) × (k ≤ 8 * i)
 
 abbrev μ-loop : tie.MeasureT-loop
-μ-loop m sources targets events starts counts timers codes constants n bytes₀ k₀ i₀ bytes k i = n - i
+μ-loop m sources targets events starts test-counts timers codes constants n bytes₀ k₀ i₀ bytes k i = n - i
 
 cast-n : tie.Need-cast-n Inv-loop μ-loop
 cast-n c = search needs

@@ -11,10 +11,10 @@ use Rattle.writer.proofs.write_records.Statement.{statement}
 use Rattle.writer.proofs.write_records.Tie as tie
 
 abbrev Inv-loop : tie.InvT-loop
-Inv-loop out₀ m sources targets events starts counts timers codes constants at₀ k₀ i₀ out at k i = Writing (lists [] sources targets events starts counts timers codes constants) (m .locations) (m .timers) (m .transitions) out₀ out at k i
+Inv-loop out₀ m sources targets events starts test-counts timers codes constants at₀ k₀ i₀ out at k i = Writing (lists [] sources targets events starts test-counts timers codes constants) (m .locations) (m .timers) (m .transitions) out₀ out at k i
 
 abbrev μ-loop : tie.MeasureT-loop
-μ-loop out₀ m sources targets events starts counts timers codes constants at₀ k₀ i₀ out at k i = m .transitions - i
+μ-loop out₀ m sources targets events starts test-counts timers codes constants at₀ k₀ i₀ out at k i = m .transitions - i
 
 loop-holds : tie.Need-loop-holds Inv-loop μ-loop
 loop-holds c = writing-first _ _ _ _ _ (c .before .before .before .before .before .before .before .before .before .pre)
@@ -28,7 +28,7 @@ start c = c .before .before .before .before .before .before .before .before .bef
 abbrev handed-lists : tie.Then1 Inv-loop μ-loop → Lists
 handed-lists c =
     let a = start c .args in
-    lists [] (now (a .sources)) (now (a .targets)) (now (a .events)) (now (a .starts)) (now (a .counts)) (now (a .timers)) (now (a .codes)) (now (a .constants))
+    lists [] (now (a .sources)) (now (a .targets)) (now (a .events)) (now (a .starts)) (now (a .test-counts)) (now (a .timers)) (now (a .codes)) (now (a .constants))
 
 -- what is known of the next record
 next : (c : tie.Then1 Inv-loop μ-loop)

@@ -5,10 +5,10 @@ use Rattle.vectors_file.proofs.lent.total.Statement.{statement}
 use Rattle.vectors_file.proofs.lent.total.Tie as tie
 
 abbrev Inv-loop : tie.InvT-loop
-Inv-loop counts n sum₀ i₀ sum i = Unit {0}
+Inv-loop test-counts n sum₀ i₀ sum i = Unit {0}
 
 abbrev μ-loop : tie.MeasureT-loop
-μ-loop counts n sum₀ i₀ sum i = n - i
+μ-loop test-counts n sum₀ i₀ sum i = n - i
 
 pub total-spec : {M : Type 1} → statement M
 total-spec =

@@ -5,10 +5,10 @@ use Rattle.vectors_file.proofs.show.transitions.Statement.{statement}
 use Rattle.vectors_file.proofs.show.transitions.Tie as tie
 
 abbrev Inv-loop : tie.InvT-loop
-Inv-loop n sources targets events starts counts timers codes constants at₀ i₀ at i = Unit {0}
+Inv-loop n sources targets events starts test-counts timers codes constants at₀ i₀ at i = Unit {0}
 
 abbrev μ-loop : tie.MeasureT-loop
-μ-loop n sources targets events starts counts timers codes constants at₀ i₀ at i = n - i
+μ-loop n sources targets events starts test-counts timers codes constants at₀ i₀ at i = n - i
 
 pub transitions-spec : {M : Type 1} → statement M
 transitions-spec =

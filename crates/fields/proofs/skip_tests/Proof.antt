@@ -1,11 +1,11 @@
 use Prim.Native.Nat.{_-_}
 use denote.Ref.{now}
 use borrow.Author.Needs.{needs}
-use Rattle.fields.specs.Meaning.{meantTest}
+use Rattle.fields.specs.Meaning.{testAs}
 use Rattle.fields.proofs.Answers.{told}
 use Rattle.fields.proofs.TestsLoop.{Passing, tests-begin, tests-done, tests-refused, tests-again}
-use Rattle.fields.proofs.pass_tests.Statement.{statement}
-use Rattle.fields.proofs.pass_tests.Tie as tie
+use Rattle.fields.proofs.skip_tests.Statement.{statement}
+use Rattle.fields.proofs.skip_tests.Tie as tie
 
 abbrev Inv-loop : tie.InvT-loop
 Inv-loop s at g timers place here₀ k₀ here k = Passing 2 timers place s at g here k
@@ -32,7 +32,7 @@ returns : tie.Need-returns Inv-loop μ-loop
 returns c =
     let d = c .before .before .before in
     rw (c .test-refusal .ensures, c .before .enum-told .given .1)
-    (tests-refused (d .before .before .loop .inv) (d .before .loop-test .taken) (told (meantTest (now (d .before .before .before .before .args .s))) (c .before .enum-told .given .1) (d .test-at .ensures)))
+    (tests-refused (d .before .before .loop .inv) (d .before .loop-test .taken) (told (testAs (now (d .before .before .before .before .args .s))) (c .before .enum-told .given .1) (d .test-at .ensures)))
 
 add-k : tie.Need-add-k Inv-loop μ-loop
 add-k c = search needs
@@ -43,7 +43,7 @@ loop-less c = search needs
 loop-again : tie.Need-loop-again Inv-loop μ-loop
 loop-again c =
     let d = c .before .before .before in
-    tests-again (d .before .before .loop .inv) (d .before .loop-test .taken) (told (meantTest (now (d .before .before .before .before .args .s))) (c .before .a .given .1) (d .test-at .ensures))
+    tests-again (d .before .before .loop .inv) (d .before .loop-test .taken) (told (testAs (now (d .before .before .before .before .args .s))) (c .before .a .given .1) (d .test-at .ensures))
 
 wide-requires : tie.Need-wide-requires Inv-loop μ-loop
 wide-requires c κs = search needs
@@ -51,8 +51,8 @@ wide-requires c κs = search needs
 returns-2 : tie.Need-returns-2 Inv-loop μ-loop
 returns-2 c = rw (c .wide .ensures .0) (tests-done (c .before .before .loop .inv) (c .before .loop-test .left))
 
-pub pass-tests-spec : {M : Type 1} → statement M
-pass-tests-spec =
+pub skip-tests-spec : {M : Type 1} → statement M
+skip-tests-spec =
     tie.close
     (tie.spec
     Inv-loop

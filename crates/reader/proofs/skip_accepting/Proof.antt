@@ -5,11 +5,11 @@ use Prim.Native.Nat.{_-_}
 use mathlib.Core.Path.{_∙_}
 use denote.Ref.{now}
 use lib.ListN.{drop}
-use Rattle.fields.specs.Meaning.{meant}
+use Rattle.fields.specs.Meaning.{fieldAs}
 use Rattle.fields.proofs.Answers.{told}
 use Rattle.reader.proofs.Passing.{AcceptingRead, accepting-first, accepting-done, accepting-refused, accepting-again}
-use Rattle.reader.proofs.pass_accepting.Statement.{statement}
-use Rattle.reader.proofs.pass_accepting.Tie as tie
+use Rattle.reader.proofs.skip_accepting.Statement.{statement}
+use Rattle.reader.proofs.skip_accepting.Tie as tie
 
 abbrev Inv-loop : tie.InvT-loop
 Inv-loop s at n locations here₀ lowest₀ k₀ here lowest k = AcceptingRead locations n k lowest (drop at s) (drop here s)
@@ -32,11 +32,11 @@ enum-told c = search needs
 returns : tie.Need-returns Inv-loop μ-loop
 returns c =
     let k = c .before .before .entry-at .ensures in
-    let h = told (meant (now (c .before .before .before .before .before .before .args .s))) (c .enum-told .given .1) k in
+    let h = told (fieldAs (now (c .before .before .before .before .before .before .args .s))) (c .enum-told .given .1) k in
     k ∙ h ∙ accepting-refused (c .before .before .before .before .loop .inv) (c .before .before .before .loop-test .taken) h
 
 add-lowest : tie.Need-add-lowest Inv-loop μ-loop
-add-lowest c = omega (arith, entry-limit _ _ _ _ _ _ (told (meant (now (c .before .before .before .before .before .before .before .args .s))) (c .before .a .given .1) (c .before .before .before .entry-at .ensures)))
+add-lowest c = omega (arith, entry-limit _ _ _ _ _ _ (told (fieldAs (now (c .before .before .before .before .before .before .before .args .s))) (c .before .a .given .1) (c .before .before .before .entry-at .ensures)))
 
 add-k : tie.Need-add-k Inv-loop μ-loop
 add-k c = search needs
@@ -45,13 +45,13 @@ loop-less : tie.Need-loop-less Inv-loop μ-loop
 loop-less c = search needs
 
 loop-again : tie.Need-loop-again Inv-loop μ-loop
-loop-again c = accepting-again (c .before .before .before .before .before .loop .inv) (c .before .before .before .before .loop-test .taken) (told (meant (now (c .before .before .before .before .before .before .before .args .s))) (c .before .a .given .1) (c .before .before .before .entry-at .ensures))
+loop-again c = accepting-again (c .before .before .before .before .before .loop .inv) (c .before .before .before .before .loop-test .taken) (told (fieldAs (now (c .before .before .before .before .before .before .before .args .s))) (c .before .a .given .1) (c .before .before .before .entry-at .ensures))
 
 returns-2 : tie.Need-returns-2 Inv-loop μ-loop
 returns-2 c = accepting-done (c .before .loop .inv) (c .loop-test .left)
 
-pub pass-accepting-spec : {M : Type 1} → statement M
-pass-accepting-spec =
+pub skip-accepting-spec : {M : Type 1} → statement M
+skip-accepting-spec =
     tie.close
     (tie.spec
     Inv-loop

@@ -1,11 +1,11 @@
 use mathlib.Core.Path.{_∙_}
 use denote.Ref.{now}
-use Rattle.fields.specs.Meaning.{meantHead}
+use Rattle.fields.specs.Meaning.{headAs}
 use Rattle.fields.proofs.Answers.{told}
-use Rattle.fields.proofs.Parts.{pass-head-refused, pass-tests-left}
+use Rattle.fields.proofs.Parts.{pass-head-refused, skip-tests-left}
 use borrow.Author.Needs.{needs}
-use Rattle.fields.proofs.pass_record.Statement.{statement}
-use Rattle.fields.proofs.pass_record.Tie as tie
+use Rattle.fields.proofs.skip_record.Statement.{statement}
+use Rattle.fields.proofs.skip_record.Tie as tie
 
 head-at-requires : tie.Need-head-at-requires
 head-at-requires c κs = search needs
@@ -23,20 +23,20 @@ returns : tie.Need-returns
 returns c =
     let a = c .before .before .before .before .before .args in
     rw (c .head-refusal .ensures, c .before .enum-told .given .1)
-    (pass-head-refused 2 (a .locations) (a .timers) (a .place) _ (told (meantHead (now (a .s))) (c .before .enum-told .given .1) (c .before .before .before .head-at .ensures)))
+    (pass-head-refused 2 (a .locations) (a .timers) (a .place) _ (told (headAs (now (a .s))) (c .before .enum-told .given .1) (c .before .before .before .head-at .ensures)))
 
-pass-tests-requires : tie.Need-pass-tests-requires
-pass-tests-requires c κs = search needs
+skip-tests-requires : tie.Need-skip-tests-requires
+skip-tests-requires c κs = search needs
 
 returns-2 : tie.Need-returns-2
 returns-2 c =
     let d = c .before .before .before .before in
     let a = d .before .before .args in
-    c .pass-tests .ensures
-    ∙ pass-tests-left 2 (a .locations) (a .timers) (a .place) _ (told (meantHead (now (a .s))) (c .before .before .a .given .1) (d .head-at .ensures))
+    c .skip-tests .ensures
+    ∙ skip-tests-left 2 (a .locations) (a .timers) (a .place) _ (told (headAs (now (a .s))) (c .before .before .a .given .1) (d .head-at .ensures))
 
-pub pass-record-spec : {M : Type 1} → statement M
-pass-record-spec =
+pub skip-record-spec : {M : Type 1} → statement M
+skip-record-spec =
     tie.close
     (tie.spec
     head-at-requires
@@ -44,5 +44,5 @@ pass-record-spec =
     enum-told
     head-refusal-requires
     returns
-    pass-tests-requires
+    skip-tests-requires
     returns-2)

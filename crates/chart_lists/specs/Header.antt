@@ -1,0 +1,13 @@
+-- The header of a chart, as the code hands it over beside the lists. Assumes nothing.
+use lib.ListN.{length}
+use Rattle.model.specs.Chart.{Chart}
+use Rattle.chart_lists.specs.declared.Header.{Header}
+
+unfoldable pub headerOf : Chart → Header
+headerOf c = record {
+  locations = c .locations;
+  initial = c .initial;
+  timers = c .timers;
+  accepting = length (c .accepting);
+  transitions = length (c .transitions);
+}

@@ -1,0 +1,84 @@
+// A refusal as every call gives it (document 01, "Turned down .."): its number and its place.
+
+// The place of a refusal that has no other.
+pub const NOWHERE: u64 = 65535;
+
+// A place is 64 bits wide: a step's number is never cut.
+pub struct Refusal {
+    pub number: u16,
+    pub place: u64,
+}
+
+// The refusals that have no other place, by what is wrong.
+
+// Fewer than 5 bytes, or a length that is not that of what follows.
+pub const WRONG_LENGTH: Refusal = Refusal {
+    number: 1,
+    place: NOWHERE,
+};
+
+// A version byte other than 1.
+pub const WRONG_VERSION: Refusal = Refusal {
+    number: 2,
+    place: NOWHERE,
+};
+
+// The file ends inside a field, bytes are left over, a record's length is wrong, or a list ends before the entry that is due.
+pub const CUT_OFF: Refusal = Refusal {
+    number: 3,
+    place: NOWHERE,
+};
+
+// No location, or too many of something, in the header.
+pub const WRONG_COUNT: Refusal = Refusal {
+    number: 4,
+    place: NOWHERE,
+};
+
+// A location number in the header that is not below the number of locations.
+pub const NO_SUCH_LOCATION: Refusal = Refusal {
+    number: 5,
+    place: NOWHERE,
+};
+
+// Accepting locations that are not strictly rising.
+pub const NOT_RISING: Refusal = Refusal {
+    number: 7,
+    place: NOWHERE,
+};
+
+// A board of more than 64 timers.
+pub const LIMIT_TOO_LARGE: Refusal = Refusal {
+    number: 11,
+    place: NOWHERE,
+};
+
+// Starting counts that are not one for each timer.
+pub const WRONG_COUNTS: Refusal = Refusal {
+    number: 12,
+    place: NOWHERE,
+};
+
+// Step lists of different lengths.
+pub const UNEQUAL_LISTS: Refusal = Refusal {
+    number: 13,
+    place: NOWHERE,
+};
+
+// An input of the program over 65,536 bytes.
+pub const INPUT_TOO_LONG: Refusal = Refusal {
+    number: 16,
+    place: NOWHERE,
+};
+
+// All numbers of the board are held by earlier families that the next one meets.
+pub const BOARD_TOO_SMALL: Refusal = Refusal {
+    number: 20,
+    place: NOWHERE,
+};
+
+// A lent buffer or list that is too short for the result.
+pub const NO_ROOM: Refusal = Refusal {
+    number: 21,
+    place: NOWHERE,
+};
