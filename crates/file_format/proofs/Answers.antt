@@ -1,4 +1,4 @@
--- What an answer says of the answers that it is made of. Assumes nothing.
+-- What an answer says of the answers that it is made of. Nothing is hard. Assumes nothing.
 use mathlib.Core.Path.{_≡_, refl}
 use mathlib.Core.Bool.{Bool, true, false}
 use mathlib.Core.List.{List}
