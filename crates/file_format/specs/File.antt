@@ -14,6 +14,7 @@ pub record Frame : Type 0 where
   pub version : ℕ
   pub follow : ℕ
 
+-- both, or a refusal where the file ends before
 unfoldable pub readFrame : List ℕ → Parsed Frame
 readFrame bs = bind (number 1 bs) (λ version b₁. bind (number 4 b₁) (λ follow b₂. value (record { version = version; follow = follow }) b₂))
 
