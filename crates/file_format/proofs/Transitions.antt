@@ -109,7 +109,7 @@ module _ (W locations timers : ℕ) (narrow : W ≤ 8) (few-locations : location
 
   pub transitions-trip : (n : ℕ)
       → RoundTrip (λ rs. (length rs ≡ n) × All (ValidTransition W locations timers) rs)
-          (writeAll (writeTransition W)) (readTransitions W locations timers n)
+      (writeAll (writeTransition W)) (readTransitions W locations timers n)
   unfolding readTransitions
   transitions-trip n =
       items (λ (i : ℕ) (r : Transition). suc i) (λ i. ValidTransition W locations timers) (λ i. All (ValidTransition W locations timers))

@@ -19,10 +19,10 @@ transitionLength W r = 2 + recordLength W (length (r .starts)) (length (r .tests
 unfoldable pub bodyLength : (W : ℕ) → Chart → ℕ
 bodyLength W c = 9 + 2 * length (c .accepting) + sumOf (map (transitionLength W) (c .transitions))
 
--- the bytes of the largest file that the reader accepts
-abbrev pub largestFile : ℕ
-largestFile = 54286
-
 -- the whole file
 unfoldable pub fileLength : (W : ℕ) → Chart → ℕ
 fileLength W c = 5 + bodyLength W c
+
+-- the bytes of the largest file that the reader accepts
+abbrev pub largestFile : ℕ
+largestFile = 54286

@@ -63,8 +63,8 @@ module _ (f : Flow) (before : List ℕ) where
   roundTo-step i e n =
       ext-getD 0 (roundTo f before (suc i)) _ (length-roundTo (suc i) ∙ sym (length-set (roundTo f before i) _ _ ∙ length-roundTo i))
       (λ q h.
-          let l : q < f .locations = omega (arith, length-roundTo (suc i)) in
-          getD-roundTo (suc i) q l ∙ made-as-loop q i e n ∙ at q l (ℕ-discrete q (e .into)))
+      let l : q < f .locations = omega (arith, length-roundTo (suc i)) in
+      getD-roundTo (suc i) q l ∙ made-as-loop q i e n ∙ at q l (ℕ-discrete q (e .into)))
     where
       at : (q : ℕ) → q < f .locations → Dec (q ≡ e .into)
           → withEdge before q (withEdges before q (f .own q) (take i (f .edges))) e

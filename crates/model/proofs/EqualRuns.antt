@@ -34,9 +34,9 @@ module _ (c : Chart) (N : Numbering) (P : Plan c N) where
       match-then (Agree c N (λ k. S k ⊎ Starts c′ k e)) (Agree c N (λ k. S k ⊎ StartedIn c′ k (e ∷ es)))
       (attempt allowed c n s e) (attempt allowed c′ n s′ e) (λ t. steps allowed c (suc n) t es) (λ t. steps allowed c′ (suc n) t es)
       (λ t t′ b.
-          match-weaken (Agree c N (λ k. (S k ⊎ Starts c′ k e) ⊎ StartedIn c′ k es)) _
-          (steps allowed c (suc n) t es) (steps allowed c′ (suc n) t′ es) (agree-weaken regroup)
-          (steps-alike allowed es (suc n) (λ k. S k ⊎ Starts c′ k e) t t′ b))
+      match-weaken (Agree c N (λ k. (S k ⊎ Starts c′ k e) ⊎ StartedIn c′ k es)) _
+      (steps allowed c (suc n) t es) (steps allowed c′ (suc n) t′ es) (agree-weaken regroup)
+      (steps-alike allowed es (suc n) (λ k. S k ⊎ Starts c′ k e) t t′ b))
       (attempt-alike c N P allowed n a e)
     where
       regroup : (k : ℕ) → (S k ⊎ Starts c′ k e) ⊎ StartedIn c′ k es → S k ⊎ (Starts c′ k e ⊎ StartedIn c′ k es)
