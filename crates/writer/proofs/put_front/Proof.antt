@@ -1,9 +1,10 @@
+-- `put_front` meets its contract: six fields one after another. Assumes nothing.
 use mathlib.Core.List.{append-assoc}
 use lib.ListN.{length-append}
 use borrow.Author.Needs.{needs}
 use Rattle.file_format.proofs.Lengths.{length-digits}
 use Rattle.writer.specs.Bytes.{frontBytes}
-use Rattle.chart_lists.proofs.Part.{laid-first, laid-next, laid-done}
+use Rattle.chart_lists.proofs.Fields.{fields-first, fields-next, fields-done}
 use Rattle.writer.proofs.put_front.Statement.{statement}
 use Rattle.writer.proofs.put_front.Tie as tie
 
@@ -75,7 +76,20 @@ same-length c = search needs
 
 returns : tie.Need-returns
 unfolding frontBytes
-returns c = laid-done _ (laid-next (laid-next (laid-next (laid-next (laid-next (laid-first (c .before .before .before .before .before .before .before .before .before .before .before .before .before .before .before .before .before .before .before .before .before .before .put-byte .ensures)) 1 _ (simp (length-append, length-digits)) (c .before .before .before .before .before .before .before .before .before .before .before .before .before .before .before .before .before .before .put-quad .ensures)) 5 _ (simp (length-append, length-digits)) (c .before .before .before .before .before .before .before .before .before .before .before .before .before .before .put-pair .ensures)) 7 _ (simp (length-append, length-digits)) (c .before .before .before .before .before .before .before .before .before .before .put-pair2 .ensures)) 9 _ (simp (length-append, length-digits)) (c .before .before .before .before .before .before .put-byte2 .ensures)) 10 _ (simp (length-append, length-digits)) (c .before .before .put-pair3 .ensures)) (simp append-assoc)
+returns c =
+    let accepting = c .before .before in
+    let timers = accepting .before .before .before .before in
+    let initial = timers .before .before .before .before in
+    let locations = initial .before .before .before .before in
+    let size = locations .before .before .before .before in
+    let version = size .before .before .before .before in
+    let a = fields-first (version .put-byte .ensures) in
+    let b = fields-next a 1 _ (simp (length-append, length-digits)) (size .put-quad .ensures) in
+    let d = fields-next b 5 _ (simp (length-append, length-digits)) (locations .put-pair .ensures) in
+    let e = fields-next d 7 _ (simp (length-append, length-digits)) (initial .put-pair2 .ensures) in
+    let f = fields-next e 9 _ (simp (length-append, length-digits)) (timers .put-byte2 .ensures) in
+    let g = fields-next f 10 _ (simp (length-append, length-digits)) (accepting .put-pair3 .ensures) in
+    fields-done _ g (simp append-assoc)
 
 pub put-front-spec : {M : Type 1} → statement M
 put-front-spec =
