@@ -4,8 +4,10 @@ ghost use Rattle.chart_lists.specs.Lent.{atEntry};
 ghost use Rattle.list_judging.specs.Parts.{checkHeader, checkAccepting, checkTransitions, checkChart};
 ghost use Rattle.list_judging.specs.Meaning.{judgedAs, entryAs};
 ghost use Rattle.list_judging.specs.Lent.{transitionsAtEntry};
+
 mod entries;
 mod transition;
+
 use crate::entries::Entry;
 use crate::entries::below;
 use crate::entries::pair_at;

@@ -188,15 +188,7 @@ pub fn judge_transition(
     let Entry::Value(s) = b else {
         return Record::Refused(refusal_of(b));
     };
-    let d = judge_count(
-        test_counts,
-        timers,
-        codes,
-        constants,
-        header.timers,
-        i,
-        k,
-    );
+    let d = judge_count(test_counts, timers, codes, constants, header.timers, i, k);
     let Entry::Value(g) = d else {
         return Record::Refused(refusal_of(d));
     };

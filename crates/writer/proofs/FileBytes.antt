@@ -60,7 +60,7 @@ module _ (m : Header) (l : Lists) (c : Chart) (h : ChartOf m l c) where
   unfolding numberBytes
   accepting-bytes =
       let entry = each-nth (acceptingItem (m .locations) (l .accepting)) nextLowest (λ k x. getElem? (l .accepting) k ≡ some x)
-          (λ k lo x e. accepting-of (m .locations) (l .accepting) k lo x e .0) 0 0 (c .accepting) (each-accepted m l c h) in
+      (λ k lo x e. accepting-of (m .locations) (l .accepting) k lo x e .0) 0 0 (c .accepting) (each-accepted m l c h) in
       rw (← accepted-length m l c h)
       (gather-all (digits 2) (c .accepting) (λ i. digits 2 (getD (l .accepting) i 0))
       (λ i x n. rw (← zero-add i) (ap (digits 2) (getD-nth (l .accepting) (0 + i) 0 (entry i x n)))))
@@ -68,7 +68,7 @@ module _ (m : Header) (l : Lists) (c : Chart) (h : ChartOf m l c) where
   accepting-room : m .accepting ≤ length (l .accepting)
   accepting-room =
       let room = each-room (acceptingItem (m .locations) (l .accepting)) nextLowest (λ x. x) (l .accepting)
-          (λ k lo x e. accepting-of (m .locations) (l .accepting) k lo x e .0) 0 0 (c .accepting) (each-accepted m l c h) in
+      (λ k lo x e. accepting-of (m .locations) (l .accepting) k lo x e .0) 0 0 (c .accepting) (each-accepted m l c h) in
       omega (arith, accepted-length m l c h, room)
 
   -- ---- transitions
@@ -93,7 +93,7 @@ module _ (m : Header) (l : Lists) (c : Chart) (h : ChartOf m l c) where
   unfolding checkTransitions
   records-most =
       let most = transitions-most l (m .locations) (m .timers) (m .transitions) {b = total (transitionLength 2) (c .transitions)}
-          (rw (h .transitions)) in
+      (rw (h .transitions)) in
       omega (arith, records-length, h .few-transitions, most)
 
   -- ---- the parts of the file

@@ -19,6 +19,10 @@ use Rattle.list_judging.specs.FromLists.{chartFrom}
 unfoldable pub numberBytes : (w : ℕ) → List ℕ → (n : ℕ) → List ℕ
 numberBytes w l n = gather (λ i. digits w (getD l i 0)) n
 
+-- two numbers in two bytes each and one in one byte: the ends and the event of a record, or what stands first in the header
+unfoldable pub tripleBytes : (a b d : ℕ) → List ℕ
+tripleBytes a b d = digits 2 a ++ (digits 2 b ++ digits 1 d)
+
 -- a test
 unfoldable pub testBytes : (timer code constant : ℕ) → List ℕ
 testBytes timer code constant = digits 1 timer ++ (digits 1 code ++ digits 2 constant)

@@ -4,6 +4,7 @@ ghost use Prim.Native.Nat.{_≤_};
 ghost use lib.ListN.{length};
 ghost use Rattle.file_format.specs.Parse.{digits};
 ghost use Rattle.chart_lists.specs.Lists.{put};
+ghost use Rattle.writer.specs.Bytes.{tripleBytes};
 
 pub fn put_byte(out: &mut [u8], v: u8)
     requires { ⌜ 1 ≤ length (now out) ⌝ }
@@ -26,4 +27,14 @@ pub fn put_quad(out: &mut [u8], v: u32)
 {
     put_pair(out, (v / 65536) as u16);
     put_pair(&mut out[2..], (v % 65536) as u16);
+}
+
+// Two numbers of two bytes and one of one: the ends and the event of a record, or what stands first in the header.
+pub fn put_triple(out: &mut [u8], a: u16, b: u16, d: u8)
+    requires { ⌜ 5 ≤ length (now out) ⌝ }
+    ensures { λ _. ⌜ now (out .exit) ≡ put (tripleBytes a b d) (now (out .entry)) ⌝ }
+{
+    put_pair(out, a);
+    put_pair(&mut out[2..], b);
+    put_byte(&mut out[4..], d);
 }

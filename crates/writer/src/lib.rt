@@ -8,11 +8,14 @@ ghost use Rattle.chart_lists.specs.Lent.{passed, atEntry};
 ghost use Rattle.list_judging.specs.FromLists.{chartFrom};
 ghost use Rattle.writer.specs.Bytes.{numberBytes, frontBytes, Writable};
 ghost use Rattle.writer.specs.Writing.{writeInto, writeAnswer, writtenAs};
+
 mod fields;
 mod records;
+
 use crate::fields::put_byte;
 use crate::fields::put_pair;
 use crate::fields::put_quad;
+use crate::fields::put_triple;
 use crate::records::write_records;
 use chart_lists::Header;
 use list_judging::Judged;
@@ -45,9 +48,12 @@ fn put_front(out: &mut [u8], size: u32, header: Header)
 {
     put_byte(out, 1);
     put_quad(&mut out[1..], size);
-    put_pair(&mut out[5..], header.locations);
-    put_pair(&mut out[7..], header.initial);
-    put_byte(&mut out[9..], header.timers);
+    put_triple(
+        &mut out[5..],
+        header.locations,
+        header.initial,
+        header.timers,
+    );
     put_pair(&mut out[10..], header.accepting);
 }
 

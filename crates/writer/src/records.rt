@@ -10,6 +10,7 @@ ghost use Rattle.list_judging.specs.Lent.{transitionsPassed, transitionsAtEntry
 ghost use Rattle.writer.specs.Bytes.{testBytes, testsBytes, headBytes, recordBytes, Room, records};
 use crate::fields::put_byte;
 use crate::fields::put_pair;
+use crate::fields::put_triple;
 use chart_lists::Header;
 use timer_set::TimerSet;
 
@@ -67,9 +68,7 @@ fn put_head(out: &mut [u8], size: u16, source: u16, target: u16, event: u8, s: u
     ensures { λ _. ⌜ now (out .exit) ≡ put (headBytes size source target event s) (now (out .entry)) ⌝ }
 {
     put_pair(out, size);
-    put_pair(&mut out[2..], source);
-    put_pair(&mut out[4..], target);
-    put_byte(&mut out[6..], event);
+    put_triple(&mut out[2..], source, target, event);
     put_byte(&mut out[7..], s);
 }
 
