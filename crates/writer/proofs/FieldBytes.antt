@@ -10,7 +10,6 @@ use Rattle.lists.proofs.Growing.{gather-first}
 use Rattle.lists.proofs.Nth.{getD-nth}
 use Rattle.timer_set.specs.Members.{members}
 use Rattle.file_format.specs.Parse.{digits, writeAll}
-use Rattle.file_format.specs.Body.{recordLength}
 use Rattle.file_format.proofs.Lengths.{length-digits, length-numbers}
 use Rattle.chart_lists.specs.Lists.{Lists}
 use Rattle.writer.specs.Bytes.{testBytes, testAt, testsBytes, headBytes, recordBytes}
@@ -42,14 +41,14 @@ length-starts w = omega (arith, length-numbers 1 (members w))
 
 -- ---- a record
 
-pub length-head : (size source target event s : ℕ) → length (headBytes size source target event s) ≡ 8
+pub length-head : (source target event s g : ℕ) → length (headBytes source target event s g) ≡ 8
 unfolding headBytes
-length-head size source target event s = simp (length-append, length-digits)
+length-head source target event s g = simp (length-append, length-digits)
 
 -- its parts one after another, s being the number of started timers
 module _ (source target event w g s : ℕ) (e : s ≡ length (members w)) where
   abbrev head : List ℕ
-  head = headBytes (7 + s + 4 * g) source target event s
+  head = headBytes source target event s g
 
   pub length-front : 8 + s ≡ length (head ++ writeAll (digits 1) (members w))
   length-front = simp (length-append, length-head, length-starts) (omega arith)
@@ -59,5 +58,5 @@ module _ (source target event w g s : ℕ) (e : s ≡ length (members w)) where
 
   pub record-parts : (l : Lists) (k : ℕ)
       → ((head ++ writeAll (digits 1) (members w)) ++ digits 1 g) ++ testsBytes l k g ≡ recordBytes source target event w l k g
-  unfolding recordBytes recordLength
+  unfolding recordBytes
   record-parts l k = rw e (simp append-assoc)

@@ -35,20 +35,8 @@ counted-3 c = counted (c .before .before .before .before .before .before .before
 abbrev timers-put : tie.After-slice-known4 → tie.After-slice-known3
 timers-put c = c .before .before .before .before
 
-add-put-head : tie.Need-add-put-head
-add-put-head c = let s = counted (c .before) in omega arith
-
-mul-put-head : tie.Need-mul-put-head
-mul-put-head c = search needs
-
-add-put-head-2 : tie.Need-add-put-head-2
-add-put-head-2 c = let s = counted (c .before) in omega arith
-
 cast-put-head : tie.Need-cast-put-head
 cast-put-head c = let s = counted (c .before) in omega arith
-
-cast-put-head-2 : tie.Need-cast-put-head-2
-cast-put-head-2 c = let s = counted (c .before) in omega arith
 
 put-head-requires : tie.Need-put-head-requires
 put-head-requires c κs = search needs
@@ -124,11 +112,7 @@ write-record-spec =
     tie.close
     (tie.spec
     count-requires
-    add-put-head
-    mul-put-head
-    add-put-head-2
     cast-put-head
-    cast-put-head-2
     put-head-requires
     sub-put-starts
     part-put-starts-start
