@@ -2,7 +2,7 @@
 use mathlib.Core.Path.{_≡_, refl, ap, _∙_}
 use mathlib.Core.Option.{some}
 use mathlib.Core.List.{List, [], _∷_, _++_, append-assoc}
-use Prim.Native.Nat.{ℕ, suc, _+_, _*_}
+use Prim.Native.Nat.{ℕ, suc, _+_}
 use native.Mathlib.Omega.{arith}
 use lib.ListN.{length, getD, getElem?, length-append}
 use Rattle.lists.specs.Lists.{gather}
@@ -36,7 +36,7 @@ length-testAt l k = length-test _ _ _
 pub starts-bytes : (w : ℕ) → gather (λ i. digits 1 (getD (members w) i 0)) (length (members w)) ≡ writeAll (digits 1) (members w)
 starts-bytes w = gather-all (digits 1) (members w) _ (λ i j e. ap (digits 1) (getD-nth (members w) i 0 e))
 
-pub length-starts : (w : ℕ) → length (writeAll (digits 1) (members w)) ≡ length (members w)
+length-starts : (w : ℕ) → length (writeAll (digits 1) (members w)) ≡ length (members w)
 length-starts w = omega (arith, length-numbers 1 (members w))
 
 -- ---- a record
@@ -50,11 +50,11 @@ module _ (source target event w g s : ℕ) (e : s ≡ length (members w)) where
   abbrev head : List ℕ
   head = headBytes source target event s g
 
-  pub length-front : 8 + s ≡ length (head ++ writeAll (digits 1) (members w))
-  length-front = simp (length-append, length-head, length-starts) (omega arith)
+  pub length-started : 8 + s ≡ length (head ++ writeAll (digits 1) (members w))
+  length-started = simp (length-append, length-head, length-starts) (omega arith)
 
-  pub length-counted : 8 + s + 1 ≡ length ((head ++ writeAll (digits 1) (members w)) ++ digits 1 g)
-  length-counted = simp (length-append, length-head, length-starts, length-digits) (omega arith)
+  pub length-numbered : 8 + s + 1 ≡ length ((head ++ writeAll (digits 1) (members w)) ++ digits 1 g)
+  length-numbered = simp (length-append, length-head, length-starts, length-digits) (omega arith)
 
   pub record-parts : (l : Lists) (k : ℕ)
       → ((head ++ writeAll (digits 1) (members w)) ++ digits 1 g) ++ testsBytes l k g ≡ recordBytes source target event w l k g

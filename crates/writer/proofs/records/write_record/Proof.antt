@@ -8,7 +8,7 @@ use borrow.Author.Needs.{needs}
 use Rattle.timer_set.specs.Members.{members}
 use Rattle.timer_set.proofs.Counts.{ones-members}
 use Rattle.chart_lists.proofs.Fields.{fields-first, fields-next, fields-done}
-use Rattle.writer.proofs.FieldBytes.{length-head, length-front, length-counted, record-parts}
+use Rattle.writer.proofs.FieldBytes.{length-head, length-started, length-numbered, record-parts}
 use Rattle.list_judging.proofs.Turns.{members-few}
 use Rattle.writer.proofs.records.write_record.Statement.{statement}
 use Rattle.writer.proofs.records.write_record.Tie as tie
@@ -103,8 +103,8 @@ returns c =
     let head = timers .before .before .before .before in
     let s = counted-3 (number .before .before) .is in
     let a = fields-next (fields-first (head .put-head .ensures)) 8 _ (sym (length-head _ _ _ _ _)) (timers .put-starts .ensures) in
-    let b = fields-next a _ _ (length-front _ _ _ _ _ _ s) (number .put-byte .ensures) in
-    let d = fields-next b _ _ (length-counted _ _ _ _ _ _ s) (tests .put-tests .ensures) in
+    let b = fields-next a _ _ (length-started _ _ _ _ _ _ s) (number .put-byte .ensures) in
+    let d = fields-next b _ _ (length-numbered _ _ _ _ _ _ s) (tests .put-tests .ensures) in
     (omega (arith, s), fields-done _ d (record-parts _ _ _ _ _ _ s _ _))
 
 pub write-record-spec : {M : Type 1} → statement M
