@@ -3,3 +3,6 @@ pub mod Tests
 pub mod Part
 pub mod Begins
 pub mod Holds
+pub mod Fields
+pub mod PutLoop
+pub mod Overwritten
