@@ -9,7 +9,7 @@ use lib.ListN.{length, getD, set, take}
 use lib.Seq.{length-take-le, getD-take, getD-set-same, getD-set-other}
 use Rattle.timer_set.specs.Members.{common, minus}
 use Rattle.model.specs.Family.{Link}
-use Rattle.families.specs.Pairs.{linkAt, pairsOf, Matching}
+use Rattle.families.specs.Pairs.{linkAt, pairsOf, SafeTransitions}
 use Rattle.families.specs.Propagation.{linkOn, LinkLists, Ends}
 use Rattle.lists.specs.Elements.{Element}
 use Rattle.families.proofs.CodePairs.{link-in, link-out}
@@ -82,7 +82,7 @@ module _ (sources targets starts live ones others linked : List ℕ) {i count : 
 
 -- ---- the fronts of the lists
 
-module _ {sources targets starts live : List ℕ} {timers : ℕ} (fit : Matching sources targets starts live timers) {i count : ℕ} (ones others linked : List ℕ)
+module _ {sources targets starts live : List ℕ} {timers : ℕ} (fit : SafeTransitions sources targets starts live timers) {i count : ℕ} (ones others linked : List ℕ)
     (end : i ≡ length sources) (x : Found (linkAt sources targets starts live) (linkOn ones others linked) i count)
     (ha : count ≤ length ones) (hb : count ≤ length others) (hc : count ≤ length linked) where
   abbrev front : ℕ → Link

@@ -24,7 +24,7 @@ pairsOf sources targets starts live timers = record {
 }
 
 -- what the code asks for its safety, and that no set has a timer at or above the number of timers
-pub record Matching (sources targets starts live : List ℕ) (timers : ℕ) : Type 0 where
+pub record SafeTransitions (sources targets starts live : List ℕ) (timers : ℕ) : Type 0 where
   pub few-targets : length targets ≡ length sources
   pub few-starts : length starts ≡ length sources
   pub few-transitions : length sources ≤ 512

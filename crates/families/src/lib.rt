@@ -4,7 +4,7 @@ ghost use Prim.Native.Nat.{ℕ, _≤_, _<_};
 ghost use lib.ListN.{length, getD, take, set};
 ghost use Rattle.timer_set.specs.Members.{common, minus};
 ghost use Rattle.model.specs.Family.{Pairs, WellFormed};
-ghost use Rattle.families.specs.Pairs.{pairsOf, Matching};
+ghost use Rattle.families.specs.Pairs.{pairsOf, SafeTransitions};
 ghost use Rattle.families.specs.Propagation.{LinkLists, Ends, JoinedEnds, Swept, Propagated};
 use timer_set::TimerSet;
 
@@ -50,7 +50,7 @@ pub fn find_links<'a>(
     others: &mut [u16],
     linked: &mut [u64],
 ) -> usize
-    requires { ⌜ Matching (now sources) (now targets) (now starts) (now live) timers × (length (now sources) ≤ length (now ones)) × (length (now sources) ≤ length (now others)) × (length (now sources) ≤ length (now linked)) ⌝ }
+    requires { ⌜ SafeTransitions (now sources) (now targets) (now starts) (now live) timers × (length (now sources) ≤ length (now ones)) × (length (now sources) ≤ length (now others)) × (length (now sources) ≤ length (now linked)) ⌝ }
     ensures few { λ r. ⌜ r ≤ length (now (sources .entry)) ⌝ }
     ensures links { λ r. ⌜ LinkLists (pairsOf (now (sources .entry)) (now (targets .entry)) (now (starts .entry)) (now (live .entry)) timers) (take r (now (ones .exit))) (take r (now (others .exit))) (take r (now (linked .exit))) ⌝ }
     ensures ends { λ r. ⌜ Ends (length (now (live .entry))) (take r (now (ones .exit))) (take r (now (others .exit))) (take r (now (linked .exit))) ⌝ }

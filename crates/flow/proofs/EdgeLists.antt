@@ -15,7 +15,7 @@ use Rattle.model.specs.Flow.{Edge, brings, round}
 use Rattle.model.proofs.Edges.{roundTo, roundTo-start, roundTo-step, roundTo-end}
 use Rattle.model.proofs.Rounds.{Words}
 use Rattle.model.proofs.Settled.{Changes, few-changes}
-use Rattle.flow.specs.Edges.{edgeAt, flowOf, Matching}
+use Rattle.flow.specs.Edges.{edgeAt, flowOf, SafeEdges}
 
 module _ {A : Type 0} where
   upTo-getD : (l : List A) (d : A) → upTo (λ i. getD l i d) (length l) ≡ l
@@ -55,8 +55,8 @@ module _ (into from cut gain own : List ℕ) where
       let below : i < length into = omega (arith, below-nth (flowOf into from cut gain own .edges) i n, length-edges) in
       (below, Option·some-injective _ _ (sym n ∙ nth-edge i below))
 
-  -- where the lists match and hold words of 64 the laws of rounds hold
-  pub shaped-lists : Matching into from cut gain own → Words gain → Words own → Shaped (flowOf into from cut gain own)
+  -- where the lists are safe and hold words of 64 the laws of rounds hold
+  pub shaped-lists : SafeEdges into from cut gain own → Words gain → Words own → Shaped (flowOf into from cut gain own)
   unfolding flowOf edgeAt
   shaped-lists m g o = record {
     into-below = λ i {e} n. let x = edge-of i n in rw (x .1) (m .into-below i (x .0));

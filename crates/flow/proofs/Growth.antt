@@ -17,7 +17,7 @@ use Rattle.timer_set.specs.Members.{joined, minus}
 use Rattle.timer_set.proofs.Members.{joined-more}
 use Rattle.model.specs.Flow.{Edge, brings, sameSets}
 use Rattle.model.proofs.Settled.{same-sets-self, same-sets-equal}
-use Rattle.flow.specs.Edges.{edgeAt, Matching}
+use Rattle.flow.specs.Edges.{edgeAt, SafeEdges}
 use Rattle.flow.specs.Sweeps.{passAlong, sweptTo}
 
 -- ---- sums
@@ -113,7 +113,7 @@ pub sweep-none : (into from cut gain start : List ℕ) → Sweep into from cut g
 unfolding sweptTo
 sweep-none into from cut gain start = record { made = refl; grew-is = ap not (sym (same-sets-self start)) }
 
-module _ (into from cut gain : List ℕ) {start : List ℕ} (m : Matching into from cut gain start) {i : ℕ} (below : i < length into) {sets : List ℕ} {grew : Bool}
+module _ (into from cut gain : List ℕ) {start : List ℕ} (m : SafeEdges into from cut gain start) {i : ℕ} (below : i < length into) {sets : List ℕ} {grew : Bool}
     (x : Sweep into from cut gain start i sets grew) (w : ℕ)
     (w-is : w ≡ joined (getD sets (getD into i 0) 0) (joined (getD gain i 0) (minus (getD sets (getD from i 0) 0) (getD cut i 0)))) where
   next-is : set sets (getD into i 0) w ≡ sweptTo (edgeAt into from cut gain) start (suc i)

@@ -20,7 +20,7 @@ use Rattle.model.specs.Flow.{Edge, Flow, brings, sameSets, settled}
 use Rattle.model.specs.Comes.Comes.{owned, gained, along}
 use Rattle.model.proofs.Rounds.{Words}
 use Rattle.model.proofs.Settled.{length-settled, settled-words, settled-iff}
-use Rattle.flow.specs.Edges.{edgeAt, flowOf, Matching}
+use Rattle.flow.specs.Edges.{edgeAt, flowOf, SafeEdges}
 use Rattle.flow.specs.Sweeps.{passAlong, sweptTo}
 use Rattle.flow.proofs.EdgeLists.{nth-edge, edge-of}
 use Rattle.flow.proofs.Growth.{passed, pass-long, swept-still, swept-grows}
@@ -109,8 +109,8 @@ module _ (into from cut gain own : List ℕ) where
   between-own w = record { long = refl; words = w; owns = λ q j o. o; comes = λ q j m. owned m }
 
   -- the code asks of the own sets only how many they are
-  pub matching-long : Matching into from cut gain own → {sets : List ℕ} → length sets ≡ length own → Matching into from cut gain sets
-  matching-long m e = record {
+  pub safe-long : SafeEdges into from cut gain own → {sets : List ℕ} → length sets ≡ length own → SafeEdges into from cut gain sets
+  safe-long m e = record {
     froms = m .froms;
     cuts = m .cuts;
     gains = m .gains;
@@ -136,7 +136,7 @@ module _ (into from cut gain own : List ℕ) where
       pub sweep-between : Between (flowOf into from cut gain own) after
       sweep-between = rw made (between-swept (length into) (le-refl _))
 
-      module _ (m : Matching into from cut gain own) {grew : Bool} (grew-is : grew ≡ not (sameSets l after)) where
+      module _ (m : SafeEdges into from cut gain own) {grew : Bool} (grew-is : grew ≡ not (sameSets l after)) where
         targets : (k : ℕ) → k < length into → getD into k 0 < length l
         targets k h = omega (arith, m .into-below k h, between-long b)
 

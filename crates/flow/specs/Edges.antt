@@ -18,7 +18,7 @@ flowOf into from cut gain own = record {
 }
 
 -- what the code asks for its safety: lists of one length, and every edge between two locations
-pub record Matching (into from cut gain own : List ℕ) : Type 0 where
+pub record SafeEdges (into from cut gain own : List ℕ) : Type 0 where
   pub froms : length from ≡ length into
   pub cuts : length cut ≡ length into
   pub gains : length gain ≡ length into

@@ -5,7 +5,7 @@ ghost use mathlib.Core.Bool.{not};
 ghost use lib.ListN.{length, replicate};
 ghost use Rattle.timer_set.specs.Members.{joined, minus};
 ghost use Rattle.model.specs.Flow.{round as Flow·round, sameSets, settled, rounds};
-ghost use Rattle.flow.specs.Edges.{edgeAt, flowOf, Matching};
+ghost use Rattle.flow.specs.Edges.{edgeAt, flowOf, SafeEdges};
 ghost use Rattle.flow.specs.Sweeps.{sweptTo};
 use timer_set::TimerSet;
 
@@ -55,7 +55,7 @@ fn round<'a>(
     before: &'a [u64],
     after: &mut [u64],
 )
-    requires { ⌜ Matching (now into) (now from) (now cut) (now gain) (now own) ⌝ }
+    requires { ⌜ SafeEdges (now into) (now from) (now cut) (now gain) (now own) ⌝ }
     requires { ⌜ (length (now before) ≡ length (now own)) × (length (now after) ≡ length (now own)) ⌝ }
     ensures { λ _. ⌜ now (after .exit) ≡ Flow·round (flowOf (now (into .entry)) (now (from .entry)) (now (cut .entry)) (now (gain .entry)) (now (own .entry))) (now (before .entry)) ⌝ }
 {
@@ -80,7 +80,7 @@ fn step<'a>(
     before: &'a [u64],
     after: &mut [u64],
 ) -> bool
-    requires { ⌜ Matching (now into) (now from) (now cut) (now gain) (now own) ⌝ }
+    requires { ⌜ SafeEdges (now into) (now from) (now cut) (now gain) (now own) ⌝ }
     requires { ⌜ (length (now before) ≡ length (now own)) × (length (now after) ≡ length (now own)) ⌝ }
     ensures after { λ _. ⌜ now (after .exit) ≡ Flow·round (flowOf (now (into .entry)) (now (from .entry)) (now (cut .entry)) (now (gain .entry)) (now (own .entry))) (now (before .entry)) ⌝ }
     ensures same { λ r. ⌜ r ≡ sameSets (now (before .entry)) (now (after .exit)) ⌝ }
@@ -99,7 +99,7 @@ fn alternate<'a>(
     sets: &mut [u64],
     next: &mut [u64],
 ) -> u32
-    requires { ⌜ Matching (now into) (now from) (now cut) (now gain) (now own) ⌝ }
+    requires { ⌜ SafeEdges (now into) (now from) (now cut) (now gain) (now own) ⌝ }
     requires { ⌜ (now sets ≡ replicate (length (now own)) 0) × (length (now next) ≡ length (now own)) ⌝ }
     ensures sets { λ _. ⌜ now (sets .exit) ≡ settled (flowOf (now (into .entry)) (now (from .entry)) (now (cut .entry)) (now (gain .entry)) (now (own .entry))) ⌝ }
     ensures count { λ r. ⌜ r ≡ rounds (flowOf (now (into .entry)) (now (from .entry)) (now (cut .entry)) (now (gain .entry)) (now (own .entry))) ⌝ }
@@ -125,7 +125,7 @@ pub fn settle<'a>(
     own: &'a [u64],
     sets: &mut [u64],
 ) -> u32
-    requires { ⌜ Matching (now into) (now from) (now cut) (now gain) (now own) ⌝ }
+    requires { ⌜ SafeEdges (now into) (now from) (now cut) (now gain) (now own) ⌝ }
     requires { ⌜ length (now sets) ≡ length (now own) ⌝ }
     ensures sets { λ _. ⌜ now (sets .exit) ≡ settled (flowOf (now (into .entry)) (now (from .entry)) (now (cut .entry)) (now (gain .entry)) (now (own .entry))) ⌝ }
     ensures count { λ r. ⌜ r ≡ rounds (flowOf (now (into .entry)) (now (from .entry)) (now (cut .entry)) (now (gain .entry)) (now (own .entry))) ⌝ }
@@ -144,7 +144,7 @@ fn sweep<'a>(
     gain: &'a [u64],
     sets: &mut [u64],
 ) -> bool
-    requires { ⌜ Matching (now into) (now from) (now cut) (now gain) (now sets) ⌝ }
+    requires { ⌜ SafeEdges (now into) (now from) (now cut) (now gain) (now sets) ⌝ }
     ensures sets { λ _. ⌜ now (sets .exit) ≡ sweptTo (edgeAt (now (into .entry)) (now (from .entry)) (now (cut .entry)) (now (gain .entry))) (now (sets .entry)) (length (now (into .entry))) ⌝ }
     ensures grew { λ r. ⌜ r ≡ not (sameSets (now (sets .entry)) (now (sets .exit))) ⌝ }
 {
@@ -175,7 +175,7 @@ pub fn settle_in_place<'a>(
     own: &'a [u64],
     sets: &mut [u64],
 )
-    requires { ⌜ Matching (now into) (now from) (now cut) (now gain) (now own) ⌝ }
+    requires { ⌜ SafeEdges (now into) (now from) (now cut) (now gain) (now own) ⌝ }
     requires { ⌜ length (now sets) ≡ length (now own) ⌝ }
     ensures { λ _. ⌜ now (sets .exit) ≡ settled (flowOf (now (into .entry)) (now (from .entry)) (now (cut .entry)) (now (gain .entry)) (now (own .entry))) ⌝ }
 {

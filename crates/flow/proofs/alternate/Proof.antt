@@ -8,7 +8,7 @@ use borrow.Author.Count.{below-none}
 use Rattle.model.specs.Flow.{Flow, roundsOf}
 use Rattle.model.specs.Comes.{Shaped}
 use Rattle.model.proofs.Settled.{Changes}
-use Rattle.flow.specs.Edges.{flowOf, Matching}
+use Rattle.flow.specs.Edges.{flowOf, SafeEdges}
 use Rattle.flow.proofs.EdgeLists.{shaped-lists, few-rounds}
 use Rattle.flow.proofs.Turns.{Turn, next-is, goes-on, turn-next, ends-here}
 use Rattle.flow.proofs.alternate.Statement.{statement}
@@ -16,7 +16,7 @@ use Rattle.flow.proofs.alternate.Tie as tie
 
 abbrev Inv-loop : tie.InvT-loop
 Inv-loop into from cut gain own sets₀ next₀ count₀ sets next count =
-    Matching into from cut gain own × Shaped (flowOf into from cut gain own) × (length sets ≡ length own) × (length next ≡ length own)
+    SafeEdges into from cut gain own × Shaped (flowOf into from cut gain own) × (length sets ≡ length own) × (length next ≡ length own)
     × (sets ≡ roundsOf (flowOf into from cut gain own) count) × Changes (flowOf into from cut gain own) count
 
 abbrev μ-loop : tie.MeasureT-loop

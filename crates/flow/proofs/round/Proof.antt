@@ -6,14 +6,14 @@ use native.Mathlib.Omega.{arith}
 use lib.ListN.{length, getD, length-set}
 use borrow.Author.Needs.{needs}
 use Rattle.model.proofs.Edges.{roundTo}
-use Rattle.flow.specs.Edges.{flowOf, Matching}
+use Rattle.flow.specs.Edges.{flowOf, SafeEdges}
 use Rattle.flow.proofs.EdgeLists.{round-start, round-step, round-end}
 use Rattle.flow.proofs.round.Statement.{statement}
 use Rattle.flow.proofs.round.Tie as tie
 
 abbrev Inv-loop : tie.InvT-loop
 Inv-loop into from cut gain own before after₀ n i₀ after i =
-    Matching into from cut gain own × (n ≡ length into) × (i ≤ n) × (length before ≡ length own) × (length after ≡ length own)
+    SafeEdges into from cut gain own × (n ≡ length into) × (i ≤ n) × (length before ≡ length own) × (length after ≡ length own)
     × (after ≡ roundTo (flowOf into from cut gain own) before i)
 
 abbrev μ-loop : tie.MeasureT-loop

@@ -10,7 +10,7 @@ use Rattle.model.specs.Comes.{Shaped}
 use Rattle.model.proofs.Rounds.{Words}
 use Rattle.flow.specs.Edges.{flowOf}
 use Rattle.flow.proofs.EdgeLists.{shaped-lists}
-use Rattle.flow.proofs.InPlace.{Between, between-own, between-long, between-small, matching-long, sweep-between, sweep-grows, sweep-settled}
+use Rattle.flow.proofs.InPlace.{Between, between-own, between-long, between-small, safe-long, sweep-between, sweep-grows, sweep-settled}
 use Rattle.flow.proofs.settle_in_place.Statement.{statement}
 use Rattle.flow.proofs.settle_in_place.Tie as tie
 
@@ -36,7 +36,7 @@ loop-holds c =
     )
 
 sweep-requires : tie.Need-sweep-requires Inv-loop μ-loop
-sweep-requires c κs = let l = c .before in matching-long _ _ _ _ _ (start l .pre .0) (between-long _ _ _ _ _ (l .loop .inv .1))
+sweep-requires c κs = let l = c .before in safe-long _ _ _ _ _ (start l .pre .0) (between-long _ _ _ _ _ (l .loop .inv .1))
 
 -- ---- after a sweep
 
