@@ -33,7 +33,9 @@ module _ {sources targets starts live : List ℕ} {timers : ℕ} (fit : SafeTran
 
   pub link-out : (n : ℕ) (k : Link) → getElem? (p .links) n ≡ some k → (i : ℕ) × (i < length sources) × (link i ≡ k)
   unfolding pairsOf Rattle.lists.specs.Lists.upTo
-  link-out n k e = let x = gather-out (λ i. link i ∷ []) (length sources) n e in (x .number, x .below, one (x .number) (x .element .place) (x .element .is-nth))
+  link-out n k e =
+      let x = gather-out (λ i. link i ∷ []) (length sources) n e in
+      (x .number, x .below, one (x .number) (x .element .place) (x .element .is-nth))
     where
       one : (i m : ℕ) → getElem? (link i ∷ []) m ≡ some k → link i ≡ k
       one i zero e = Option·some-injective _ _ e

@@ -19,7 +19,8 @@ use Rattle.flow.specs.Edges.{edgeAt, flowOf, SafeEdges}
 
 module _ {A : Type 0} where
   upTo-getD : (l : List A) (d : A) → upTo (λ i. getD l i d) (length l) ≡ l
-  upTo-getD l d = ext-getD d _ l (length-upTo _ (length l)) (λ i h. getD-upTo _ (length l) i d (omega (arith, length-upTo (λ i. getD l i d) (length l))))
+  upTo-getD l d =
+      ext-getD d _ l (length-upTo _ (length l)) (λ i h. getD-upTo _ (length l) i d (omega (arith, length-upTo (λ i. getD l i d) (length l))))
 
   nth-upTo : (f : ℕ → A) (n i : ℕ) → i < n → getElem? (upTo f n) i ≡ some (f i)
   nth-upTo f n i h = let x = nth-below (upTo f n) i (omega (arith, length-upTo f n)) in
@@ -48,9 +49,11 @@ module _ (into from cut gain own : List ℕ) where
 
     pub round-end : (i : ℕ) (after : List ℕ) → i ≡ length into → after ≡ roundTo (flowOf into from cut gain own) before i
         → after ≡ round (flowOf into from cut gain own) before
-    round-end i after l e = e ∙ ap (roundTo (flowOf into from cut gain own) before) (l ∙ sym length-edges) ∙ roundTo-end (flowOf into from cut gain own) before
+    round-end i after l e = e ∙ ap (roundTo (flowOf into from cut gain own) before) (l ∙ sym length-edges)
+        ∙ roundTo-end (flowOf into from cut gain own) before
 
-  pub edge-of : (i : ℕ) {e : Edge} → getElem? (flowOf into from cut gain own .edges) i ≡ some e → (i < length into) × (e ≡ edgeAt into from cut gain i)
+  pub edge-of : (i : ℕ) {e : Edge} → getElem? (flowOf into from cut gain own .edges) i ≡ some e
+      → (i < length into) × (e ≡ edgeAt into from cut gain i)
   edge-of i n =
       let below : i < length into = omega (arith, below-nth (flowOf into from cut gain own .edges) i n, length-edges) in
       (below, Option·some-injective _ _ (sym n ∙ nth-edge i below))
