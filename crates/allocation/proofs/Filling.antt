@@ -11,7 +11,8 @@ use lib.ListN.{length, getD, set}
 use lib.Seq.{getD-set-same, getD-set-other}
 use borrow.Author.Tests.{ne-eqb}
 use Rattle.lists.proofs.Bools.{is-no, eqb-self, lt-or-le}
-use Rattle.allocation.specs.Numbering.{inFamily, changed, Within}
+use Rattle.allocation.specs.Rows.{inFamily, changed, Within}
+use Rattle.chart_lists.specs.Limits.{mostLocations}
 
 -- ---- one column of the rows of a family's locations
 
@@ -39,7 +40,7 @@ module _ (place : ℕ → ℕ → ℕ) (columns : ℕ) (sets : List ℕ) (j colu
   -- the rows below s are done, and the others are as they were
   pub record Rows (s : ℕ) (now : List ℕ) : Type 0 where
     pub done : (q i : ℕ) → q < s → i < columns → getD now (place q i) 0 ≡ new q i
-    pub left : (q i : ℕ) → s ≤ q → q < 256 → i < columns → getD now (place q i) 0 ≡ getD before (place q i) 0
+    pub left : (q i : ℕ) → s ≤ q → q < mostLocations → i < columns → getD now (place q i) 0 ≡ getD before (place q i) 0
 
   -- a row that is not of the family stays
   kept : (s i : ℕ) → inFamily sets j s ≡ false → getD before (place s i) 0 ≡ new s i
@@ -49,23 +50,23 @@ module _ (place : ℕ → ℕ → ℕ) (columns : ℕ) (sets : List ℕ) (j colu
     pub rows-none : Rows from before
     rows-none = record { done = λ q i h k. kept q i (is-no _ (λ t. omega (arith, w .low q t))); left = λ q i h b k. refl }
 
-    pub rows-all : (l : List ℕ) → Rows end l → (q i : ℕ) → q < 256 → i < columns → getD l (place q i) 0 ≡ new q i
+    pub rows-all : (l : List ℕ) → Rows end l → (q i : ℕ) → q < mostLocations → i < columns → getD l (place q i) 0 ≡ new q i
     rows-all l r q i b k = go (lt-or-le q end)
       where
         go : (q < end) ⊎ (end ≤ q) → getD l (place q i) 0 ≡ new q i
         go (inl h) = r .done q i h k
         go (inr h) = r .left q i h b k ∙ kept q i (is-no _ (λ t. omega (arith, w .high q t)))
 
-  module _ (s : ℕ) (few : s < 256) (l : List ℕ) (r : Rows s l) where
+  module _ (s : ℕ) (few : s < mostLocations) (l : List ℕ) (r : Rows s l) where
     -- a row more, if its entries are done and the others are kept
     rows-more : (m : List ℕ) → ((i : ℕ) → i < columns → getD m (place s i) 0 ≡ new s i)
-        → ((q i : ℕ) → q ≢ s → q < 256 → i < columns → getD m (place q i) 0 ≡ getD l (place q i) 0) → Rows (s + 1) m
+        → ((q i : ℕ) → q ≢ s → q < mostLocations → i < columns → getD m (place q i) 0 ≡ getD l (place q i) 0) → Rows (s + 1) m
     rows-more m row other = record {
       done = λ q i h k. go q i k (omega arith) (ℕ-discrete q s) (λ n. r .done q i (omega arith) k);
       left = λ q i h b k. other q i (λ e. omega arith) b k ∙ r .left q i (omega arith) b k;
     }
       where
-        go : (q i : ℕ) → i < columns → q < 256 → Dec (q ≡ s) → (q ≢ s → getD l (place q i) 0 ≡ new q i) → getD m (place q i) 0 ≡ new q i
+        go : (q i : ℕ) → i < columns → q < mostLocations → Dec (q ≡ s) → (q ≢ s → getD l (place q i) 0 ≡ new q i) → getD m (place q i) 0 ≡ new q i
         go q i k b (yes e) f = rw e (row i k)
         go q i k b (no ne) f = other q i ne b k ∙ f ne
 
@@ -73,7 +74,7 @@ module _ (place : ℕ → ℕ → ℕ) (columns : ℕ) (sets : List ℕ) (j colu
     rows-no e = rows-more l (λ i h. r .left s i (omega arith) few h ∙ kept s i e) (λ q i n b h. refl)
 
     pub rows-yes : inFamily sets j s ≡ true → column < columns → place s column < length l
-        → ((q i : ℕ) → q < 256 → i < columns → place q i ≡ place s column → (q ≡ s) × (i ≡ column))
+        → ((q i : ℕ) → q < mostLocations → i < columns → place q i ≡ place s column → (q ≡ s) × (i ≡ column))
         → Rows (s + 1) (set l (place s column) (value (getD l (place s column) 0)))
     rows-yes e c long apart = rows-more m (λ i h. row i h (ℕ-discrete i column)) (λ q i n b h. getD-set-other l _ (place q i) _ 0 (λ p. n (apart q i b h p .0)))
       where

@@ -8,10 +8,12 @@ use lib.ListN.{length, take}
 use lib.Seq.{length-take-le}
 use Rattle.model.specs.Family.{Pairs}
 use Rattle.model.specs.FirstFit.{Placed, usedBy}
+use Rattle.model.specs.Rewrite.{numbering}
 use Rattle.families.specs.Pairs.{pairsOf}
 use Rattle.families.proofs.CodePairs.{formed}
-use Rattle.allocation.specs.Cells.{cells}
-use Rattle.allocation.specs.Numbering.{Described}
+use Rattle.allocation.specs.Cells.{cellsOf}
+use Rattle.allocation.specs.Turns.{Described}
+use Rattle.chart_lists.specs.Limits.{mostTransitions}
 use Rattle.allocation.proofs.AllFamilies.{all-placed}
 use Rattle.allocation.proofs.Cleared.{front-length, fresh}
 use Rattle.allocation.proofs.allocate.Statement.{statement}
@@ -21,7 +23,7 @@ abbrev start : tie.After-find-links → tie.Start
 start c = c .before .before .before .before .before .before .before .before .before
 
 -- how many links have timers
-count-few : (c : tie.After-find-links) → c .find-links .result ≤ 512
+count-few : (c : tie.After-find-links) → c .find-links .result ≤ mostTransitions
 count-few c = omega (arith, c .find-links .ensures .0, start c .pre .0 .few-transitions)
 
 abbrev pairs : tie.After-find-links → Pairs
@@ -89,7 +91,7 @@ number-locations-requires c κs =
     let x = c .before .before .before .before .before .before .before .before .before .before .before .before .before .before in
     let s = start x in
     let k = c .before .before .before .before .before .before .before .before .before .clear in (
-      record { pairs = pairs x; are = described x },
+      (pairs x, described x),
       x .find-links .ensures .1 .1,
       fresh (s .args .live .now) (k .last .0) (s .pre .0 .few-locations) (k .kept .0 ∙ s .pre .1) (λ y h. k .ensures y (omega (arith, s .pre .1))),
     )
@@ -103,7 +105,7 @@ returns c =
     let x = c .before .before .before .before .before .before .before .before .before .before .before .before .before .before .before .before .before .before .before .before in
     let n = c .before .before .before .before .before .number-locations .ensures (pairs x) (described x) in
     let e = all-placed (formed (start x .pre .0)) in (
-      n .cells-are ∙ ap (λ (ps : List Placed). cells ps (length (start x .args .live .now))) e,
+      n .cells-are ∙ ap (λ (ps : List Placed). cellsOf (numbering ps) (length (start x .args .live .now))) e,
       n .used-is ∙ ap usedBy e,
     )
 

@@ -4,24 +4,25 @@ use mathlib.Core.Path.{_≡_, refl, sym, _∙_}
 use Prim.Native.Nat.{_+_, _*_, _-_, _≤_, _<_}
 use native.Mathlib.Omega.{arith}
 use lib.ListN.{length, length-set}
-use Rattle.allocation.specs.Numbering.{given, Within}
+use Rattle.allocation.specs.Rows.{given, Within, cellPlace}
+use Rattle.chart_lists.specs.Limits.{mostLocations}
 use Rattle.allocation.proofs.Filling.{Rows, rows-none, rows-no, rows-yes, rows-all}
-use Rattle.allocation.proofs.give.Statement.{statement}
-use Rattle.allocation.proofs.give.Tie as tie
+use Rattle.allocation.proofs.place.give.Statement.{statement}
+use Rattle.allocation.proofs.place.give.Tie as tie
 
 abbrev Inv-loop : tie.InvT-loop
-Inv-loop sets from end j number numbers₀ s₀ numbers s =
-    (s ≤ end) × (length numbers ≡ length numbers₀) × Rows (λ s i. 64 * s + i) 64 sets j j (λ _. number) numbers₀ s numbers
-    × ((j < 64) × (length sets ≤ 256) × (length numbers₀ ≡ 64 * length sets) × Within sets j from end)
+Inv-loop sets from end j number cells₀ s₀ cells s =
+    (s ≤ end) × (length cells ≡ length cells₀) × Rows cellPlace 64 sets j j (λ _. number) cells₀ s cells
+    × ((j < 64) × (length sets ≤ mostLocations) × (length cells₀ ≡ 64 * length sets) × Within sets j from end)
 
 abbrev μ-loop : tie.MeasureT-loop
-μ-loop sets from end j number numbers₀ s₀ numbers s = end - s
+μ-loop sets from end j number cells₀ s₀ cells s = end - s
 
 loop-holds : tie.Need-loop-holds Inv-loop μ-loop
 loop-holds c = let s = c .before .before in let a = s .args in (
   s .pre .3 .ordered,
   refl,
-  rows-none (λ s i. 64 * s + i) 64 (a .sets .now) (a .j) (a .j) (λ _. a .number) (a .numbers .now) (s .pre .3),
+  rows-none cellPlace 64 (a .sets .now) (a .j) (a .j) (λ _. a .number) (a .cells .now) (s .pre .3),
   s .pre,
 )
 
@@ -37,17 +38,17 @@ add-s c = search needs
 has-requires : tie.Need-has-requires Inv-loop μ-loop
 has-requires c κs = search needs
 
-mul-numbers : tie.Need-mul-numbers Inv-loop μ-loop
-mul-numbers c = search needs
+mul-cells : tie.Need-mul-cells Inv-loop μ-loop
+mul-cells c = search needs
 
-add-numbers : tie.Need-add-numbers Inv-loop μ-loop
-add-numbers c = search needs
+add-cells : tie.Need-add-cells Inv-loop μ-loop
+add-cells c = search needs
 
-mul-numbers-2 : tie.Need-mul-numbers-2 Inv-loop μ-loop
-mul-numbers-2 c = search needs
+mul-cells-2 : tie.Need-mul-cells-2 Inv-loop μ-loop
+mul-cells-2 c = search needs
 
-slice-write-numbers : tie.Need-slice-write-numbers Inv-loop μ-loop
-slice-write-numbers c = search needs
+slice-write-cells : tie.Need-slice-write-cells Inv-loop μ-loop
+slice-write-cells c = search needs
 
 loop-less : tie.Need-loop-less Inv-loop μ-loop
 loop-less c = search needs
@@ -56,7 +57,7 @@ loop-again : tie.Need-loop-again Inv-loop μ-loop
 loop-again c = let l = c .before .before .before .before .loop in let a = c .before .before .before .before .before .before .before .args in (
   omega arith,
   simp length-set (l .inv .1),
-  rows-yes (λ s i. 64 * s + i) 64 (a .sets .now) (a .j) (a .j) (λ _. a .number) (a .numbers .now) (l .s) (omega (arith, l .inv .3)) (l .numbers) (l .inv .2)
+  rows-yes cellPlace 64 (a .sets .now) (a .j) (a .j) (λ _. a .number) (a .cells .now) (l .s) (omega (arith, l .inv .3)) (l .cells) (l .inv .2)
       (sym (c .before .has .ensures) ∙ c .if1 .taken) (l .inv .3 .0) (omega (arith, l .inv .3, l .inv .1)) (λ q i h k p. (omega arith, omega arith)),
   l .inv .3,
 )
@@ -68,7 +69,7 @@ loop-again-2 : tie.Need-loop-again-2 Inv-loop μ-loop
 loop-again-2 c = let l = c .before .before .before .before .loop in let a = c .before .before .before .before .before .before .before .args in (
   omega arith,
   l .inv .1,
-  rows-no (λ s i. 64 * s + i) 64 (a .sets .now) (a .j) (a .j) (λ _. a .number) (a .numbers .now) (l .s) (omega (arith, l .inv .3)) (l .numbers) (l .inv .2) (sym (c .before .has .ensures) ∙ c .if1 .left),
+  rows-no cellPlace 64 (a .sets .now) (a .j) (a .j) (λ _. a .number) (a .cells .now) (l .s) (omega (arith, l .inv .3)) (l .cells) (l .inv .2) (sym (c .before .has .ensures) ∙ c .if1 .left),
   l .inv .3,
 )
 
@@ -78,7 +79,7 @@ same-length c = search needs
 returns : tie.Need-returns Inv-loop μ-loop
 unfolding given
 returns c = let l = c .before .loop in let a = c .before .before .before .before .args in let e : l .s ≡ a .end = omega arith in
-    λ s i h k. rows-all (λ s i. 64 * s + i) 64 (a .sets .now) (a .j) (a .j) (λ _. a .number) (a .numbers .now) (l .inv .3 .3) (l .numbers) (rw e at (l .inv .2)) s i (omega (arith, h, l .inv .3 .1)) k
+    λ s i h k. rows-all cellPlace 64 (a .sets .now) (a .j) (a .j) (λ _. a .number) (a .cells .now) (l .inv .3 .3) (l .cells) (rw e at (l .inv .2)) s i (omega (arith, h, l .inv .3 .1)) k
 
 pub give-spec : {M : Type 1} → statement M
 give-spec =
@@ -91,10 +92,10 @@ give-spec =
     shared-slice-read-t13
     add-s
     has-requires
-    mul-numbers
-    add-numbers
-    mul-numbers-2
-    slice-write-numbers
+    mul-cells
+    add-cells
+    mul-cells-2
+    slice-write-cells
     loop-less
     loop-again
     loop-less-2

@@ -2,8 +2,8 @@
 use borrow.Author.Needs.{needs}
 use native.Mathlib.Omega.{arith}
 use Rattle.allocation.proofs.Words.{words-past, words-held}
-use Rattle.allocation.proofs.place_family.Statement.{statement}
-use Rattle.allocation.proofs.place_family.Tie as tie
+use Rattle.allocation.proofs.place.place_family.Statement.{statement}
+use Rattle.allocation.proofs.place.place_family.Tie as tie
 
 lowest-free-requires : tie.Need-lowest-free-requires
 lowest-free-requires c κs = search needs
@@ -33,7 +33,7 @@ returns c =
     let f = c .before .before .before .before .before .before .before .before .before .lowest-free in
     let g = c .before .before .before .before .before .before .before .give in
     let h = c .before .before .hold in
-    (f .ensures, (g .ensures, words-held (a .sets .now) (a .j) (f .result) (s .pre .0) (a .numbers .now) (g .last .1 .1 .1 .1 .1 .0) (s .pre .4) (g .ensures) (a .held .now) (s .pre .2) (c .before .before .before .before .if1 .taken) (h .last .1 .1 .1 .1 .1 .1 .0) (h .ensures)))
+    (f .ensures, (g .ensures, words-held (a .sets .now) (a .j) (f .result) (s .pre .0) (a .cells .now) (g .last .1 .1 .1 .1 .1 .0) (s .pre .4) (g .ensures) (a .held .now) (s .pre .2) (c .before .before .before .before .if1 .taken) (h .last .1 .1 .1 .1 .1 .1 .0) (h .ensures)))
 
 same-length-3 : tie.Need-same-length-3
 same-length-3 c = search needs
@@ -47,7 +47,7 @@ returns-2 c =
     let a = s .args in
     let f = c .before .before .before .before .before .lowest-free in
     let g = c .before .before .before .give in
-    (f .ensures, (g .ensures, words-past (a .sets .now) (a .j) (f .result) (s .pre .0) (a .numbers .now) (g .last .1 .1 .1 .1 .1 .0) (s .pre .4) (g .ensures) (a .held .now) (s .pre .2) (omega (arith, c .if1 .left))))
+    (f .ensures, (g .ensures, words-past (a .sets .now) (a .j) (f .result) (s .pre .0) (a .cells .now) (g .last .1 .1 .1 .1 .1 .0) (s .pre .4) (g .ensures) (a .held .now) (s .pre .2) (omega (arith, c .if1 .left))))
 
 pub place-family-spec : {M : Type 1} → statement M
 place-family-spec =

@@ -1,4 +1,4 @@
--- `place_begun` meets its contract: the families of the timers below j have their numbers. Assumes nothing.
+-- `place_roots` meets its contract: the families of the timers below j have their numbers. Assumes nothing.
 use borrow.Author.Needs.{needs}
 use mathlib.Core.Path.{_≡_, sym, _∙_, subst}
 use mathlib.Core.Bool.{true}
@@ -7,24 +7,25 @@ use native.Mathlib.Omega.{arith}
 use lib.ListN.{length}
 use Rattle.timer_set.specs.Members.{member}
 use Rattle.model.specs.Family.{Pairs}
-use Rattle.allocation.specs.Numbering.{Lengths, WordsAgree, Within, Unnumbered, NumberedTo, Begun}
+use Rattle.allocation.specs.Rows.{Lengths, WordsAgree, Within, Unnumbered}
+use Rattle.allocation.specs.Turns.{NumberedTo, Roots}
 use Rattle.allocation.proofs.InTurn.{unnumbered-kept, turn-no, turn-yes}
-use Rattle.allocation.proofs.place_begun.Statement.{statement}
-use Rattle.allocation.proofs.place_begun.Tie as tie
+use Rattle.allocation.proofs.place.place_roots.Statement.{statement}
+use Rattle.allocation.proofs.place.place_roots.Tie as tie
 
 abbrev Inv-loop : tie.InvT-loop
-Inv-loop sets begun from end numbers₀ held₀ used most₀ j₀ numbers held most j =
-    (j ≤ 64) × Lengths sets numbers held × WordsAgree numbers held (length sets) × ((i : ℕ) → member (begun .bits) i ≡ true → Within sets i from end)
-    × ((i : ℕ) → j ≤ i → i < 64 → member (begun .bits) i ≡ true → Unnumbered sets i numbers)
-    × ((p : Pairs) (q : ℕ) → Begun p q (begun .bits) sets → NumberedTo p (64 * q) numbers₀ used → NumberedTo p (64 * q + j) numbers most)
+Inv-loop sets roots from end cells₀ held₀ used most₀ j₀ cells held most j =
+    (j ≤ 64) × Lengths sets cells held × WordsAgree cells held (length sets) × ((i : ℕ) → member (roots .bits) i ≡ true → Within sets i from end)
+    × ((i : ℕ) → j ≤ i → i < 64 → member (roots .bits) i ≡ true → Unnumbered sets i cells)
+    × ((p : Pairs) (q : ℕ) → Roots p q (roots .bits) sets → NumberedTo p (64 * q) cells₀ used → NumberedTo p (64 * q + j) cells most)
 
 abbrev μ-loop : tie.MeasureT-loop
-μ-loop sets begun from end numbers₀ held₀ used most₀ j₀ numbers held most j = 64 - j
+μ-loop sets roots from end cells₀ held₀ used most₀ j₀ cells held most j = 64 - j
 
 loop-holds : tie.Need-loop-holds Inv-loop μ-loop
 loop-holds c = let r = c .before .before .before .pre in
     let a = c .before .before .before .args in
-    (omega arith, r .lengths, r .words-agree, r .within, λ i h k m. r .unnumbered i m, λ p q g so. subst (λ (x : ℕ). NumberedTo p x (a .numbers .now) (a .used)) (omega arith) so)
+    (omega arith, r .lengths, r .words-agree, r .within, λ i h k m. r .unnumbered i m, λ p q g so. subst (λ (x : ℕ). NumberedTo p x (a .cells .now) (a .used)) (omega arith) so)
 
 add-j : tie.Need-add-j Inv-loop μ-loop
 add-j c = search needs
@@ -57,14 +58,14 @@ loop-again c =
     let f = c .before .before .before .before .before .place-family in
     let m = sym (c .before .before .before .before .before .before .before .before .before .has .ensures) ∙ c .before .before .before .before .before .before .before .before .if1 .taken in
     let after = f .last .1 .1 .1 .1 .0 in
-    let long : length after ≡ 64 * length (a .sets .now) = f .kept .1 .1 .1 .1 .0 ∙ l .inv .1 .numbers-long in (
+    let long : length after ≡ 64 * length (a .sets .now) = f .kept .1 .1 .1 .1 .0 ∙ l .inv .1 .cells-long in (
       omega arith,
-      record { few-locations = l .inv .1 .few-locations; numbers-long = long; held-long = f .kept .1 .1 .1 .1 .1 .0 ∙ l .inv .1 .held-long },
+      record { few-locations = l .inv .1 .few-locations; cells-long = long; held-long = f .kept .1 .1 .1 .1 .1 .0 ∙ l .inv .1 .held-long },
       f .ensures .1 .1,
       l .inv .3,
-      λ i h k n. unnumbered-kept (a .sets .now) (l .j) (f .result) (l .numbers) after (f .ensures .1 .0) i k (λ e. omega arith) (l .inv .4 i (omega arith) k n),
+      λ i h k n. unnumbered-kept (a .sets .now) (l .j) (f .result) (l .cells) after (f .ensures .1 .0) i k (λ e. omega arith) (l .inv .4 i (omega arith) k n),
       λ p q g so. subst (NumberedTo p _ after) (sym (c .larger .ensures))
-          (turn-yes g (l .j) (omega arith) (l .numbers) (l .most) (l .inv .5 p q g so) m (l .inv .1 .few-locations) (f .result) (f .ensures .0) after long (f .ensures .1 .0)),
+          (turn-yes g (l .j) (omega arith) (l .cells) (l .most) (l .inv .5 p q g so) m (l .inv .1 .few-locations) (f .result) (f .ensures .0) after long (f .ensures .1 .0)),
     )
 
 loop-less-2 : tie.Need-loop-less-2 Inv-loop μ-loop
@@ -78,7 +79,7 @@ loop-again-2 c =
       l .inv .2,
       l .inv .3,
       λ i h k m. l .inv .4 i (omega arith) k m,
-      λ p q g so. turn-no g (l .j) (omega arith) (l .numbers) (l .most) (l .inv .5 p q g so) (sym (c .before .has .ensures) ∙ c .if1 .left),
+      λ p q g so. turn-no g (l .j) (omega arith) (l .cells) (l .most) (l .inv .5 p q g so) (sym (c .before .has .ensures) ∙ c .if1 .left),
     )
 
 same-length : tie.Need-same-length Inv-loop μ-loop
@@ -91,10 +92,10 @@ returns : tie.Need-returns Inv-loop μ-loop
 returns c =
     let l = c .before .loop in
     let e : l .j ≡ 64 = omega arith in
-    (l .inv .2, λ p q g so. subst (λ (x : ℕ). NumberedTo p (64 * q + x) (l .numbers) (l .most)) e (l .inv .5 p q g so))
+    (l .inv .2, λ p q g so. subst (λ (x : ℕ). NumberedTo p (64 * q + x) (l .cells) (l .most)) e (l .inv .5 p q g so))
 
-pub place-begun-spec : {M : Type 1} → statement M
-place-begun-spec =
+pub place-roots-spec : {M : Type 1} → statement M
+place-roots-spec =
     tie.close
     (tie.spec
     Inv-loop

@@ -5,15 +5,16 @@ use Prim.Native.Nat.{ℕ, _+_, _*_, _-_, _≤_, _<_}
 use native.Mathlib.Omega.{arith}
 use lib.ListN.{length, set, length-set}
 use Rattle.timer_set.specs.Members.{added}
-use Rattle.allocation.specs.Numbering.{holding, Within}
+use Rattle.allocation.specs.Rows.{holding, Within, heldWords, heldLength, wordPlace}
+use Rattle.chart_lists.specs.Limits.{mostLocations}
 use Rattle.allocation.proofs.Filling.{Rows, rows-none, rows-no, rows-yes, rows-all}
-use Rattle.allocation.proofs.hold.Statement.{statement}
-use Rattle.allocation.proofs.hold.Tie as tie
+use Rattle.allocation.proofs.place.hold.Statement.{statement}
+use Rattle.allocation.proofs.place.hold.Tie as tie
 
 abbrev Inv-loop : tie.InvT-loop
 Inv-loop sets from end j w x held₀ s₀ held s =
-    (s ≤ end) × (length held ≡ length held₀) × Rows (λ s v. 256 * v + s) 8 sets j w (λ word. added word x) held₀ s held
-    × ((w < 8) × (x < 64) × (length sets ≤ 256) × (length held₀ ≡ 2048) × Within sets j from end)
+    (s ≤ end) × (length held ≡ length held₀) × Rows wordPlace heldWords sets j w (λ word. added word x) held₀ s held
+    × ((w < heldWords) × (x < 64) × (length sets ≤ mostLocations) × (length held₀ ≡ heldLength) × Within sets j from end)
 
 abbrev μ-loop : tie.MeasureT-loop
 μ-loop sets from end j w x held₀ s₀ held s = end - s
@@ -22,7 +23,7 @@ loop-holds : tie.Need-loop-holds Inv-loop μ-loop
 loop-holds c = let s = c .before .before in let a = s .args in (
   s .pre .4 .ordered,
   refl,
-  rows-none (λ s v. 256 * v + s) 8 (a .sets .now) (a .j) (a .w) (λ word. added word (a .x)) (a .held .now) (s .pre .4),
+  rows-none wordPlace heldWords (a .sets .now) (a .j) (a .w) (λ word. added word (a .x)) (a .held .now) (s .pre .4),
   s .pre,
 )
 
@@ -66,8 +67,8 @@ loop-again : tie.Need-loop-again Inv-loop μ-loop
 loop-again c = let l = c .before .before .before .before .before .before .loop in let a = c .before .before .before .before .before .before .before .before .before .args in (
   omega arith,
   simp length-set (l .inv .1),
-  subst (λ (v : ℕ). Rows (λ s v. 256 * v + s) 8 (a .sets .now) (a .j) (a .w) (λ word. added word (a .x)) (a .held .now) (l .s + 1) (set (l .held) (256 * a .w + l .s) v)) (sym (c .with .ensures))
-      (rows-yes (λ s v. 256 * v + s) 8 (a .sets .now) (a .j) (a .w) (λ word. added word (a .x)) (a .held .now) (l .s) (omega (arith, l .inv .3)) (l .held) (l .inv .2)
+  subst (λ (v : ℕ). Rows wordPlace heldWords (a .sets .now) (a .j) (a .w) (λ word. added word (a .x)) (a .held .now) (l .s + 1) (set (l .held) (mostLocations * a .w + l .s) v)) (sym (c .with .ensures))
+      (rows-yes wordPlace heldWords (a .sets .now) (a .j) (a .w) (λ word. added word (a .x)) (a .held .now) (l .s) (omega (arith, l .inv .3)) (l .held) (l .inv .2)
       (sym (c .before .before .before .has .ensures) ∙ c .before .before .if1 .taken) (l .inv .3 .0) (omega (arith, l .inv .3, l .inv .1)) (λ q i h k p. (omega arith, omega arith))),
   l .inv .3,
 )
@@ -79,7 +80,7 @@ loop-again-2 : tie.Need-loop-again-2 Inv-loop μ-loop
 loop-again-2 c = let l = c .before .before .before .before .loop in let a = c .before .before .before .before .before .before .before .args in (
   omega arith,
   l .inv .1,
-  rows-no (λ s v. 256 * v + s) 8 (a .sets .now) (a .j) (a .w) (λ word. added word (a .x)) (a .held .now) (l .s) (omega (arith, l .inv .3)) (l .held) (l .inv .2) (sym (c .before .has .ensures) ∙ c .if1 .left),
+  rows-no wordPlace heldWords (a .sets .now) (a .j) (a .w) (λ word. added word (a .x)) (a .held .now) (l .s) (omega (arith, l .inv .3)) (l .held) (l .inv .2) (sym (c .before .has .ensures) ∙ c .if1 .left),
   l .inv .3,
 )
 
@@ -89,7 +90,7 @@ same-length c = search needs
 returns : tie.Need-returns Inv-loop μ-loop
 unfolding holding
 returns c = let l = c .before .loop in let a = c .before .before .before .before .args in let e : l .s ≡ a .end = omega arith in
-    λ s v h k. rows-all (λ s v. 256 * v + s) 8 (a .sets .now) (a .j) (a .w) (λ word. added word (a .x)) (a .held .now) (l .inv .3 .4) (l .held) (rw e at (l .inv .2)) s v (omega (arith, h, l .inv .3 .2)) k
+    λ s v h k. rows-all wordPlace heldWords (a .sets .now) (a .j) (a .w) (λ word. added word (a .x)) (a .held .now) (l .inv .3 .4) (l .held) (rw e at (l .inv .2)) s v (omega (arith, h, l .inv .3 .2)) k
 
 pub hold-spec : {M : Type 1} → statement M
 hold-spec =

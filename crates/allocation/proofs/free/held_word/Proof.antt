@@ -7,14 +7,15 @@ use lib.ListN.{length}
 use mathlib.Core.Bool.{Bool, _||_}
 use Rattle.timer_set.specs.Members.{member}
 use Rattle.timer_set.proofs.Members.{member-empty, member-joined}
-use Rattle.allocation.specs.Numbering.{inWord, someIn, Within}
+use Rattle.allocation.specs.Rows.{inWord, someIn, Within, heldWords, heldLength}
+use Rattle.chart_lists.specs.Limits.{mostLocations}
 use Rattle.allocation.proofs.Below.{some-none, some-yes, some-no, some-all}
-use Rattle.allocation.proofs.held_word.Statement.{statement}
-use Rattle.allocation.proofs.held_word.Tie as tie
+use Rattle.allocation.proofs.free.held_word.Statement.{statement}
+use Rattle.allocation.proofs.free.held_word.Tie as tie
 
 abbrev Inv-loop : tie.InvT-loop
 Inv-loop sets held from end j w set₀ s₀ set s =
-    (s ≤ end) × ((w < 8) × (length sets ≤ 256) × (length held ≡ 2048) × Within sets j from end)
+    (s ≤ end) × ((w < heldWords) × (length sets ≤ mostLocations) × (length held ≡ heldLength) × Within sets j from end)
     × ((x : ℕ) → member (set .bits) x ≡ someIn sets j (λ s. inWord held s w x) s)
 
 abbrev μ-loop : tie.MeasureT-loop
