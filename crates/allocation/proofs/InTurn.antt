@@ -33,7 +33,8 @@ root-at {p} formed q j h e =
 module _ {p : Pairs} {q roots : ℕ} {sets : List ℕ} (g : Roots p q roots sets) (j : ℕ) (h : j < 64) (cells : List ℕ) (used : ℕ)
     (so : NumberedTo p (64 * q + j) cells used) where
   pub turn-no : member roots j ≡ false → NumberedTo p (64 * q + (j + 1)) cells used
-  turn-no e = subst (λ (x : ℕ). NumberedTo p x cells used) (omega arith) (numbered-no (g .formed) (64 * q + j) cells used so (sym (g .timers j h) ∙ e))
+  turn-no e =
+      subst (λ (x : ℕ). NumberedTo p x cells used) (omega arith) (numbered-no (g .formed) (64 * q + j) cells used so (sym (g .timers j h) ∙ e))
 
   pub turn-yes : member roots j ≡ true → length sets ≤ mostLocations → (number : ℕ) → number ≡ lowest (λ k. not (taken sets cells j k)) mostCells
       → (after : List ℕ) → length after ≡ 64 * length sets

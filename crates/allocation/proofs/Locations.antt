@@ -48,7 +48,8 @@ module _ {p : Pairs} {live ones others linked : List ℕ} (d : Described p live 
       let low : familyOf p q j .first ≤ q = first-least formed q j pair q (joined-refl q) in
       (pair, go pair low (not-true _ (and-right (isPair p q j) _ both)) (lt-or-le (familyOf p q j .first) q))
     where
-      go : isPair p q j ≡ true → familyOf p q j .first ≤ q → member (getD placed q 0) j ≡ false → (familyOf p q j .first < q) ⊎ (q ≤ familyOf p q j .first)
+      go : isPair p q j ≡ true → familyOf p q j .first ≤ q → member (getD placed q 0) j ≡ false
+          → (familyOf p q j .first < q) ⊎ (q ≤ familyOf p q j .first)
           → familyOf p q j .first ≡ q
       go pair low out (inl l) = absurd (not-both (so .has q j pair l) out)
       go pair low out (inr l) = omega arith
@@ -169,7 +170,8 @@ module _ {p : Pairs} {live ones others linked : List ℕ} (d : Described p live 
             go (inl l) = l
             go (inr l) = absurd (not-both m (ap (λ (w : ℕ). member w j) (List·getD-eq-default after 0 {n = s} (omega arith)) ∙ member-empty j))
 
-        old : (s j : ℕ) → (member (getD placed s 0) j ≡ true) ⊎ (member (getD sets s 0) j ≡ true) → (isPair p s j ≡ true) × (familyOf p s j .first < q + 1)
+        old : (s j : ℕ) → (member (getD placed s 0) j ≡ true) ⊎ (member (getD sets s 0) j ≡ true)
+            → (isPair p s j ≡ true) × (familyOf p s j .first < q + 1)
         old s j (inl m) = let x = so .only s j m in (x .0, omega (arith, x .1))
         old s j (inr m) =
             let x = found .from s j m in

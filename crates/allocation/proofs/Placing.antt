@@ -177,7 +177,8 @@ module _ {p : Pairs} (formed : WellFormed p) where
     inside s m = formed .location s j (joined-pair formed (family-has formed q j pair s .0 m) pair)
 
     -- the numbers in the rows of its locations are those held by the families that it meets
-    module _ (ps : List Placed) (x : ℕ) (early : AllEarlier x ps) (cells : List ℕ) (are : cells ≡ cellsOf (numbering ps) (p .locations)) (k : ℕ) (few : k < noNumber) where
+    module _ (ps : List Placed) (x : ℕ) (early : AllEarlier x ps) (cells : List ℕ) (are : cells ≡ cellsOf (numbering ps) (p .locations)) (k : ℕ)
+        (few : k < noNumber) where
       taken-held : taken sets cells j k ≡ memb k (held family ps)
       unfolding taken inRow meets numbering
       taken-held = same-bool _ _ there back
@@ -201,7 +202,8 @@ module _ {p : Pairs} (formed : WellFormed p) where
               let s = any-memb-out (λ y. memb y (g .family .locations)) (family .locations) (b .met) in
               let h = inside (s .0) (s .1) in
               let y = early (b .place) g (b .is-nth) in
-              let t : g .family .timer < 64 = rw (ap (λ (f : Family). f .timer) (y .family) ∙ family-timer p (y .number / 64) (y .number % 64)) (omega arith) in
+              let t : g .family .timer < 64 =
+              rw (ap (λ (f : Family). f .timer) (y .family) ∙ family-timer p (y .number / 64) (y .number % 64)) (omega arith) in
               let e : getD cells (64 * s .0 + g .family .timer) 0 ≡ k =
               ap (λ (l : List ℕ). getD l (64 * s .0 + g .family .timer) 0) are
               ∙ cells-at (numbering ps) (p .locations) (s .0) (g .family .timer) h t ∙ ap cell (y .shown (s .0) (s .2)) ∙ b .number in
@@ -220,28 +222,34 @@ module _ {p : Pairs} (formed : WellFormed p) where
       number-is =
           let l = held family (placedTo x) in
           let b : free l ≤ mostCells = omega (arith, free-used family (placedTo x), used-few x) in
-          lowest-is _ mostCells (free l) b (λ h. ap not (same (free l) (omega arith) ∙ free-not-held l)) (λ k h. ap not (same k (omega arith) ∙ free-least l k h))
+          lowest-is _ mostCells (free l) b (λ h. ap not (same (free l) (omega arith) ∙ free-not-held l))
+          (λ k h. ap not (same k (omega arith) ∙ free-least l k h))
           ∙ ap (λ (f : Family). free (held f (placedTo x))) (sym on)
         where
           same : (k : ℕ) → k < noNumber → taken sets cells j k ≡ memb k (held family (placedTo x))
           same k h = taken-held (placedTo x) x (all-earlier x) cells (so .cells-are) k h
 
-      module _ (number : ℕ) (is : number ≡ lowest (λ k. not (taken sets cells j k)) mostCells) (after : List ℕ) (wide : length after ≡ 64 * p .locations)
+      module _ (number : ℕ) (is : number ≡ lowest (λ k. not (taken sets cells j k)) mostCells) (after : List ℕ)
+          (wide : length after ≡ 64 * p .locations)
           (gave : (s i : ℕ) → s < length sets → i < 64 → getD after (64 * s + i) 0 ≡ given sets j number cells s i) where
         given-cells : after ≡ cellsOf (numbering (next x ∷ placedTo x)) (p .locations)
         unfolding given changed numbering numberAt
-        given-cells = cells-is (numbering (next x ∷ placedTo x)) (p .locations) after wide (λ s i h k. gave s i (omega (arith, h, long)) k ∙ one s i h k)
+        given-cells =
+            cells-is (numbering (next x ∷ placedTo x)) (p .locations) after wide (λ s i h k. gave s i (omega (arith, h, long)) k ∙ one s i h k)
           where
             pick-cell : (b : Bool) (s i : ℕ) → s < p .locations → i < 64
-                → elim b [ true ↦ number | false ↦ getD cells (64 * s + i) 0 ] ≡ cell (elim b [ true ↦ some (next x .number) | false ↦ numberAt (placedTo x) s i ])
+                → elim b [ true ↦ number | false ↦ getD cells (64 * s + i) 0 ]
+                ≡ cell (elim b [ true ↦ some (next x .number) | false ↦ numberAt (placedTo x) s i ])
             pick-cell true s i h k = is ∙ number-is
-            pick-cell false s i h k = ap (λ (l : List ℕ). getD l (64 * s + i) 0) (so .cells-are) ∙ cells-at (numbering (placedTo x)) (p .locations) s i h k
+            pick-cell false s i h k = ap (λ (l : List ℕ). getD l (64 * s + i) 0) (so .cells-are)
+                ∙ cells-at (numbering (placedTo x)) (p .locations) s i h k
 
             has-here : (s i : ℕ) → (eqb j i && inFamily sets j s) ≡ has (familyOn x) s i
             has-here s i = ap₂ (λ (t : ℕ) (b : Bool). eqb t i && b) (sym (family-timer p q j)) (its s) ∙ ap (λ (f : Family). has f s i) (sym on)
 
             one : (s i : ℕ) → s < p .locations → i < 64
-                → elim (eqb j i && inFamily sets j s) [ true ↦ number | false ↦ getD cells (64 * s + i) 0 ] ≡ cell (numberAt (next x ∷ placedTo x) s i)
+                → elim (eqb j i && inFamily sets j s) [ true ↦ number | false ↦ getD cells (64 * s + i) 0 ]
+                ≡ cell (numberAt (next x ∷ placedTo x) s i)
             one s i h k =
                 pick-cell (eqb j i && inFamily sets j s) s i h k
                 ∙ ap (λ (b : Bool). cell (elim b [ true ↦ some (next x .number) | false ↦ numberAt (placedTo x) s i ])) (has-here s i)

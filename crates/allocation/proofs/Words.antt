@@ -13,7 +13,8 @@ use Rattle.lists.proofs.Bools.{yes-or-no, is-no, same-bool, same-number, or-cas
 use Rattle.timer_set.specs.Members.{member, added}
 use Rattle.timer_set.proofs.Members.{member-added, member-empty}
 use Rattle.allocation.specs.Cells.{noNumber}
-use Rattle.allocation.specs.Rows.{inFamily, inRow, inWord, someIn, taken, given, holding, WordsAgree, Unnumbered, heldWords, heldNumbers, cellPlace, wordPlace}
+use Rattle.allocation.specs.Rows.{inFamily, inRow, inWord, someIn, taken, given, holding, WordsAgree, Unnumbered}
+use Rattle.allocation.specs.Rows.{heldWords, heldNumbers, cellPlace, wordPlace}
 use Rattle.chart_lists.specs.Limits.{mostLocations}
 use Rattle.allocation.proofs.Below.{below-in, below-out, some-in, some-out}
 use Rattle.allocation.proofs.Filling.{changed-no, changed-other, changed-here}
@@ -64,7 +65,8 @@ module _ (sets : List ℕ) (j number : ℕ) (few : j < 64) (cells after : List �
         here = gave s j h few ∙ changed-here cellPlace sets j j (λ _. number) cells s e
 
         there : (i : ℕ) → i < 64 → eqb (getD after (64 * s + i) 0) k ≡ true → Dec (j ≡ i) → (inRow cells s k 64 || eqb number k) ≡ true
-        there i b t (yes p) = or-right (inRow cells s k 64) (ap (λ (y : ℕ). eqb y k) (sym here) ∙ ap (λ (y : ℕ). eqb (getD after (64 * s + y) 0) k) p ∙ t)
+        there i b t (yes p) =
+            or-right (inRow cells s k 64) (ap (λ (y : ℕ). eqb y k) (sym here) ∙ ap (λ (y : ℕ). eqb (getD after (64 * s + y) 0) k) p ∙ t)
         there i b t (no n) = or-left (eqb number k) (below-in _ 64 i b (ap (λ (y : ℕ). eqb y k) (sym (same-cell i b n)) ∙ t))
 
         old : (i : ℕ) → i < 64 → eqb (getD cells (64 * s + i) 0) k ≡ true → Dec (j ≡ i) → inRow after s k 64 ≡ true
@@ -85,7 +87,8 @@ module _ (sets : List ℕ) (j number : ℕ) (few : j < 64) (cells after : List �
       where
         go : (inFamily sets j s ≡ true) ⊎ (inFamily sets j s ≡ false) → inWord held s w x ≡ inRow after s (64 * w + x) 64
         go (inl e) =
-            words-agree s w x h a b ∙ sym (or-false _) ∙ ap (λ (c : Bool). inRow cells s (64 * w + x) 64 || c) (sym (ne-eqb number (64 * w + x) (λ p. omega arith)))
+            words-agree s w x h a b ∙ sym (or-false _)
+            ∙ ap (λ (c : Bool). inRow cells s (64 * w + x) 64 || c) (sym (ne-eqb number (64 * w + x) (λ p. omega arith)))
             ∙ sym (row-given s h e (64 * w + x) (omega arith))
         go (inr e) = words-agree s w x h a b ∙ sym (row-kept s h e (64 * w + x))
 
@@ -104,7 +107,8 @@ module _ (sets : List ℕ) (j number : ℕ) (few : j < 64) (cells after : List �
             ∙ ap₂ _||_ (words-agree s w x h a b) same ∙ sym (row-given s h e (64 * w + x) (omega arith))
           where
             word : holding sets j (number / 64) (number % 64) held s w ≡ added (getD held (mostLocations * w + s) 0) (number % 64)
-            word = subst (λ (v : ℕ). holding sets j (number / 64) (number % 64) held s v ≡ added (getD held (mostLocations * v + s) 0) (number % 64)) p
+            word =
+                subst (λ (v : ℕ). holding sets j (number / 64) (number % 64) held s v ≡ added (getD held (mostLocations * v + s) 0) (number % 64)) p
                 (changed-here wordPlace sets j (number / 64) (λ y. added y (number % 64)) held s e)
 
             same : eqb x (number % 64) ≡ eqb number (64 * w + x)

@@ -84,8 +84,8 @@ fn number_locations<'a>(
     cells: &mut [u16],
     held: &mut [u64],
 ) -> u32
-    requires { ⌜ ((p : Pairs) × Described p (now live) (now ones) (now others) (now linked)) × Ends (length (now live)) (now ones) (now others) (now linked)
-        × Fresh (now live) (now sets) (now placed) (now cells) (now held) ⌝ }
+    requires { ⌜ ((p : Pairs) × Described p (now live) (now ones) (now others) (now linked))
+        × Ends (length (now live)) (now ones) (now others) (now linked) × Fresh (now live) (now sets) (now placed) (now cells) (now held) ⌝ }
     ensures { λ r. ⌜ ((p : Pairs) → Described p (now (live .entry)) (now (ones .entry)) (now (others .entry)) (now (linked .entry))
         → NumberedTo p (64 * length (now (live .entry))) (now (cells .exit)) r) ⌝ }
 {

@@ -38,7 +38,8 @@ fn give(sets: &[u64], from: usize, end: usize, j: u8, number: u16, cells: &mut [
 
 // Adds x to word w of the numbers held at each location of the family.
 fn hold(sets: &[u64], from: usize, end: usize, j: u8, w: usize, x: u8, held: &mut [u64])
-    requires { ⌜ (w < heldWords) × (x < 64) × (length (now sets) ≤ mostLocations) × (length (now held) ≡ heldLength) × Within (now sets) j from end ⌝ }
+    requires { ⌜ (w < heldWords) × (x < 64) × (length (now sets) ≤ mostLocations) × (length (now held) ≡ heldLength)
+        × Within (now sets) j from end ⌝ }
     ensures { λ _. ⌜ ((s v : ℕ) → s < length (now (sets .entry)) → v < heldWords
         → getD (now (held .exit)) (mostLocations * v + s) 0 ≡ holding (now (sets .entry)) j w x (now (held .entry)) s v) ⌝ }
 {

@@ -59,25 +59,34 @@ loop-less : tie.Need-loop-less Inv-loop μ-loop
 loop-less c = search needs
 
 loop-again : tie.Need-loop-again Inv-loop μ-loop
-loop-again c = let l = c .before .before .before .before .before .before .loop in let a = c .before .before .before .before .before .before .before .before .before .args in (
-  omega arith,
-  l .inv .1,
-  λ x. rw (c .join .ensures) (member-joined (l .set .bits) _ x ∙ ap (λ (b : Bool). b || inWord (a .held .now) (l .s) (a .w) x) (l .inv .2 x)
-      ∙ some-yes (a .sets .now) (a .j) (λ s. inWord (a .held .now) s (a .w) x) (l .s) (sym (c .before .before .has .ensures) ∙ c .before .if1 .taken)),
-)
+loop-again c =
+    let l = c .before .before .before .before .before .before .loop in
+    let a = c .before .before .before .before .before .before .before .before .before .args in (
+      omega arith,
+      l .inv .1,
+      λ x. rw (c .join .ensures) (member-joined (l .set .bits) _ x ∙ ap (λ (b : Bool). b || inWord (a .held .now) (l .s) (a .w) x) (l .inv .2 x)
+          ∙ some-yes (a .sets .now) (a .j) (λ s. inWord (a .held .now) s (a .w) x) (l .s)
+          (sym (c .before .before .has .ensures) ∙ c .before .if1 .taken)),
+    )
 
 loop-less-2 : tie.Need-loop-less-2 Inv-loop μ-loop
 loop-less-2 c = search needs
 
 loop-again-2 : tie.Need-loop-again-2 Inv-loop μ-loop
-loop-again-2 c = let l = c .before .before .before .before .before .loop in let a = c .before .before .before .before .before .before .before .before .args in (
-  omega arith,
-  l .inv .1,
-  λ x. l .inv .2 x ∙ some-no (a .sets .now) (a .j) (λ s. inWord (a .held .now) s (a .w) x) (l .s) (sym (c .before .has .ensures) ∙ c .if1 .left),
-)
+loop-again-2 c =
+    let l = c .before .before .before .before .before .loop in
+    let a = c .before .before .before .before .before .before .before .before .args in (
+      omega arith,
+      l .inv .1,
+      λ x. l .inv .2 x ∙ some-no (a .sets .now) (a .j) (λ s. inWord (a .held .now) s (a .w) x) (l .s) (sym (c .before .has .ensures) ∙ c .if1 .left),
+    )
 
 returns : tie.Need-returns Inv-loop μ-loop
-returns c = let l = c .before .loop in let a = c .before .before .before .before .args in let e : l .s ≡ a .end = omega arith in λ x. (rw e at (l .inv .2 x)) ∙ some-all (a .sets .now) (a .j) (λ s. inWord (a .held .now) s (a .w) x) (l .inv .1 .3)
+returns c =
+    let l = c .before .loop in
+    let a = c .before .before .before .before .args in
+    let e : l .s ≡ a .end = omega arith in
+    λ x. (rw e at (l .inv .2 x)) ∙ some-all (a .sets .now) (a .j) (λ s. inWord (a .held .now) s (a .w) x) (l .inv .1 .3)
 
 pub held-word-spec : {M : Type 1} → statement M
 held-word-spec =

@@ -48,7 +48,8 @@ returns c =
     let t = c .before .before .taken-word in
     let e = c .before .lowest-missing .ensures in
     rw e
-    (word-found (rows at) (t .result .bits) (l .w) (t .ensures) (l .inv .2) (omega (arith, e, c .if1 .taken)) (omega (arith, c .before .before .before .loop-test .taken)))
+    (word-found (rows at) (t .result .bits) (l .w) (t .ensures) (l .inv .2) (omega (arith, e, c .if1 .taken))
+    (omega (arith, c .before .before .before .loop-test .taken)))
 
 add-w : tie.Need-add-w Inv-loop μ-loop
 add-w c = search needs

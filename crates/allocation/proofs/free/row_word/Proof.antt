@@ -47,12 +47,15 @@ loop-less : tie.Need-loop-less Inv-loop μ-loop
 loop-less c = search needs
 
 loop-again : tie.Need-loop-again Inv-loop μ-loop
-loop-again c = let l = c .before .before .before .before .before .loop in let a = c .before .before .before .before .before .before .before .before .args in (
-  omega arith,
-  l .inv .1,
-  λ x h. c .with-row .ensures x h ∙ ap (λ (b : Bool). b || inRow (a .cells .now) (l .s) (64 * a .w + x) 64) (l .inv .2 x h)
-      ∙ some-yes (a .sets .now) (a .j) (λ s. inRow (a .cells .now) s (64 * a .w + x) 64) (l .s) (sym (c .before .before .has .ensures) ∙ c .before .if1 .taken),
-)
+loop-again c =
+    let l = c .before .before .before .before .before .loop in
+    let a = c .before .before .before .before .before .before .before .before .args in (
+      omega arith,
+      l .inv .1,
+      λ x h. c .with-row .ensures x h ∙ ap (λ (b : Bool). b || inRow (a .cells .now) (l .s) (64 * a .w + x) 64) (l .inv .2 x h)
+          ∙ some-yes (a .sets .now) (a .j) (λ s. inRow (a .cells .now) s (64 * a .w + x) 64) (l .s)
+          (sym (c .before .before .has .ensures) ∙ c .before .if1 .taken),
+    )
 
 loop-less-2 : tie.Need-loop-less-2 Inv-loop μ-loop
 loop-less-2 c = search needs
@@ -61,12 +64,17 @@ loop-again-2 : tie.Need-loop-again-2 Inv-loop μ-loop
 loop-again-2 c = let l = c .before .before .before .before .loop in let a = c .before .before .before .before .before .before .before .args in (
   omega arith,
   l .inv .1,
-  λ x h. l .inv .2 x h ∙ some-no (a .sets .now) (a .j) (λ s. inRow (a .cells .now) s (64 * a .w + x) 64) (l .s) (sym (c .before .has .ensures) ∙ c .if1 .left),
+  λ x h. l .inv .2 x h
+      ∙ some-no (a .sets .now) (a .j) (λ s. inRow (a .cells .now) s (64 * a .w + x) 64) (l .s) (sym (c .before .has .ensures) ∙ c .if1 .left),
 )
 
 returns : tie.Need-returns Inv-loop μ-loop
 unfolding taken
-returns c = let l = c .before .loop in let a = c .before .before .before .before .args in let e : l .s ≡ a .end = omega arith in λ x h. (rw e at (l .inv .2 x h)) ∙ some-all (a .sets .now) (a .j) (λ s. inRow (a .cells .now) s (64 * a .w + x) 64) (l .inv .1 .2)
+returns c =
+    let l = c .before .loop in
+    let a = c .before .before .before .before .args in
+    let e : l .s ≡ a .end = omega arith in
+    λ x h. (rw e at (l .inv .2 x h)) ∙ some-all (a .sets .now) (a .j) (λ s. inRow (a .cells .now) s (64 * a .w + x) 64) (l .inv .1 .2)
 
 pub row-word-spec : {M : Type 1} → statement M
 row-word-spec =

@@ -1,7 +1,7 @@
 -- `give` meets its contract: the rows of the family's locations below s are done. Assumes nothing.
 use borrow.Author.Needs.{needs}
 use mathlib.Core.Path.{_≡_, refl, sym, _∙_}
-use Prim.Native.Nat.{_+_, _*_, _-_, _≤_, _<_}
+use Prim.Native.Nat.{_*_, _-_, _≤_, _<_}
 use native.Mathlib.Omega.{arith}
 use lib.ListN.{length, length-set}
 use Rattle.allocation.specs.Rows.{given, Within, cellPlace}
@@ -19,12 +19,7 @@ abbrev μ-loop : tie.MeasureT-loop
 μ-loop sets from end j number cells₀ s₀ cells s = end - s
 
 loop-holds : tie.Need-loop-holds Inv-loop μ-loop
-loop-holds c = let s = c .before .before in let a = s .args in (
-  s .pre .3 .ordered,
-  refl,
-  rows-none cellPlace 64 (a .sets .now) (a .j) (a .j) (λ _. a .number) (a .cells .now) (s .pre .3),
-  s .pre,
-)
+loop-holds c = let p = c .before .before .pre in (p .3 .ordered, refl, rows-none (p .3), p)
 
 mul-t11 : tie.Need-mul-t11 Inv-loop μ-loop
 mul-t11 c = search needs
@@ -54,32 +49,33 @@ loop-less : tie.Need-loop-less Inv-loop μ-loop
 loop-less c = search needs
 
 loop-again : tie.Need-loop-again Inv-loop μ-loop
-loop-again c = let l = c .before .before .before .before .loop in let a = c .before .before .before .before .before .before .before .args in (
-  omega arith,
-  simp length-set (l .inv .1),
-  rows-yes cellPlace 64 (a .sets .now) (a .j) (a .j) (λ _. a .number) (a .cells .now) (l .s) (omega (arith, l .inv .3)) (l .cells) (l .inv .2)
-      (sym (c .before .has .ensures) ∙ c .if1 .taken) (l .inv .3 .0) (omega (arith, l .inv .3, l .inv .1)) (λ q i h k p. (omega arith, omega arith)),
-  l .inv .3,
-)
+loop-again c =
+    let l = c .before .before .before .before .loop in
+    let h = sym (c .before .has .ensures) ∙ c .if1 .taken in (
+      omega arith,
+      simp length-set (l .inv .1),
+      rows-yes (omega (arith, l .inv .3)) (l .inv .2) h (l .inv .3 .0) (omega (arith, l .inv .3, l .inv .1)) (λ q i h k p. (omega arith, omega arith))
+          refl,
+      l .inv .3,
+    )
 
 loop-less-2 : tie.Need-loop-less-2 Inv-loop μ-loop
 loop-less-2 c = search needs
 
 loop-again-2 : tie.Need-loop-again-2 Inv-loop μ-loop
-loop-again-2 c = let l = c .before .before .before .before .loop in let a = c .before .before .before .before .before .before .before .args in (
-  omega arith,
-  l .inv .1,
-  rows-no cellPlace 64 (a .sets .now) (a .j) (a .j) (λ _. a .number) (a .cells .now) (l .s) (omega (arith, l .inv .3)) (l .cells) (l .inv .2) (sym (c .before .has .ensures) ∙ c .if1 .left),
-  l .inv .3,
-)
+loop-again-2 c =
+    let l = c .before .before .before .before .loop in
+    (omega arith, l .inv .1, rows-no (omega (arith, l .inv .3)) (l .inv .2) (sym (c .before .has .ensures) ∙ c .if1 .left), l .inv .3)
 
 same-length : tie.Need-same-length Inv-loop μ-loop
 same-length c = search needs
 
 returns : tie.Need-returns Inv-loop μ-loop
 unfolding given
-returns c = let l = c .before .loop in let a = c .before .before .before .before .args in let e : l .s ≡ a .end = omega arith in
-    λ s i h k. rows-all cellPlace 64 (a .sets .now) (a .j) (a .j) (λ _. a .number) (a .cells .now) (l .inv .3 .3) (l .cells) (rw e at (l .inv .2)) s i (omega (arith, h, l .inv .3 .1)) k
+returns c =
+    let l = c .before .loop in
+    let e : l .s ≡ c .before .before .before .before .args .end = omega arith in
+    λ s i h k. rows-all (l .inv .3 .3) (rw e at (l .inv .2)) s i (omega (arith, h, l .inv .3 .1)) k
 
 pub give-spec : {M : Type 1} → statement M
 give-spec =

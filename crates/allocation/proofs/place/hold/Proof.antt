@@ -1,9 +1,9 @@
 -- `hold` meets its contract: the words of the family's locations below s are done. Assumes nothing.
 use borrow.Author.Needs.{needs}
-use mathlib.Core.Path.{_≡_, refl, sym, _∙_, subst}
-use Prim.Native.Nat.{ℕ, _+_, _*_, _-_, _≤_, _<_}
+use mathlib.Core.Path.{_≡_, refl, sym, _∙_}
+use Prim.Native.Nat.{_-_, _≤_, _<_}
 use native.Mathlib.Omega.{arith}
-use lib.ListN.{length, set, length-set}
+use lib.ListN.{length, length-set}
 use Rattle.timer_set.specs.Members.{added}
 use Rattle.allocation.specs.Rows.{holding, Within, heldWords, heldLength, wordPlace}
 use Rattle.chart_lists.specs.Limits.{mostLocations}
@@ -20,12 +20,7 @@ abbrev μ-loop : tie.MeasureT-loop
 μ-loop sets from end j w x held₀ s₀ held s = end - s
 
 loop-holds : tie.Need-loop-holds Inv-loop μ-loop
-loop-holds c = let s = c .before .before in let a = s .args in (
-  s .pre .4 .ordered,
-  refl,
-  rows-none wordPlace heldWords (a .sets .now) (a .j) (a .w) (λ word. added word (a .x)) (a .held .now) (s .pre .4),
-  s .pre,
-)
+loop-holds c = let p = c .before .before .pre in (p .4 .ordered, refl, rows-none (p .4), p)
 
 mul-t12 : tie.Need-mul-t12 Inv-loop μ-loop
 mul-t12 c = search needs
@@ -64,33 +59,33 @@ loop-less : tie.Need-loop-less Inv-loop μ-loop
 loop-less c = search needs
 
 loop-again : tie.Need-loop-again Inv-loop μ-loop
-loop-again c = let l = c .before .before .before .before .before .before .loop in let a = c .before .before .before .before .before .before .before .before .before .args in (
-  omega arith,
-  simp length-set (l .inv .1),
-  subst (λ (v : ℕ). Rows wordPlace heldWords (a .sets .now) (a .j) (a .w) (λ word. added word (a .x)) (a .held .now) (l .s + 1) (set (l .held) (mostLocations * a .w + l .s) v)) (sym (c .with .ensures))
-      (rows-yes wordPlace heldWords (a .sets .now) (a .j) (a .w) (λ word. added word (a .x)) (a .held .now) (l .s) (omega (arith, l .inv .3)) (l .held) (l .inv .2)
-      (sym (c .before .before .before .has .ensures) ∙ c .before .before .if1 .taken) (l .inv .3 .0) (omega (arith, l .inv .3, l .inv .1)) (λ q i h k p. (omega arith, omega arith))),
-  l .inv .3,
-)
+loop-again c =
+    let l = c .before .before .before .before .before .before .loop in
+    let h = sym (c .before .before .before .has .ensures) ∙ c .before .before .if1 .taken in (
+      omega arith,
+      simp length-set (l .inv .1),
+      rows-yes (omega (arith, l .inv .3)) (l .inv .2) h (l .inv .3 .0) (omega (arith, l .inv .3, l .inv .1)) (λ q i h k p. (omega arith, omega arith))
+          (c .with .ensures),
+      l .inv .3,
+    )
 
 loop-less-2 : tie.Need-loop-less-2 Inv-loop μ-loop
 loop-less-2 c = search needs
 
 loop-again-2 : tie.Need-loop-again-2 Inv-loop μ-loop
-loop-again-2 c = let l = c .before .before .before .before .loop in let a = c .before .before .before .before .before .before .before .args in (
-  omega arith,
-  l .inv .1,
-  rows-no wordPlace heldWords (a .sets .now) (a .j) (a .w) (λ word. added word (a .x)) (a .held .now) (l .s) (omega (arith, l .inv .3)) (l .held) (l .inv .2) (sym (c .before .has .ensures) ∙ c .if1 .left),
-  l .inv .3,
-)
+loop-again-2 c =
+    let l = c .before .before .before .before .loop in
+    (omega arith, l .inv .1, rows-no (omega (arith, l .inv .3)) (l .inv .2) (sym (c .before .has .ensures) ∙ c .if1 .left), l .inv .3)
 
 same-length : tie.Need-same-length Inv-loop μ-loop
 same-length c = search needs
 
 returns : tie.Need-returns Inv-loop μ-loop
 unfolding holding
-returns c = let l = c .before .loop in let a = c .before .before .before .before .args in let e : l .s ≡ a .end = omega arith in
-    λ s v h k. rows-all wordPlace heldWords (a .sets .now) (a .j) (a .w) (λ word. added word (a .x)) (a .held .now) (l .inv .3 .4) (l .held) (rw e at (l .inv .2)) s v (omega (arith, h, l .inv .3 .2)) k
+returns c =
+    let l = c .before .loop in
+    let e : l .s ≡ c .before .before .before .before .args .end = omega arith in
+    λ s v h k. rows-all (l .inv .3 .4) (rw e at (l .inv .2)) s v (omega (arith, h, l .inv .3 .2)) k
 
 pub hold-spec : {M : Type 1} → statement M
 hold-spec =

@@ -22,10 +22,24 @@ Inv-loop sets roots from end cells₀ held₀ used most₀ j₀ cells held most 
 abbrev μ-loop : tie.MeasureT-loop
 μ-loop sets roots from end cells₀ held₀ used most₀ j₀ cells held most j = 64 - j
 
+-- a family of the turn is placed: the turn, and the call, that this is of
+abbrev turn : tie.After-place-family Inv-loop μ-loop → tie.At-loop Inv-loop μ-loop
+turn c = c .before .before .before .before .before .before
+
+abbrev start : tie.At-loop Inv-loop μ-loop → tie.Start Inv-loop μ-loop
+start c = c .before .before .before .before
+
 loop-holds : tie.Need-loop-holds Inv-loop μ-loop
-loop-holds c = let r = c .before .before .before .pre in
-    let a = c .before .before .before .args in
-    (omega arith, r .lengths, r .words-agree, r .within, λ i h k m. r .unnumbered i m, λ p q g so. subst (λ (x : ℕ). NumberedTo p x (a .cells .now) (a .used)) (omega arith) so)
+loop-holds c =
+    let r = c .before .before .before .pre in
+    let a = c .before .before .before .args in (
+      omega arith,
+      r .lengths,
+      r .words-agree,
+      r .within,
+      λ i h k m. r .unnumbered i m,
+      λ p q g so. subst (λ (x : ℕ). NumberedTo p x (a .cells .now) (a .used)) (omega arith) so,
+    )
 
 add-j : tie.Need-add-j Inv-loop μ-loop
 add-j c = search needs
@@ -53,19 +67,23 @@ loop-less c = search needs
 
 loop-again : tie.Need-loop-again Inv-loop μ-loop
 loop-again c =
-    let l = c .before .before .before .before .before .before .before .before .before .before .before .loop in
-    let a = c .before .before .before .before .before .before .before .before .before .before .before .before .before .before .before .args in
-    let f = c .before .before .before .before .before .place-family in
-    let m = sym (c .before .before .before .before .before .before .before .before .before .has .ensures) ∙ c .before .before .before .before .before .before .before .before .if1 .taken in
+    let y = c .before .before .before .before .before in
+    let l = turn y .loop in
+    let a = start (turn y) .args in
+    let f = y .place-family in
+    let m = sym (y .before .before .before .before .has .ensures) ∙ y .before .before .before .if1 .taken in
     let after = f .last .1 .1 .1 .1 .0 in
-    let long : length after ≡ 64 * length (a .sets .now) = f .kept .1 .1 .1 .1 .0 ∙ l .inv .1 .cells-long in (
+    let few = l .inv .1 .few-locations in
+    let long : length after ≡ 64 * length (a .sets .now) = f .kept .1 .1 .1 .1 .0 ∙ l .inv .1 .cells-long in
+    let kept = unnumbered-kept (a .sets .now) (l .j) (f .result) (l .cells) after (f .ensures .1 .0) in (
       omega arith,
-      record { few-locations = l .inv .1 .few-locations; cells-long = long; held-long = f .kept .1 .1 .1 .1 .1 .0 ∙ l .inv .1 .held-long },
+      record { few-locations = few; cells-long = long; held-long = f .kept .1 .1 .1 .1 .1 .0 ∙ l .inv .1 .held-long },
       f .ensures .1 .1,
       l .inv .3,
-      λ i h k n. unnumbered-kept (a .sets .now) (l .j) (f .result) (l .cells) after (f .ensures .1 .0) i k (λ e. omega arith) (l .inv .4 i (omega arith) k n),
-      λ p q g so. subst (NumberedTo p _ after) (sym (c .larger .ensures))
-          (turn-yes g (l .j) (omega arith) (l .cells) (l .most) (l .inv .5 p q g so) m (l .inv .1 .few-locations) (f .result) (f .ensures .0) after long (f .ensures .1 .0)),
+      λ i h k n. kept i k (λ e. omega arith) (l .inv .4 i (omega arith) k n),
+      λ p q g so.
+          let next = turn-yes g (l .j) (omega arith) (l .cells) (l .most) (l .inv .5 p q g so) m few in
+          subst (NumberedTo p _ after) (sym (c .larger .ensures)) (next (f .result) (f .ensures .0) after long (f .ensures .1 .0)),
     )
 
 loop-less-2 : tie.Need-loop-less-2 Inv-loop μ-loop
