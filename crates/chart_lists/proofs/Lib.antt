@@ -5,3 +5,4 @@ pub mod Begins
 pub mod Holds
 pub mod Locations
 pub mod Fronts
+pub mod InTurn
