@@ -6,3 +6,6 @@ pub mod Holds
 pub mod Fields
 pub mod PutLoop
 pub mod Overwritten
+pub mod Locations
+pub mod Fronts
+pub mod InTurn
