@@ -104,7 +104,7 @@ module _ (bs : List ℕ) (bytes : Bytes bs) {m : Header} (h : Accepted bs m) {a 
       sources-are = each _ (ap (λ (y : Lists). y .sources) laid-out);
       targets-are = each _ (ap (λ (y : Lists). y .targets) laid-out);
       starts-are = each _ (ap (λ (y : Lists). y .starts) laid-out);
-      tests-are = each _ (ap (λ (y : Lists). y .counts) laid-out);
+      tests-are = each _ (ap (λ (y : Lists). y .test-counts) laid-out);
       timers-are = test _ (ap (λ (y : Lists). y .timers) laid-out);
       codes-are = test _ (ap (λ (y : Lists). y .codes) laid-out);
       constants-are = test _ (ap (λ (y : Lists). y .constants) laid-out);
