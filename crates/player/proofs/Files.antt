@@ -31,7 +31,8 @@ module _ (bs counts is ts : List ℕ) where
       go (result c) = refl
       go (refused n p) = refl
 
-  pub accepted-answer : {h : Header} (j : JudgedChart bs h) {y : Answer Arrival} → y ≡ playedOn counts is ts (j .chart) → y ≡ playAnswer bs counts is ts
+  pub accepted-answer : {h : Header} (j : JudgedChart bs h) {y : Answer Arrival} → y ≡ playedOn counts is ts (j .chart)
+      → y ≡ playAnswer bs counts is ts
   unfolding judgedIn
   accepted-answer j e = e ∙ sym (play-is ∙ rw (j .reads, j .accepted) refl)
 

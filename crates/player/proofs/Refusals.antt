@@ -15,12 +15,10 @@ use Rattle.lists.proofs.Membership.{memb-nil, memb-cases, memb-tail}
 use Rattle.model.specs.Answer.{Answer, result, refused, then, unless, nowhere}
 use Rattle.model.specs.Chart.{Chart}
 use Rattle.model.specs.Run.{playerTime}
-use Rattle.model.specs.Judge.{judged}
-use Rattle.model.specs.Player.{Arrival, answerOf, tooLarge, countsJudged, stepsOf, played, playedOn}
+use Rattle.model.specs.Player.{Arrival, answerOf, tooLarge, countsJudged, stepsOf, playedOn}
 use Rattle.model.proofs.Answers.{refused-same, number-is}
 use Rattle.model.proofs.PlayerNumbers.{after-numbers}
 use Rattle.model.proofs.Judgement.{LowestUnreached, LowestUnstarted}
-use Rattle.file_format.specs.File.{chartIn}
 use Rattle.judgement.specs.Judging.{judgedIn}
 use Rattle.judgement.specs.Refusals.{RefusalOfJudgement}
 use Rattle.judgement.specs.Refusals.RefusalOfJudgement.{of-file, of-unreached, of-unstarted}
@@ -90,7 +88,8 @@ module _ (bs counts is ts : List ℕ) where
         first = lowest (tooLarge counts) (c .timers)
 
         go : (one-each small : Bool) → leb (c .timers) first ≡ small
-            → unless one-each 12 nowhere (unless small 12 first (unless (eqb (length is) (length ts)) 13 nowhere answer)) ≡ refused n p → RefusalOfPlay (length is) n p
+            → unless one-each 12 nowhere (unless small 12 first (unless (eqb (length is) (length ts)) 13 nowhere answer)) ≡ refused n p
+            → RefusalOfPlay (length is) n p
         go false small q e = of-counts (sym (refused-same e .0)) (inl (sym (refused-same e .1)))
         go true false q e = of-counts (sym (refused-same e .0)) (inr (omega (arith, refused-same e .1, leb-false (c .timers) first q)))
         go true true q e = of-call (eqb (length is) (length ts)) e

@@ -22,11 +22,17 @@ module _ (counts : List ℕ) where
 
   pub small-more : (j : ℕ) → getD counts j 0 ≤ largestTime → SmallTo counts j → SmallTo counts (j + 1)
   unfolding tooLarge
-  small-more j h s = record { before = below-more (λ (k : ℕ). tooLarge counts k ≡ false) j (s .before) (ap not (le-leb (getD counts j 0) largestTime h)) }
+  small-more j h s =
+      let here = ap not (le-leb (getD counts j 0) largestTime h) in
+      record { before = below-more (λ (k : ℕ). tooLarge counts k ≡ false) j (s .before) here }
 
   pub large-here : (j : ℕ) → j < length counts → largestTime < getD counts j 0 → SmallTo counts j → j ≡ lowest (tooLarge counts) (length counts)
   unfolding tooLarge
-  large-here j l h s = sym (lowest-is (tooLarge counts) (length counts) j (omega arith) (λ q. ap not (lt-leb (getD counts j 0) largestTime h)) (s .before))
+  large-here j l h s =
+      let here = ap not (lt-leb (getD counts j 0) largestTime h) in
+      sym (lowest-is (tooLarge counts) (length counts) j (omega arith) (λ q. here) (s .before))
 
   pub large-none : (j : ℕ) → length counts ≤ j → SmallTo counts j → length counts ≡ lowest (tooLarge counts) (length counts)
-  large-none j h s = sym (lowest-is (tooLarge counts) (length counts) (length counts) (omega arith) (λ q. absurd (omega arith)) (λ k l. s .before k (omega arith)))
+  large-none j h s =
+      let n = length counts in
+      sym (lowest-is (tooLarge counts) n n (omega arith) (λ q. absurd (omega arith)) (λ k l. s .before k (omega arith)))

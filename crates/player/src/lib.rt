@@ -94,7 +94,8 @@ fn play_chart<'a>(
     times: &[u64],
 ) -> Played
     requires { ⌜ ((c : Chart) × (header ≡ headerOf c)
-        × Holds c (playLists c (now accepting) (now sources) (now targets) (now starts) (now «test_counts») (now timers) (now codes) (now constants))) ⌝ }
+        × Holds c (playLists c (now accepting) (now sources) (now targets) (now starts) (now «test_counts»)
+            (now timers) (now codes) (now constants))) ⌝ }
     ensures { λ r. ⌜ ((c : Chart) → header ≡ headerOf c
         → Holds c (playLists c (now (accepting .entry)) (now (sources .entry)) (now (targets .entry)) (now (starts .entry))
             (now («test_counts» .entry)) (now (timers .entry)) (now (codes .entry)) (now (constants .entry)))

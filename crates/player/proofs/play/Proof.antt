@@ -34,8 +34,11 @@ holds-left a =
     left-holds (file a) (bytes-are (file a) (λ i. known .given i .fits)) (a .judge .ensures .1 .0)
 
 -- the way back from the arms of the answer
+abbrev unlent : tie.After-tested2 → tie.After-starts2
+unlent a = a .before .before .before .before .before
+
 abbrev judged : tie.After-tested2 → tie.After-judge
-judged a = a .before .before .before .before .before .before .before .before .before .before
+judged a = unlent a .before .before .before .before .before
 
 slice-aggregate-judge : tie.Need-slice-aggregate-judge
 slice-aggregate-judge c = search needs

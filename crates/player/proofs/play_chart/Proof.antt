@@ -1,6 +1,5 @@
 -- `play_chart` judges 12 and 13, then the steps decide. Assumes nothing.
 use mathlib.Core.Path.{_≡_, sym, _∙_}
-use Prim.Native.Nat.{ℕ}
 use lib.ListN.{length, take}
 use borrow.Author.Needs.{needs}
 use Rattle.model.specs.Chart.{Chart}
@@ -70,7 +69,10 @@ play-steps-requires c κs =
     let same = one-each (f .before) (p .0) (p .1) in
     let few = p .2 .valid .few-timers in (
       (p .0, p .1, holds-steps (p .2)),
-      (allowed (p .0) (x .counts .now) (x .transitions .now) (x .times .now) same (f .first-too-large .ensures) (b .if2 .left) few, sym (c .if3 .left)),
+      (
+        allowed (p .0) (x .counts .now) (x .transitions .now) (x .times .now) same (f .first-too-large .ensures) (b .if2 .left) few,
+        sym (c .if3 .left),
+      ),
     )
 
 -- where the steps are taken, the call's arguments
