@@ -4,16 +4,14 @@ use crate::lent::*;
 use crate::show::*;
 
 pub fn analyse(file: &[u8], values: &[u8]) {
-    let mut live = [FILLED64; 256];
-    let n = room(values, 0, 256);
-    analyse_lent(file, size(values, 1), &mut live[0..n]);
-}
-
-fn analyse_lent(file: &[u8], locations: usize, live: &mut [u64]) {
+    let mut list = [FILLED64; 256];
+    let n = count(values, 0, 256);
+    let live = &mut list[0..n];
     let answer = analysis::analyse(file, live);
     match answer {
         analysis::Analysis::Refused(r) => refusal(r, changed64(live, 0)),
         analysis::Analysis::Found { used, floor } => {
+            let locations = count(values, 1, 256);
             item(b"used ", used as u64);
             item(b" floor ", floor as u64);
             item(b" beyond ", changed64(live, locations) as u64);
@@ -31,31 +29,28 @@ fn sets(live: &[u64], n: usize) {
     }
 }
 
-pub fn rewrite(file: &[u8], values: &[u8]) {
-    let mut out = [FILLED8; 65536];
-    let n = room(values, 1, 65536);
-    rewrite_lent(file, low32(number(values, 0)), &mut out[0..n]);
-}
-
-fn rewrite_lent(file: &[u8], limit: u32, out: &mut [u8]) {
-    let answer = rewriting::rewrite(file, limit, out);
+pub fn rewrite(input: &[u8], values: &[u8]) {
+    let mut buffer = [FILLED8; 65536];
+    let n = count(values, 1, 65536);
+    let out = &mut buffer[0..n];
+    let answer = rewriting::rewrite(input, low32(number(values, 0)), out);
     match answer {
         rewriting::Rewritten::Refused(r) => refusal(r, changed8(out, 0)),
         rewriting::Rewritten::File { used, length } => {
             item(b"used ", used as u64);
-            crate::show::file(b" length ", out, length);
+            file(b" length ", out, length);
         }
     }
 }
 
 pub fn play(file: &[u8], values: &[u8], vector: &[u8]) {
-    let more = size(values, 0);
+    let zeros = count(values, 0, 70016);
     let mut counts = [0u32; 64];
     let a = list32(field(vector, 3), 0, &mut counts);
     let mut transitions = [0u32; 70016];
-    let b = list32(field(vector, 4), more, &mut transitions);
+    let b = list32(field(vector, 4), zeros, &mut transitions);
     let mut times = [0u64; 70016];
-    let c = list64(field(vector, 5), more, &mut times);
+    let c = list64(field(vector, 5), zeros, &mut times);
     let answer = player::play(file, a, b, c);
     match answer {
         player::Played::Refused(r) => refusal(r, 0),

@@ -20,23 +20,23 @@ struct Lists {
 // Reads a file into lists of the given lengths.
 pub fn read(file: &[u8], lengths: &[u8]) {
     let mut accepting = [FILLED16; 256];
-    let a = &mut accepting[0..room(lengths, 0, 256)];
+    let a = &mut accepting[0..count(lengths, 0, 256)];
     let mut sources = [FILLED16; 512];
-    let b = &mut sources[0..room(lengths, 1, 512)];
+    let b = &mut sources[0..count(lengths, 1, 512)];
     let mut targets = [FILLED16; 512];
-    let c = &mut targets[0..room(lengths, 2, 512)];
+    let c = &mut targets[0..count(lengths, 2, 512)];
     let mut events = [FILLED8; 512];
-    let d = &mut events[0..room(lengths, 3, 512)];
+    let d = &mut events[0..count(lengths, 3, 512)];
     let mut starts = [FILLED64; 512];
-    let e = &mut starts[0..room(lengths, 4, 512)];
+    let e = &mut starts[0..count(lengths, 4, 512)];
     let mut test_counts = [FILLED8; 512];
-    let f = &mut test_counts[0..room(lengths, 5, 512)];
+    let f = &mut test_counts[0..count(lengths, 5, 512)];
     let mut timers = [FILLED8; 4096];
-    let g = &mut timers[0..room(lengths, 6, 4096)];
+    let g = &mut timers[0..count(lengths, 6, 4096)];
     let mut codes = [FILLED8; 4096];
-    let h = &mut codes[0..room(lengths, 7, 4096)];
+    let h = &mut codes[0..count(lengths, 7, 4096)];
     let mut constants = [FILLED16; 4096];
-    let i = &mut constants[0..room(lengths, 8, 4096)];
+    let i = &mut constants[0..count(lengths, 8, 4096)];
     let answer = reader::read_chart(file, a, b, c, d, e, f, g, h, i);
     let lists = Lists {
         accepting,
@@ -162,12 +162,6 @@ fn write_again(header: Header, lists: Lists) {
 
 // Writes the nine lists of a vector.
 pub fn write(vector: &[u8], values: &[u8]) {
-    let mut out = [FILLED8; 65536];
-    let n = room(values, 5, 65536);
-    write_lent(vector, header(values), &mut out[0..n]);
-}
-
-fn write_lent(vector: &[u8], header: Header, out: &mut [u8]) {
     let mut accepting = [0u16; 512];
     let a = list16(field(vector, 2), &mut accepting);
     let mut sources = [0u16; 512];
@@ -182,7 +176,10 @@ fn write_lent(vector: &[u8], header: Header, out: &mut [u8]) {
     let h = field(vector, 9);
     let mut constants = [0u16; 512];
     let i = list16(field(vector, 10), &mut constants);
-    let answer = writer::write(header, a, b, c, d, e, f, g, h, i, out);
+    let mut buffer = [FILLED8; 65536];
+    let n = count(values, 5, 65536);
+    let out = &mut buffer[0..n];
+    let answer = writer::write(header(values), a, b, c, d, e, f, g, h, i, out);
     show_written(answer, out);
 }
 

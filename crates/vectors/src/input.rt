@@ -41,21 +41,17 @@ pub fn number(s: &[u8], i: usize) -> u64 {
     high | byte(t, 4) << 24 | byte(t, 5) << 16 | byte(t, 6) << 8 | byte(t, 7)
 }
 
-pub fn size(s: &[u8], i: usize) -> usize {
-    number(s, i) as usize
-}
-
-// The i-th number, at most what there is room for.
-pub fn room(s: &[u8], i: usize, most: usize) -> usize
+// The i-th number as a count, at most what there is room for.
+pub fn count(s: &[u8], i: usize, most: usize) -> usize
     ensures { λ r. ⌜ r ≤ most ⌝ }
 {
-    least(size(s, i), most)
+    least(number(s, i) as usize, most)
 }
 
 // The k-th field.
 pub fn field<'a>(s: &'a [u8], k: usize) -> &'a [u8] {
-    let from = least(size(s, k << 1), s.len());
-    let to = from + least(size(s, k << 1 | 1), s.len() - from);
+    let from = count(s, k << 1, s.len());
+    let to = from + count(s, k << 1 | 1, s.len() - from);
     &s[from..to]
 }
 
@@ -68,23 +64,19 @@ pub fn list16<'a>(s: &[u8], list: &'a mut [u16]) -> &'a mut [u16] {
     &mut list[0..n]
 }
 
-// The same with more copies of the first number.
-pub fn list32<'a>(s: &[u8], more: usize, list: &'a mut [u32]) -> &'a mut [u32] {
-    let n = least(plus(s.len() >> 3, more), list.len());
+// The same with zeros before the numbers: what is left of the first has an index past the end.
+pub fn list32<'a>(s: &[u8], zeros: usize, list: &'a mut [u32]) -> &'a mut [u32] {
+    let n = least(plus(s.len() >> 3, zeros), list.len());
     for i in 0..n {
-        list[i] = low32(number(s, back(i, more)));
+        list[i] = low32(number(s, std::num::wrapping_sub_usize(i, zeros)));
     }
     &mut list[0..n]
 }
 
-pub fn list64<'a>(s: &[u8], more: usize, list: &'a mut [u64]) -> &'a mut [u64] {
-    let n = least(plus(s.len() >> 3, more), list.len());
+pub fn list64<'a>(s: &[u8], zeros: usize, list: &'a mut [u64]) -> &'a mut [u64] {
+    let n = least(plus(s.len() >> 3, zeros), list.len());
     for i in 0..n {
-        list[i] = number(s, back(i, more));
+        list[i] = number(s, std::num::wrapping_sub_usize(i, zeros));
     }
     &mut list[0..n]
-}
-
-fn back(i: usize, more: usize) -> usize {
-    if i < more { 0 } else { i - more }
 }

@@ -6,7 +6,7 @@
 //   'w'  the header and the length of the buffer to lend; nine lists to write
 //   'a'  the length of the list to lend and the number of locations; a file to analyse
 //   'k'  the limit and the length of the buffer to lend; a file to rewrite
-//   'p'  how many more copies of the first step to play; a file, counts, transitions and times
+//   'p'  how many steps of transition 0 at time 0 come first; a file, counts, transitions and times to play
 // All lent memory is filled with bytes 170 before a call.
 mod calls;
 mod charts;
@@ -23,7 +23,7 @@ fn main() {
 }
 
 fn run(input: &[u8]) {
-    let n = size(field(input, 0), 0);
+    let n = count(field(input, 0), 0, 65536);
     for k in 0..n {
         run_vector(field(input, k + 1));
     }
