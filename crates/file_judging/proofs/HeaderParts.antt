@@ -10,7 +10,7 @@ use borrow.Author.Tests.{le-leb, lt-leb}
 use Rattle.model.specs.Answer.{nowhere}
 use Rattle.file_format.specs.Parse.{Parsed, value, refusal, bind, guard, number, below, rising, entry}
 use Rattle.file_format.specs.Body.{FileHeader, readHeader}
-use Rattle.file_format.proofs.Parsed.{bind-value, guard-value, same-value, below-limit, kept-value, kept-refused}
+use Rattle.file_format.proofs.Parsed.{value-refused, bind-value, guard-value, same-value, below-limit, kept-value, kept-refused}
 use Rattle.file_format.proofs.Items.{many-length}
 use Rattle.chart_lists.specs.declared.Header.{Header}
 use Rattle.file_judging.specs.Parts.{Limits, readLimits, skipAccepting, readCount, chartHeader, skipHeader}
@@ -113,7 +113,33 @@ module _ (bs : List ℕ) where
         go xs q (value n t) = rw q
         go xs q (refusal n p) = refl
 
+  -- a header that is refused was not read
+  pub header-never : {n p : ℕ} → refusal n p ≡ skipHeader bs → (h : FileHeader) (t : List ℕ) → readHeader bs ≡ value h t → ⊥
+  unfolding skipHeader
+  header-never e h t k = let z : refusal _ _ ≡ value (chartHeader h) t = rw k at e in value-refused refl (sym z)
+
+  -- the accepting locations of a header that was read
+  pub header-entries : {l : Limits} {b₁ : List ℕ} → readLimits bs ≡ value l b₁ → (h : FileHeader) (t : List ℕ) → readHeader bs ≡ value h t
+      → (b₂ : List ℕ) × (rising 2 (l .locations) 5 nowhere (l .accepting) b₁ ≡ value (h .accepting) b₂)
+  header-entries {l} {b₁} e₀ h t e =
+      let k : headerFrom l b₁ ≡ value h t = rw e₀ at (header-parts bs ∙ e) in
+      let i = bind-value (rising 2 (l .locations) 5 nowhere (l .accepting) b₁) _ h t k in
+      let j = bind-value (below 2 513 4 nowhere (i .1)) _ h t (i .3) in
+      let q : i .0 ≡ h .accepting = ap (λ (x : FileHeader). x .accepting) (same-value (j .3)) in
+      (i .1, rw q at (i .2))
+
 -- ---- the numbers of a header that was read are within the limits
+
+pub limits-few : (bs : List ℕ) {l : Limits} {t : List ℕ} → readLimits bs ≡ value l t → l .locations ≤ 256
+unfolding readLimits
+limits-few bs {l} {t} e =
+    let i₀ = bind-value (below 2 257 4 nowhere bs) _ l t e in
+    let g = guard-value (leb 1 (i₀ .0)) 4 nowhere _ (i₀ .3) in
+    let i₁ = bind-value (below 2 (i₀ .0) 5 nowhere (i₀ .1)) _ l t (g .1) in
+    let i₂ = bind-value (below 1 65 4 nowhere (i₁ .1)) _ l t (i₁ .3) in
+    let i₃ = bind-value (number 2 (i₂ .1)) _ l t (i₂ .3) in
+    let q : i₀ .0 ≡ l .locations = ap (λ (x : Limits). x .locations) (same-value (i₃ .3)) in
+    omega (arith, below-limit 2 257 4 nowhere bs (i₀ .2))
 
 pub record Few (m : Header) : Type 0 where
   pub locations : m .locations ≤ 256

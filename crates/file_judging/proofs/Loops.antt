@@ -7,6 +7,7 @@ use native.Mathlib.Numerals.{add-one}
 use native.Mathlib.Omega.{arith}
 use lib.Dec.{leb}
 use lib.ListN.{length, length-append}
+use borrow.Author.Tests.{leb-true}
 use Rattle.model.specs.Answer.{nowhere}
 use Rattle.model.specs.Chart.{Transition}
 use Rattle.chart_lists.specs.Lists.{allTests}
@@ -15,18 +16,17 @@ use Rattle.file_format.specs.Parse.{value, refusal, below, entry, rising}
 use Rattle.file_format.specs.Body.{readTransition, readTransitions}
 use Rattle.file_format.proofs.Parsed.{bind-value, guard-value, same-value, below-limit, kept-value, kept-refused}
 use Rattle.file_format.proofs.Items.{Turn, rising-first, transitions-first, turn-done, turn-refused, turn-again}
-
 use Rattle.file_judging.specs.Parts.{skipAccepting, skipTransition, skipTransitions}
 use Rattle.file_judging.proofs.RecordParts.{skip-at-most}
 
--- an entry of a rising list that was read is below the limit
-pub entry-limit : (w limit n p lo : ℕ) (bs : List ℕ) {x : ℕ} {t : List ℕ} → entry w limit n p lo bs ≡ value x t → x < limit
+-- an entry of a rising list that was read is at least lo, and below the limit
+pub entry-within : (w limit n p lo : ℕ) (bs : List ℕ) {x : ℕ} {t : List ℕ} → entry w limit n p lo bs ≡ value x t → (lo ≤ x) × (x < limit)
 unfolding entry
-entry-limit w limit n p lo bs {x} {t} e =
+entry-within w limit n p lo bs {x} {t} e =
     let i = bind-value (below w limit n p bs) _ x t e in
     let g = guard-value (leb lo (i .0)) 7 p (value (i .0) (i .1)) (i .3) in
     let q : i .0 ≡ x = same-value (g .1) in
-    omega (arith, below-limit w limit n p bs (i .2))
+    (omega (arith, leb-true lo (i .0) (g .0)), omega (arith, below-limit w limit n p bs (i .2)))
 
 -- of n accepting locations k are read, and the next one is at least lowest
 pub record AcceptingRead (locations n k lowest : ℕ) (start bs : List ℕ) : Type 0 where
@@ -58,7 +58,7 @@ pub record TestsCounted (locations timers n i tests : ℕ) (start bs : List ℕ)
   pub count : tests ≡ length (allTests done)
   pub few : tests ≤ 8 * i
 
-pub counted-first : (locations timers n : ℕ) (start : List ℕ) → TestsCounted locations timers n 0 0 start start
+unfoldable pub counted-first : (locations timers n : ℕ) (start : List ℕ) → TestsCounted locations timers n 0 0 start start
 unfolding allTests
 counted-first locations timers n start = record { done = []; turn = transitions-first 2 locations timers n start; count = refl; few = omega arith }
 
@@ -72,7 +72,7 @@ module _ {locations timers n i tests : ℕ} {start bs : List ℕ} (p : TestsCoun
     unfolding skipTransition skipTransitions
     counted-refused e = let k = kept-refused (λ (r : Transition). length (r .tests)) (readTransition 2 locations timers i bs) e in rw (turn-refused (p .turn) h k)
 
-    pub counted-again : {g : ℕ} {t : List ℕ} → skipTransition 2 locations timers i bs ≡ value g t → TestsCounted locations timers n (i + 1) (tests + g) start t
+    unfoldable pub counted-again : {g : ℕ} {t : List ℕ} → skipTransition 2 locations timers i bs ≡ value g t → TestsCounted locations timers n (i + 1) (tests + g) start t
     unfolding skipTransition
     counted-again {g} {t} e =
         let k = kept-value (λ (r : Transition). length (r .tests)) (readTransition 2 locations timers i bs) e in

@@ -15,7 +15,7 @@ pub record Skipping (W timers place : ℕ) (s : List ℕ) (at g here k : ℕ) : 
   pub done : List Test
   pub turn : Turn (λ (i : ℕ) (t : Test). i) (readTest W timers) (readTests W timers place g (drop at s)) g k done place (drop here s)
 
-pub tests-begin : (W timers place : ℕ) (s : List ℕ) (at g : ℕ) → Skipping W timers place s at g at 0
+unfoldable pub tests-begin : (W timers place : ℕ) (s : List ℕ) (at g : ℕ) → Skipping W timers place s at g at 0
 tests-begin W timers place s at g = record { done = []; turn = tests-first W timers place g (drop at s) }
 
 module _ {W timers place : ℕ} {s : List ℕ} {at g here k : ℕ} (h : Skipping W timers place s at g here k) where
@@ -30,5 +30,5 @@ module _ {W timers place : ℕ} {s : List ℕ} {at g here k : ℕ} (h : Skipping
     unfolding skipTests
     tests-refused e = rw (turn-refused (h .turn) l e)
 
-    pub tests-again : {t : Test} {next : ℕ} → readTest W timers place (drop here s) ≡ value t (drop next s) → Skipping W timers place s at g next (k + 1)
+    unfoldable pub tests-again : {t : Test} {next : ℕ} → readTest W timers place (drop here s) ≡ value t (drop next s) → Skipping W timers place s at g next (k + 1)
     tests-again {t} e = record { done = h .done ++ (t ∷ []); turn = turn-again (h .turn) l e }

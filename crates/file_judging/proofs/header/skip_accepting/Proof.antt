@@ -1,6 +1,6 @@
 use borrow.Author.Needs.{needs}
 use native.Mathlib.Omega.{arith}
-use Rattle.file_judging.proofs.Loops.{entry-limit}
+use Rattle.file_judging.proofs.Loops.{entry-within}
 use Prim.Native.Nat.{_-_}
 use mathlib.Core.Path.{_∙_}
 use denote.Ref.{now}
@@ -36,7 +36,7 @@ returns c =
     k ∙ h ∙ accepting-refused (c .before .before .before .before .loop .inv) (c .before .before .before .loop-test .taken) h
 
 add-lowest : tie.Need-add-lowest Inv-loop μ-loop
-add-lowest c = omega (arith, entry-limit _ _ _ _ _ _ (told (fieldAs (now (c .before .before .before .before .before .before .before .args .s))) (c .before .a .given .1) (c .before .before .before .entry-at .ensures)))
+add-lowest c = omega (arith, entry-within _ _ _ _ _ _ (told (fieldAs (now (c .before .before .before .before .before .before .before .args .s))) (c .before .a .given .1) (c .before .before .before .entry-at .ensures)))
 
 add-k : tie.Need-add-k Inv-loop μ-loop
 add-k c = search needs
