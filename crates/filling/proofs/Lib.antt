@@ -3,3 +3,5 @@ pub mod AcceptingLoop
 pub mod TestsLoop
 pub mod RecordsLoop
 pub mod HeaderFill
+pub mod ChartParts
+pub mod FillParts
