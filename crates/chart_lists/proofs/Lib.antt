@@ -3,3 +3,4 @@ pub mod Tests
 pub mod Part
 pub mod Begins
 pub mod Holds
+pub mod Locations
