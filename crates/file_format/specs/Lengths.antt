@@ -20,3 +20,7 @@ bodyLength W c = 9 + 2 * length (c .accepting) + total (transitionLength W) (c .
 
 unfoldable pub fileLength : (W : ℕ) → Chart → ℕ
 fileLength W c = 5 + bodyLength W c
+
+-- the bytes of the largest file that the reader accepts
+abbrev pub largestFile : ℕ
+largestFile = 54286

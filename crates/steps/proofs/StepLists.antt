@@ -1,4 +1,5 @@
--- A list of steps, one a turn: the state that the turns so far have left, and what the rest comes to from it. Assumes nothing.
+-- A list of steps, one a turn: the state that the turns so far have left, and what the rest comes to from it. Hard: the run's state is not the
+-- code's, so it is carried along, shown by the code's. Assumes nothing.
 use mathlib.Core.Path.{_≡_, refl, sym, ap, subst, _∙_}
 use mathlib.Core.List.{List}
 use Prim.Native.Nat.{ℕ, suc, _+_, _≤_, _<_}
