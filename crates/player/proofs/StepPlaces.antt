@@ -59,7 +59,7 @@ module _ (c : Chart) where
       then-place k (k + suc (length es)) (attempt playerTime c k s e) _
       (wider k (suc k) k (k + suc (length es)) (attempt playerTime c k s e) (omega arith) (omega arith) (attempt-place k s e))
       (λ s′. wider (suc k) (suc k + length es) k (k + suc (length es)) (steps playerTime c (suc k) s′ es) (omega arith) (omega arith)
-          (steps-place es (suc k) s′))
+      (steps-place es (suc k) s′))
 
   pub answer-place : (v : Counts) (es : List Step) → StepRefusal 0 (length es) (answerOf playerTime c v es)
   unfolding answerOf outcome arrival

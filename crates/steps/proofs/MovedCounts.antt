@@ -90,7 +90,7 @@ module _ (starts : ℕ) (before : List ℕ) where
           rw p (gone ∙ ap (λ (x : ℕ). x + 0) stored ∙ sym (count-started left 0 i _ m))
       at j (inr e) =
           let kept : member (removed left i) j ≡ member left j =
-              member-removed left i j ∙ ap (λ (b : Bool). member left j && not b) e ∙ and-true (member left j) in
+          member-removed left i j ∙ ap (λ (b : Bool). member left j && not b) e ∙ and-true (member left j) in
           let other = getD-set-other after i j 0 0 (λ p. not-both (eq-eqb j i p) e) in
           count-same (removed left i) 0 j _ left kept ∙ ap (countAfter left 0 j) other
 
