@@ -48,7 +48,7 @@ pub fn limits_at(s: &[u8], at: usize) -> LimitsField
         return LimitsField::Refused(fields::refusal_of(a));
     };
     if locations < 1 {
-        return LimitsField::Refused(refusal::WRONG_COUNT);
+        return LimitsField::Refused(refusal::TOO_MANY);
     }
     let b = fields::pair_below(s, at1, locations, 5, refusal::NOWHERE);
     let Field::Value(initial, at2) = b else {
