@@ -48,7 +48,8 @@ module _ (s : List ℕ) where
       as-header {x} e =
           subst (λ (y : Header). readTransitions 2 (y .locations) (y .timers) (y .transitions) rest ≡ x) (sym (header-found .2)) e
 
-      pub judge-transitions : {n p : ℕ} → skipTransitions 2 (m .locations) (m .timers) (m .transitions) rest ≡ refusal n p → chartIn s ≡ refused n p
+      pub judge-transitions : {n p : ℕ} → skipTransitions 2 (m .locations) (m .timers) (m .transitions) rest ≡ refusal n p
+          → chartIn s ≡ refused n p
       unfolding chartIn readFile readBody skipTransitions
       judge-transitions e =
           let k = as-header (kept-refused (λ (rs : List Transition). length (allTests rs)) records e) in
