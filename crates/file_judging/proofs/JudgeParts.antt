@@ -17,8 +17,8 @@ use Rattle.file_format.proofs.Items.{many-length}
 use Rattle.file_judging.specs.Parts.{chartHeader, skipHeader, skipTransitions}
 use Rattle.file_judging.specs.Meaning.{ChartIs}
 
-pub transitions-length : (locations timers n : ℕ) (bs : List ℕ) {rs : List Transition} {t : List ℕ} → readTransitions 2 locations timers n bs ≡ value rs t
-    → length rs ≡ n
+pub transitions-length : (locations timers n : ℕ) (bs : List ℕ) {rs : List Transition} {t : List ℕ}
+    → readTransitions 2 locations timers n bs ≡ value rs t → length rs ≡ n
 unfolding readTransitions
 transitions-length locations timers n bs {rs} {t} e =
     many-length (λ (i : ℕ) (r : Transition). suc i) (readTransition 2 locations timers) 0 n bs rs t e
