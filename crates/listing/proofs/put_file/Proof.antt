@@ -10,7 +10,7 @@ use Rattle.judgement.proofs.Fronts.{lent-room, lent-part}
 use Rattle.judgement.proofs.Handed.{HandedOn, handed-on, judged-refused}
 use Rattle.analysis.proofs.Entry.{chart-lists}
 use Rattle.listing.specs.Listing.{answerText}
-use Rattle.listing.proofs.Written.{written-as}
+use Rattle.listing.proofs.PutBytes.{bytes-as}
 use Rattle.listing.proofs.Fits.{refused-fits}
 use Rattle.listing.proofs.Accepted.{accepted-refused, accepted-judged}
 use borrow.Author.Needs.{needs}
@@ -122,7 +122,7 @@ returns c =
     let j = c .before .before .before .before .before .before .before .before .before .before .before .before .before .before .before .before .before in
     let a = start j .args in
     let e = sym (ap readAs (c .before .before .before .before .before .a .given .1)) ∙ j .judge .ensures .0 in
-    written-as (c .before .before .put-refusal .ensures) (sym (ap (answerText (a .limit)) (accepted-refused (a .limit) (a .file .now) (judged-refused (a .file .now) e))))
+    bytes-as (c .before .before .put-refusal .ensures) (sym (ap (answerText (a .limit)) (accepted-refused (a .limit) (a .file .now) (judged-refused (a .file .now) e))))
 
 same-length-2 : tie.Need-same-length-2
 same-length-2 c = search needs
@@ -132,7 +132,7 @@ returns-2 c =
     let f = c .before .before .before .before .before .before .before .before .before .before in
     let a = start (judged f) .args in
     let h = handed f in
-    written-as (c .before .before .put-judged .ensures _ (chart-lists h)) (sym (ap (answerText (a .limit)) (accepted-judged (a .limit) (a .file .now) (h .accepted))))
+    bytes-as (c .before .before .put-judged .ensures _ (chart-lists h)) (sym (ap (answerText (a .limit)) (accepted-judged (a .limit) (a .file .now) (h .accepted))))
 
 pub put-file-spec : {M : Type 1} → statement M
 put-file-spec =

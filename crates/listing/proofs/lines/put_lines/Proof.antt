@@ -4,11 +4,11 @@ use lib.ListN.{length}
 use native.Mathlib.Omega.{arith}
 use denote.Ref.{now}
 use Rattle.listing.specs.Cells.{lineIn, linesIn}
-use Rattle.listing.proofs.Written.{written-long, written-within, written-part}
+use Rattle.listing.proofs.PutBytes.{bytes-long, bytes-within, bytes-room}
 use Rattle.listing.proofs.Turns.{Turns, turns-first, turns-done, turns-room, turns-again}
 use borrow.Author.Needs.{needs}
-use Rattle.listing.proofs.put_lines.Statement.{statement}
-use Rattle.listing.proofs.put_lines.Tie as tie
+use Rattle.listing.proofs.lines.put_lines.Statement.{statement}
+use Rattle.listing.proofs.lines.put_lines.Tie as tie
 
 abbrev Inv-loop : tie.InvT-loop
 Inv-loop out₀ cells timers n at₀ q₀ out at q = Turns (lineIn cells timers) n out₀ out at q
@@ -26,19 +26,23 @@ unfolding linesIn
 room c = turns-room (c .before .loop .inv) (c .loop-test .taken) (c .before .before .before .before .pre .3)
 
 sub-put-line : tie.Need-sub-put-line Inv-loop μ-loop
-sub-put-line c = written-within (c .before .loop .inv .written) (omega (arith, room c))
+sub-put-line c = bytes-within (c .before .loop .inv .put) (omega (arith, room c))
 
 part-put-line-start : tie.Need-part-put-line-start Inv-loop μ-loop
-part-put-line-start c = written-within (c .before .loop .inv .written) (omega (arith, room c))
+part-put-line-start c = bytes-within (c .before .loop .inv .put) (omega (arith, room c))
 
 part-put-line-end : tie.Need-part-put-line-end Inv-loop μ-loop
 part-put-line-end c = search needs
 
 put-line-requires : tie.Need-put-line-requires Inv-loop μ-loop
-put-line-requires c κs = let s = c .before .before .before .before .before in (omega (arith, s .pre .0, s .pre .2), s .pre .1, written-part (c .before .before .loop .inv .written) _ (room (c .before)))
+put-line-requires c κs =
+    let s = c .before .before .before .before .before in
+    (omega (arith, s .pre .0, s .pre .2), s .pre .1, bytes-room (c .before .before .loop .inv .put) _ (room (c .before)))
 
 add-at : tie.Need-add-at Inv-loop μ-loop
-add-at c = omega (arith, room (c .before .before .before .before), c .before .before .put-line .ensures .size-is, c .before .before .before .before .before .before .before .before .good)
+add-at c =
+    let t = c .before .before .before .before in
+    omega (arith, room t, c .before .before .put-line .ensures .size-is, t .before .before .before .before .good)
 
 add-q : tie.Need-add-q Inv-loop μ-loop
 add-q c = search needs
@@ -47,14 +51,16 @@ loop-less : tie.Need-loop-less Inv-loop μ-loop
 loop-less c = search needs
 
 loop-again : tie.Need-loop-again Inv-loop μ-loop
-loop-again c = turns-again (c .before .before .before .before .before .loop .inv) (c .before .before .before .before .loop-test .taken) (c .before .before .put-line .ensures)
+loop-again c =
+    let t = c .before .before .before .before in
+    turns-again (t .before .loop .inv) (t .loop-test .taken) (c .before .before .put-line .ensures)
 
 returns : tie.Need-returns Inv-loop μ-loop
 unfolding linesIn
 returns c = turns-done (c .before .loop .inv) (c .loop-test .left)
 
 same-length : tie.Need-same-length Inv-loop μ-loop
-same-length c = written-long (returns c) (c .before .before .before .before .pre .3)
+same-length c = bytes-long (returns c) (c .before .before .before .before .pre .3)
 
 pub put-lines-spec : {M : Type 1} → statement M
 put-lines-spec =

@@ -4,11 +4,11 @@ use lib.ListN.{length}
 use native.Mathlib.Omega.{arith}
 use denote.Ref.{now}
 use Rattle.listing.specs.Cells.{entryIn, entriesIn}
-use Rattle.listing.proofs.Written.{written-long, written-within, written-part}
+use Rattle.listing.proofs.PutBytes.{bytes-long, bytes-within, bytes-room}
 use Rattle.listing.proofs.Turns.{Turns, turns-first, turns-done, turns-room, turns-again}
 use borrow.Author.Needs.{needs}
-use Rattle.listing.proofs.put_entries.Statement.{statement}
-use Rattle.listing.proofs.put_entries.Tie as tie
+use Rattle.listing.proofs.lines.put_entries.Statement.{statement}
+use Rattle.listing.proofs.lines.put_entries.Tie as tie
 
 abbrev Inv-loop : tie.InvT-loop
 Inv-loop out₀ cells base timers at₀ j₀ out at j = Turns (entryIn cells base) timers out₀ out at j
@@ -26,10 +26,10 @@ unfolding entriesIn
 room c = turns-room (c .before .loop .inv) (c .loop-test .taken) (c .before .before .before .before .pre .1)
 
 sub-put-entry : tie.Need-sub-put-entry Inv-loop μ-loop
-sub-put-entry c = written-within (c .before .loop .inv .written) (omega (arith, room c))
+sub-put-entry c = bytes-within (c .before .loop .inv .put) (omega (arith, room c))
 
 part-put-entry-start : tie.Need-part-put-entry-start Inv-loop μ-loop
-part-put-entry-start c = written-within (c .before .loop .inv .written) (omega (arith, room c))
+part-put-entry-start c = bytes-within (c .before .loop .inv .put) (omega (arith, room c))
 
 part-put-entry-end : tie.Need-part-put-entry-end Inv-loop μ-loop
 part-put-entry-end c = search needs
@@ -47,10 +47,12 @@ shared-slice-read-put-entry : tie.Need-shared-slice-read-put-entry Inv-loop μ-l
 shared-slice-read-put-entry c = search needs
 
 put-entry-requires : tie.Need-put-entry-requires Inv-loop μ-loop
-put-entry-requires c κs = written-part (c .before .before .before .loop .inv .written) _ (room (c .before .before))
+put-entry-requires c κs = bytes-room (c .before .before .before .loop .inv .put) _ (room (c .before .before))
 
 add-at : tie.Need-add-at Inv-loop μ-loop
-add-at c = omega (arith, room (c .before .before .before .before .before), c .before .before .put-entry .ensures .size-is, c .before .before .before .before .before .before .before .before .before .good)
+add-at c =
+    let t = c .before .before .before .before .before in
+    omega (arith, room t, c .before .before .put-entry .ensures .size-is, t .before .before .before .before .good)
 
 add-j : tie.Need-add-j Inv-loop μ-loop
 add-j c = search needs
@@ -59,14 +61,16 @@ loop-less : tie.Need-loop-less Inv-loop μ-loop
 loop-less c = search needs
 
 loop-again : tie.Need-loop-again Inv-loop μ-loop
-loop-again c = turns-again (c .before .before .before .before .before .before .loop .inv) (c .before .before .before .before .before .loop-test .taken) (c .before .before .put-entry .ensures)
+loop-again c =
+    let t = c .before .before .before .before .before in
+    turns-again (t .before .loop .inv) (t .loop-test .taken) (c .before .before .put-entry .ensures)
 
 returns : tie.Need-returns Inv-loop μ-loop
 unfolding entriesIn
 returns c = turns-done (c .before .loop .inv) (c .loop-test .left)
 
 same-length : tie.Need-same-length Inv-loop μ-loop
-same-length c = written-long (returns c) (c .before .before .before .before .pre .1)
+same-length c = bytes-long (returns c) (c .before .before .before .before .pre .1)
 
 pub put-entries-spec : {M : Type 1} → statement M
 put-entries-spec =

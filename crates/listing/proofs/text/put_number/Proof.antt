@@ -1,8 +1,8 @@
 -- `put_number`: the number goes into the part after the word. Assumes nothing.
 use borrow.Author.Needs.{needs}
-use Rattle.listing.proofs.put_number.Statement.{statement}
-use Rattle.listing.proofs.put_number.Tie as tie
-use Rattle.listing.proofs.Written.{written-next}
+use Rattle.listing.proofs.text.put_number.Statement.{statement}
+use Rattle.listing.proofs.text.put_number.Tie as tie
+use Rattle.listing.proofs.PutBytes.{bytes-next}
 
 put-word-requires : tie.Need-put-word-requires
 put-word-requires c κs = search needs
@@ -26,7 +26,7 @@ same-length : tie.Need-same-length
 same-length c = search needs
 
 returns : tie.Need-returns
-returns c = written-next (c .before .before .before .before .before .before .put-word .ensures) (c .before .before .put-decimal .ensures)
+returns c = bytes-next (c .before .before .before .before .before .before .put-word .ensures) (c .before .before .put-decimal .ensures)
 
 pub put-number-spec : {M : Type 1} → statement M
 put-number-spec =

@@ -1,22 +1,22 @@
 -- `put_decimal`: the digits before the last are those of a tenth of the number. The measure is the number. Assumes nothing.
-use mathlib.Core.Path.{_≡_, refl, sym, ap, _∙_}
-use mathlib.Core.List.{List, [], _∷_}
-use Prim.Native.Nat.{ℕ, _+_, _-_, _/_, _%_, _^_, _≤_, _<_}
+use mathlib.Core.Path.{_≡_, sym, ap, _∙_}
+use mathlib.Core.List.{List}
+use Prim.Native.Nat.{ℕ, _+_, _/_, _%_, _^_, _≤_, _<_}
 use native.Mathlib.Omega.{arith}
-use lib.ListN.{length, set, length-set, length-append}
+use lib.ListN.{length, set, length-set}
 use denote.Ref.{now}
 use borrow.Author.Needs.{needs}
 use borrow.Fn.Kinds.{In}
 use borrow.Fn.PlainCycle.{Measures, is, falls, and}
-use Rattle.chart_lists.proofs.Put.{put-nil, put-last}
 use Rattle.listing.specs.Text.{decimal}
-use Rattle.listing.specs.Cells.{Written}
+use Rattle.listing.specs.PutBytes.{PutBytes}
+use Rattle.listing.proofs.PutBytes.{bytes-none, bytes-more, bytes-as}
 use Rattle.listing.proofs.Decimal.{decimal-one, decimal-more, length-more}
-use Rattle.listing.proofs.put_decimal.Reads as put-decimal
-use Rattle.listing.proofs.put_decimal.Kinds as put-decimal-kinds
-use Rattle.listing.proofs.+put_decimal.Lts-put_decimal as put-decimal-lts
-use Rattle.listing.proofs.+put_decimal.{statement}
-use Rattle.listing.proofs.+put_decimal.Tie.{close}
+use Rattle.listing.proofs.text.put_decimal.Reads as put-decimal
+use Rattle.listing.proofs.text.put_decimal.Kinds as put-decimal-kinds
+use Rattle.listing.proofs.text.+put_decimal.Lts-put_decimal as put-decimal-lts
+use Rattle.listing.proofs.text.+put_decimal.{statement}
+use Rattle.listing.proofs.text.+put_decimal.Tie.{close}
 
 abbrev μ-put-decimal : Measures 1 put-decimal-kinds.ps ℕ
 μ-put-decimal κs a = a .1 .0
@@ -28,14 +28,22 @@ abbrev claims : ℕ → put-decimal-lts.Claims
 claims t = (and 1 put-decimal-kinds.ps (falls 1 put-decimal-kinds.ps _<_ μ-put-decimal t) put-decimal.Pre, put-decimal.Post)
 
 -- one digit, and one digit more
-one : (n : ℕ) (l : List ℕ) → n < 10 → 1 ≤ length l → Written (decimal n) l (set l 0 (48 + n)) 1
-one n l h k = rw (decimal-one n h) (record { size-is = refl; bytes-are = put-last [] l (48 + n) k refl (sym (put-nil l)) })
+one : (n : ℕ) (l : List ℕ) → n < 10 → 1 ≤ length l → PutBytes (decimal n) l (set l 0 (48 + n)) 1
+one n l h k = bytes-as (bytes-more (bytes-none l) (48 + n) k) (sym (decimal-one n h))
 
-more : (n : ℕ) (l out : List ℕ) (at : ℕ) → 10 ≤ n → n < 10 ^ 20 → length (decimal n) ≤ length l → Written (decimal (n / 10)) l out at
-    → Written (decimal n) l (set out at (48 + n % 10)) (at + 1)
+more : (n : ℕ) (l out : List ℕ) (at : ℕ) → 10 ≤ n → n < 10 ^ 20 → length (decimal n) ≤ length l → PutBytes (decimal (n / 10)) l out at
+    → PutBytes (decimal n) l (set out at (48 + n % 10)) (at + 1)
 more n l out at h b k w =
-    let e = length-more n h b in
-    rw (decimal-more n h b) (record { size-is = ap (λ (m : ℕ). m + 1) (w .size-is) ∙ sym (length-append (decimal (n / 10)) ((48 + n % 10) ∷ [])); bytes-are = put-last (decimal (n / 10)) l (48 + n % 10) (omega (arith, w .size-is)) (sym (w .size-is)) (w .bytes-are) })
+    bytes-as (bytes-more w (48 + n % 10) (omega (arith, w .size-is, length-more n h b))) (sym (decimal-more n h b))
+
+-- the way back from the call to the start
+abbrev called : {t : ℕ} → put-decimal-lts.After-slice-known2 (claims t) (at-measure t) put-decimal.Post
+    → put-decimal-lts.After-put-decimal (claims t) (at-measure t) put-decimal.Post
+called c = c .before .before
+
+abbrev long : {t : ℕ} → put-decimal-lts.After-put-decimal (claims t) (at-measure t) put-decimal.Post
+    → put-decimal-lts.Else1 (claims t) (at-measure t) put-decimal.Post
+long c = c .before .before
 
 cast-out : (t : ℕ) → put-decimal-lts.Need-cast-out (claims t) (at-measure t) put-decimal.Post
 cast-out t c = search needs
@@ -50,10 +58,16 @@ same-length : (t : ℕ) → put-decimal-lts.Need-same-length (claims t) (at-meas
 same-length t c = search needs
 
 returns : (t : ℕ) → put-decimal-lts.Need-returns (claims t) (at-measure t) put-decimal.Post
-returns t c = let s = c .before .before in one (s .args .n) (now (s .args .out)) (c .if1 .taken) (omega (arith, s .pre .1, ap length (decimal-one (s .args .n) (c .if1 .taken))))
+returns t c =
+    let s = c .before .before in
+    let l = ap length (decimal-one (s .args .n) (c .if1 .taken)) in
+    one (s .args .n) (now (s .args .out)) (c .if1 .taken) (omega (arith, s .pre .1, l))
 
 put-decimal-requires : (t : ℕ) → put-decimal-lts.Need-put-decimal-requires (claims t) (at-measure t) put-decimal.Post
-put-decimal-requires t c κs = let s = c .before .before .before in (omega (arith, s .pre .0, c .before .if1 .left), omega (arith, s .pre .1, length-more (s .args .n) (c .before .if1 .left) (search needs)))
+put-decimal-requires t c κs =
+    let s = c .before .before .before in
+    let big = c .before .if1 .left in
+    (omega (arith, s .pre .0, big), omega (arith, s .pre .1, length-more (s .args .n) big (search needs)))
 
 cast-out-2 : (t : ℕ) → put-decimal-lts.Need-cast-out-2 (claims t) (at-measure t) put-decimal.Post
 cast-out-2 t c = search needs
@@ -63,24 +77,28 @@ add-out-2 t c = search needs
 
 -- there is room for the last digit
 room : (t : ℕ) (c : put-decimal-lts.After-slice-known2 (claims t) (at-measure t) put-decimal.Post)
-    → c .before .before .put-decimal .result < length (c .before .before .put-decimal .last .0)
+    → called c .put-decimal .result < length (called c .put-decimal .last .0)
 room t c =
-    let s = c .before .before .before .before .before .before in
-    let r = c .before .before .put-decimal in
-    let e : length (r .last .0) ≡ length (now (s .args .out)) = r .kept .0 in
-    omega (arith, s .pre .1, r .ensures .size-is, length-more (s .args .n) (c .before .before .before .before .if1 .left) (search needs))
+    let e = long (called c) in
+    let s = e .before .before in
+    let r = called c .put-decimal in
+    let k : length (r .last .0) ≡ length (now (s .args .out)) = r .kept .0 in
+    omega (arith, s .pre .1, r .ensures .size-is, length-more (s .args .n) (e .if1 .left) (search needs))
 
 slice-write-out-2 : (t : ℕ) → put-decimal-lts.Need-slice-write-out-2 (claims t) (at-measure t) put-decimal.Post
 slice-write-out-2 t c = room t c
 
 add-result : (t : ℕ) → put-decimal-lts.Need-add-result (claims t) (at-measure t) put-decimal.Post
-add-result t c = omega (arith, room t c, c .before .before .put-decimal .kept .0, c .before .before .before .before .before .before .good)
+add-result t c = omega (arith, room t c, called c .put-decimal .kept .0, long (called c) .before .before .good)
 
 same-length-2 : (t : ℕ) → put-decimal-lts.Need-same-length-2 (claims t) (at-measure t) put-decimal.Post
-same-length-2 t c = length-set (c .before .before .put-decimal .last .0) _ _ ∙ c .before .before .put-decimal .kept .0
+same-length-2 t c = length-set (called c .put-decimal .last .0) _ _ ∙ called c .put-decimal .kept .0
 
 returns-2 : (t : ℕ) → put-decimal-lts.Need-returns-2 (claims t) (at-measure t) put-decimal.Post
-returns-2 t c = let s = c .before .before .before .before .before .before in more (s .args .n) (now (s .args .out)) _ _ (c .before .before .before .before .if1 .left) (search needs) (s .pre .1) (c .before .before .put-decimal .ensures)
+returns-2 t c =
+    let e = long (called c) in
+    let s = e .before .before in
+    more (s .args .n) (now (s .args .out)) _ _ (e .if1 .left) (search needs) (s .pre .1) (called c .put-decimal .ensures)
 
 pub +put-decimal-spec : {M : Type 1} → statement M
 +put-decimal-spec = close μ-put-decimal (λ t. put-decimal-lts.spec (claims t) (at-measure t) put-decimal.Post
