@@ -19,7 +19,7 @@ use Rattle.judgement.proofs.Judging.{listed}
 use Rattle.judgement.proofs.Fronts.{drawn}
 use Rattle.judgement.proofs.Handed.{HandedOn, judged-refused}
 use Rattle.numbering.specs.Numbered.{ListsFor, OfChart}
-use Rattle.analysis.specs.Analysing.{Figures, figuresOf, figuresIn, analysedChart, analysedIn, analyseAnswer, listAfter}
+use Rattle.analysis.specs.Analysing.{AnalysisValues, valuesOf, valuesIn, analysedChart, analysedIn, analyseAnswer, listAfter}
 
 -- ---- a chart
 
@@ -48,7 +48,7 @@ module _ (c : Chart) (before : List ℕ) {n : ℕ} (e : n ≡ c .locations) wher
     is-short : analysedChart (length before) c ≡ refused 21 nowhere
     is-short = short c (length before) (omega (arith, e))
 
-    pub short-answer : refused 21 nowhere ≡ figuresIn (analysedChart (length before) c)
+    pub short-answer : refused 21 nowhere ≡ valuesIn (analysedChart (length before) c)
     short-answer = rw is-short
 
     pub short-list : before ≡ listAfter (analysedChart (length before) c) before
@@ -70,8 +70,8 @@ module _ (c : Chart) (before : List ℕ) {n : ℕ} (e : n ≡ c .locations) wher
       is-long = long-enough c (length before) (omega (arith, e))
 
       pub found-answer : {u f : ℕ} (rest : List ℕ) → u ≡ used c → f ≡ fullest (take n (live ++ rest))
-          → result (record { used = u; floor = f }) ≡ figuresIn (analysedChart (length before) c)
-      unfolding figuresOf floor
+          → result (record { used = u; floor = f }) ≡ valuesIn (analysedChart (length before) c)
+      unfolding valuesOf floor
       found-answer rest x y = let z = y ∙ ap fullest (seen rest ∙ l) in rw (is-long, x, z)
 
       pub found-list : live ++ drop n before ≡ listAfter (analysedChart (length before) c) before
@@ -98,7 +98,7 @@ module _ (bs before : List ℕ) where
     unfolding analysedIn
     of-chart = rw e
 
-    pub chart-answer : {a : Answer Figures} → a ≡ figuresIn (analysedChart (length before) c) → a ≡ analyseAnswer (length before) bs
+    pub chart-answer : {a : Answer AnalysisValues} → a ≡ valuesIn (analysedChart (length before) c) → a ≡ analyseAnswer (length before) bs
     unfolding analyseAnswer
     chart-answer f = rw of-chart f
 

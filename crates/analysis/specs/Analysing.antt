@@ -20,18 +20,18 @@ analysedChart room c = unless (leb (c .locations) room) 21 nowhere (result c)
 unfoldable pub analysedIn : (room : ℕ) → List ℕ → Answer Chart
 analysedIn room bs = then (judgedIn bs) (analysedChart room)
 
-pub record Figures : Type 0 where
+pub record AnalysisValues : Type 0 where
   pub used : ℕ
   pub floor : ℕ
 
-unfoldable pub figuresOf : Chart → Figures
-figuresOf c = record { used = used c; floor = floor c }
+unfoldable pub valuesOf : Chart → AnalysisValues
+valuesOf c = record { used = used c; floor = floor c }
 
-abbrev pub figuresIn : Answer Chart → Answer Figures
-figuresIn x = then x (λ c. result (figuresOf c))
+abbrev pub valuesIn : Answer Chart → Answer AnalysisValues
+valuesIn x = then x (λ c. result (valuesOf c))
 
-unfoldable pub analyseAnswer : (room : ℕ) → List ℕ → Answer Figures
-analyseAnswer room bs = figuresIn (analysedIn room bs)
+unfoldable pub analyseAnswer : (room : ℕ) → List ℕ → Answer AnalysisValues
+analyseAnswer room bs = valuesIn (analysedIn room bs)
 
 -- the lent list afterwards: the live set of each location over its front, or as it was
 abbrev pub listAfter : Answer Chart → List ℕ → List ℕ
@@ -39,6 +39,6 @@ listAfter (result c) l = put (liveSets c) l
 listAfter (refused n p) l = l
 
 -- what an answer of the code means
-abbrev pub analysisAs : Analysis → Answer Figures
+abbrev pub analysisAs : Analysis → Answer AnalysisValues
 analysisAs (analysis.Found u f) = result (record { used = u; floor = f })
 analysisAs (analysis.Refused f) = refusedAs f

@@ -4,7 +4,7 @@ ghost use lib.ListN.{length};
 ghost use Rattle.model.specs.Chart.{Chart};
 ghost use Rattle.model.specs.FirstFit.{fullest as FirstFit·fullest};
 ghost use Rattle.numbering.specs.Numbered.{ListsFor, OfChart};
-ghost use Rattle.analysis.specs.Analysing.{analysedIn, analysedChart, analyseAnswer, figuresIn, listAfter, analysisAs};
+ghost use Rattle.analysis.specs.Analysing.{analysedIn, analysedChart, analyseAnswer, valuesIn, listAfter, analysisAs};
 use chart_lists::Header;
 use chart_lists::Read;
 use refusal::Refusal;
@@ -44,7 +44,7 @@ fn analyse_chart<'a>(
 ) -> Analysis
     requires { ⌜ OfChart (now sources) (now targets) (now starts) (now tested) (numbers .timers) (numbers .locations) ⌝ }
     ensures answer { λ r. ⌜ ((c : Chart) → ListsFor c (now (sources .entry)) (now (targets .entry)) (now (starts .entry)) (now (tested .entry)) (numbers .timers) (numbers .locations)
-        → analysisAs r ≡ figuresIn (analysedChart (length (now (live .entry))) c)) ⌝ }
+        → analysisAs r ≡ valuesIn (analysedChart (length (now (live .entry))) c)) ⌝ }
     ensures lent { λ _. ⌜ ((c : Chart) → ListsFor c (now (sources .entry)) (now (targets .entry)) (now (starts .entry)) (now (tested .entry)) (numbers .timers) (numbers .locations)
         → now (live .exit) ≡ listAfter (analysedChart (length (now (live .entry))) c) (now (live .entry))) ⌝ }
 {

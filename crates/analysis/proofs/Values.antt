@@ -1,4 +1,4 @@
--- What the figures of the analysis mean: each word is the live set of its location by paths; floor is the count of the fullest live set, and at
+-- What the values of the analysis mean: each word is the live set of its location by paths; floor is the count of the fullest live set, and at
 -- most used, since the timers of one live set have different numbers; used is 0 exactly where no timer is live. Assumes nothing.
 use mathlib.Core.Path.{_≡_, refl, sym, ap, _∙_}
 use mathlib.Core.Logic.{_⊎_, inl, inr, _↔_}

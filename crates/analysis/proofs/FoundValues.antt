@@ -18,12 +18,12 @@ use Rattle.file_format.specs.Parse.{Bytes}
 use Rattle.file_format.proofs.File.{reads-valid}
 use Rattle.chart_lists.specs.Lists.{put}
 use Rattle.judgement.proofs.Corollaries.{Accepts, judged-result}
-use Rattle.analysis.specs.Analysing.{Figures, figuresOf, analysedIn, analyseAnswer, listAfter}
+use Rattle.analysis.specs.Analysing.{AnalysisValues, valuesOf, analysedIn, analyseAnswer, listAfter}
 use Rattle.analysis.proofs.Entry.{length-live, long-enough}
 use Rattle.analysis.proofs.Refusals.{analysis-result}
-use Rattle.analysis.proofs.Figures.{word-live, floor-most, floor-reached, floor-used, used-none}
+use Rattle.analysis.proofs.Values.{word-live, floor-most, floor-reached, floor-used, used-none}
 
--- ---- an entry of a list that was putLists over the front of another
+-- ---- an entry of a list over whose front another was put
 
 module _ (xs l : List ℕ) (q : ℕ) where
   in-front : q < length xs → getD (put xs l) q 0 ≡ getD xs q 0
@@ -34,12 +34,14 @@ module _ (xs l : List ℕ) (q : ℕ) where
   unfolding put
   behind h =
       let e : q ≡ length xs + (q - length xs) = omega arith in
-      ap (λ (i : ℕ). getD (xs ++ drop (length xs) l) i 0) e ∙ getD-append-add xs (drop (length xs) l) (q - length xs) 0 ∙ getD-drop (length xs) l (q - length xs) 0
+      ap (λ (i : ℕ). getD (xs ++ drop (length xs) l) i 0) e
+      ∙ getD-append-add xs (drop (length xs) l) (q - length xs) 0
+      ∙ getD-drop (length xs) l (q - length xs) 0
       ∙ ap (λ (i : ℕ). getD l i 0) (sym e)
 
 -- ---- the call
 
-pub record FoundFigures (bs before after : List ℕ) (f : Figures) : Type 0 where
+pub record FoundValues (bs before after : List ℕ) (f : AnalysisValues) : Type 0 where
   pub chart : Chart
   pub accepts : Accepts bs chart
   pub words-are : (q j : ℕ) → q < chart .locations → (member (getD after q 0) j ≡ true) ↔ Live chart q j
@@ -50,12 +52,13 @@ pub record FoundFigures (bs before after : List ℕ) (f : Figures) : Type 0 wher
   pub used-none : (f .used ≡ 0) ↔ ((q j : ℕ) → Live chart q j → ⊥)
 
 module _ (bs before : List ℕ) (bytes : Bytes bs) where
-  of-chart : (c : Chart) {f : Figures} → Accepts bs c → c .locations ≤ length before → f ≡ figuresOf c
-      → FoundFigures bs before (listAfter (analysedIn (length before) bs) before) f
-  unfolding analysedIn figuresOf
+  of-chart : (c : Chart) {f : AnalysisValues} → Accepts bs c → c .locations ≤ length before → f ≡ valuesOf c
+      → FoundValues bs before (listAfter (analysedIn (length before) bs) before) f
+  unfolding analysedIn valuesOf
   of-chart c a h e =
       let valid = reads-valid bs c bytes (a .reads) in
-      let front : (q : ℕ) → q < c .locations → getD (put (liveSets c) before) q 0 ≡ getD (liveSets c) q 0 = λ q h. in-front (liveSets c) before q (omega (arith, length-live c)) in
+      let front : (q : ℕ) → q < c .locations → getD (put (liveSets c) before) q 0 ≡ getD (liveSets c) q 0 =
+          λ q h. in-front (liveSets c) before q (omega (arith, length-live c)) in
       let x = floor-reached valid in
       rw (judged-result bs bytes c .1 a, long-enough c (length before) h, e) record {
         chart = c;
@@ -68,5 +71,8 @@ module _ (bs before : List ℕ) (bytes : Bytes bs) where
         used-none = used-none valid;
       }
 
-  pub found-figures : {f : Figures} → analyseAnswer (length before) bs ≡ result f → FoundFigures bs before (listAfter (analysedIn (length before) bs) before) f
-  found-figures {f} e = let a = analysis-result (length before) bs bytes f .0 e in of-chart (a .chart) (a .accepts) (a .room-for) (a .figures-are)
+  pub found-values : {f : AnalysisValues} → analyseAnswer (length before) bs ≡ result f
+      → FoundValues bs before (listAfter (analysedIn (length before) bs) before) f
+  found-values {f} e =
+      let a = analysis-result (length before) bs bytes f .0 e in
+      of-chart (a .chart) (a .accepts) (a .room-for) (a .values-are)
