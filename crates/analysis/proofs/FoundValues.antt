@@ -58,7 +58,7 @@ module _ (bs before : List ℕ) (bytes : Bytes bs) where
   of-chart c a h e =
       let valid = reads-valid bs c bytes (a .reads) in
       let front : (q : ℕ) → q < c .locations → getD (put (liveSets c) before) q 0 ≡ getD (liveSets c) q 0 =
-          λ q h. in-front (liveSets c) before q (omega (arith, length-live c)) in
+      λ q h. in-front (liveSets c) before q (omega (arith, length-live c)) in
       let x = floor-reached valid in
       rw (judged-result bs bytes c .1 a, long-enough c (length before) h, e) record {
         chart = c;

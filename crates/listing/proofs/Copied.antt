@@ -25,8 +25,8 @@ module _ {xs l out : List ℕ} {k : ℕ} (h : Copied xs l out k) where
     most = omega arith;
     long = length-set out k _ ∙ h .long;
     is =
-      rw (add-one, take-suc xs k 0)
-      (put-last (take k xs) l (getD xs k 0) (omega arith) (length-take-le k xs (h .most)) (h .is));
+        rw (add-one, take-suc xs k 0)
+        (put-last (take k xs) l (getD xs k 0) (omega arith) (length-take-le k xs (h .most)) (h .is));
   }
 
   pub copied-all : length xs ≤ k → out ≡ put xs l
