@@ -4,3 +4,5 @@ pub mod Begins
 pub mod Holds
 pub mod Lent
 pub mod Read
+pub mod Limits
+pub mod Partly

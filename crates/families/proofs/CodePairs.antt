@@ -1,4 +1,4 @@
--- The pairs and links that matching lists describe are well formed, and their links are those of the transitions. Assumes nothing.
+-- The pairs and links that safe lists describe are well formed, and their links are those of the transitions. Assumes nothing.
 use mathlib.Core.Path.{_≡_, refl, sym, ap, _∙_, subst}
 use mathlib.Core.Logic.{_⊎_, inl, inr}
 use mathlib.Core.Bool.{true}
@@ -12,7 +12,7 @@ use Rattle.lists.proofs.Elements.{gather-in, gather-out}
 use Rattle.timer_set.specs.Members.{member, common, minus}
 use Rattle.timer_set.proofs.Members.{member-empty, member-high, member-minus, member-common}
 use Rattle.model.specs.Family.{Link, Pairs, isPair, WellFormed, WellFormedLink}
-use Rattle.families.specs.Pairs.{linkAt, pairsOf, Matching}
+use Rattle.families.specs.Pairs.{linkAt, pairsOf, SafeTransitions}
 
 -- a timer of a link is live at both ends
 linked-both : (a b s j : ℕ) → member (minus (common a b) s) j ≡ true → (member a j ≡ true) × (member b j ≡ true)
@@ -20,7 +20,7 @@ linked-both a b s j h =
     let both = sym (member-common a b j) ∙ and-left (member (common a b) j) _ (sym (member-minus (common a b) s j) ∙ h) in
     (and-left (member a j) (member b j) both, and-right (member a j) (member b j) both)
 
-module _ {sources targets starts live : List ℕ} {timers : ℕ} (fit : Matching sources targets starts live timers) where
+module _ {sources targets starts live : List ℕ} {timers : ℕ} (fit : SafeTransitions sources targets starts live timers) where
   abbrev p : Pairs
   p = pairsOf sources targets starts live timers
 
@@ -33,7 +33,9 @@ module _ {sources targets starts live : List ℕ} {timers : ℕ} (fit : Matching
 
   pub link-out : (n : ℕ) (k : Link) → getElem? (p .links) n ≡ some k → (i : ℕ) × (i < length sources) × (link i ≡ k)
   unfolding pairsOf Rattle.lists.specs.Lists.upTo
-  link-out n k e = let x = gather-out (λ i. link i ∷ []) (length sources) n e in (x .number, x .below, one (x .number) (x .element .place) (x .element .is-nth))
+  link-out n k e =
+      let x = gather-out (λ i. link i ∷ []) (length sources) n e in
+      (x .number, x .below, one (x .number) (x .element .place) (x .element .is-nth))
     where
       one : (i m : ℕ) → getElem? (link i ∷ []) m ≡ some k → link i ≡ k
       one i zero e = Option·some-injective _ _ e

@@ -54,7 +54,8 @@ module _ (a b timers : ℕ) where
   lacked-none e j t = same-bool _ _ (λ m. and-right (member a j) (member b j) (both (inl m))) (λ m. and-left (member a j) (member b j) (both (inr m)))
     where
       gone : member either j ≡ true → not (member (common a b) j) ≡ false
-      gone m = sym (ap (λ (x : Bool). x && not (member (common a b) j)) m) ∙ sym (member-minus either (common a b) j) ∙ ap (λ (w : ℕ). member w j) e ∙ member-empty j
+      gone m = sym (ap (λ (x : Bool). x && not (member (common a b) j)) m) ∙ sym (member-minus either (common a b) j) ∙ ap (λ (w : ℕ). member w j) e
+          ∙ member-empty j
 
       both : (member a j ≡ true) ⊎ (member b j ≡ true) → (member a j && member b j) ≡ true
       both h = sym (member-common a b j) ∙ not-false (member (common a b) j) (gone (in-either j h t))
@@ -98,7 +99,8 @@ module _ (sets : List ℕ) (one other timers : ℕ) where
     at-one = go (ℕ-discrete one other)
       where
         go : Dec (one ≡ other) → getD (set (set sets one (joined a w)) other (joined b w)) one 0 ≡ joined a w
-        go (yes e) = ap (λ (n : ℕ). getD (set (set sets one (joined a w)) other (joined b w)) n 0) e ∙ at-other ∙ ap (λ (n : ℕ). joined (getD sets n 0) w) (sym e)
+        go (yes e) = ap (λ (n : ℕ). getD (set (set sets one (joined a w)) other (joined b w)) n 0) e ∙ at-other
+            ∙ ap (λ (n : ℕ). joined (getD sets n 0) w) (sym e)
         go (no ne) = getD-set-other (set sets one (joined a w)) other one (joined b w) 0 ne ∙ getD-set-same sets one (joined a w) 0 ha
 
     -- what holds at both ends, and of the rest, holds everywhere
@@ -128,6 +130,7 @@ module _ (sets : List ℕ) (one other timers : ℕ) where
         at : sets ≡ joinAlong sets one other timers → (x : ℕ) → getD (joinAlong sets one other timers) x 0 ≡ getD sets x 0
         at e x = ap (λ (l : List ℕ). getD l x 0) (sym e)
 
-        go : (sets ≡ joinAlong sets one other timers) ⊎ (sumOf sets < sumOf (joinAlong sets one other timers)) → sumOf sets < sumOf (joinAlong sets one other timers)
+        go : (sets ≡ joinAlong sets one other timers) ⊎ (sumOf sets < sumOf (joinAlong sets one other timers))
+            → sumOf sets < sumOf (joinAlong sets one other timers)
         go (inl e) = absurd (ne (adds-nothing a b timers (sym at-one ∙ at e one) (sym at-other ∙ at e other)))
         go (inr h) = h

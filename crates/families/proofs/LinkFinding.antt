@@ -9,7 +9,7 @@ use lib.ListN.{length, getD, set, take}
 use lib.Seq.{length-take-le, getD-take, getD-set-same, getD-set-other}
 use Rattle.timer_set.specs.Members.{common, minus}
 use Rattle.model.specs.Family.{Link}
-use Rattle.families.specs.Pairs.{linkAt, pairsOf, Matching}
+use Rattle.families.specs.Pairs.{linkAt, pairsOf, SafeTransitions}
 use Rattle.families.specs.Propagation.{linkOn, LinkLists, Ends}
 use Rattle.lists.specs.Elements.{Element}
 use Rattle.families.proofs.CodePairs.{link-in, link-out}
@@ -61,14 +61,16 @@ module _ {link on : ℕ → Link} {i count : ℕ} (x : Found link on i count) wh
 
 -- ---- links on lists
 
-module _ (sources targets starts live ones others linked : List ℕ) {i count : ℕ} (x : Found (linkAt sources targets starts live) (linkOn ones others linked) i count) (t : ℕ)
+module _ (sources targets starts live ones others linked : List ℕ) {i count : ℕ}
+    (x : Found (linkAt sources targets starts live) (linkOn ones others linked) i count) (t : ℕ)
     (its : t ≡ minus (common (getD live (getD sources i 0) 0) (getD live (getD targets i 0) 0)) (getD starts i 0)) where
   pub lists-skip : t ≡ 0 → Found (linkAt sources targets starts live) (linkOn ones others linked) (i + 1) count
   unfolding linkAt
   lists-skip e = found-skip x (sym its ∙ e)
 
   pub lists-more : count < length ones → count < length others → count < length linked
-      → Found (linkAt sources targets starts live) (linkOn (set ones count (getD sources i 0)) (set others count (getD targets i 0)) (set linked count t)) (i + 1) (count + 1)
+      → Found (linkAt sources targets starts live)
+      (linkOn (set ones count (getD sources i 0)) (set others count (getD targets i 0)) (set linked count t)) (i + 1) (count + 1)
   unfolding linkOn linkAt
   lists-more ha hb hc = found-more x _ (λ k h. let ne : k ≡ count → ⊥ = λ e. omega arith in λ n. record {
     one = getD-set-other ones count k (getD sources i 0) 0 ne n;
@@ -82,7 +84,8 @@ module _ (sources targets starts live ones others linked : List ℕ) {i count : 
 
 -- ---- the fronts of the lists
 
-module _ {sources targets starts live : List ℕ} {timers : ℕ} (fit : Matching sources targets starts live timers) {i count : ℕ} (ones others linked : List ℕ)
+module _ {sources targets starts live : List ℕ} {timers : ℕ} (fit : SafeTransitions sources targets starts live timers) {i count : ℕ}
+    (ones others linked : List ℕ)
     (end : i ≡ length sources) (x : Found (linkAt sources targets starts live) (linkOn ones others linked) i count)
     (ha : count ≤ length ones) (hb : count ≤ length others) (hc : count ≤ length linked) where
   abbrev front : ℕ → Link
@@ -102,7 +105,9 @@ module _ {sources targets starts live : List ℕ} {timers : ℕ} (fit : Matching
   found-links = record {
     others-long = length-take-le count others hb ∙ sym long;
     linked-long = length-take-le count linked hc ∙ sym long;
-    each = λ k h. let y = at k h in subst (λ (l : Link). Element (pairsOf sources targets starts live timers .links) l) (sym (y .2)) (link-in fit (y .0) (y .1));
+    each = λ k h.
+        let y = at k h in
+        subst (λ (l : Link). Element (pairsOf sources targets starts live timers .links) l) (sym (y .2)) (link-in fit (y .0) (y .1));
     all = λ n l e. let y = link-out fit n l e in subst (Stored front (length (take count ones))) (y .2)
         (stored-more (linkOn ones others linked) front count _ _ (omega (arith, long)) same (x .all (y .0) (omega (arith, y .1, end))));
   }

@@ -10,7 +10,7 @@ use Rattle.lists.specs.Lists.{sumOf}
 use Rattle.lists.proofs.Sums.{sum-small}
 use Rattle.timer_set.specs.Members.{joined}
 use Rattle.timer_set.proofs.Members.{joined-lt, common-lt}
-use Rattle.families.specs.Propagation.{Ends, Agree, JoinedEnds, Joins, Swept}
+use Rattle.families.specs.Propagation.{Ends, EndsAgree, JoinedEnds, Joins, Swept}
 use Rattle.families.specs.Propagation.Joins.{none, more}
 use Rattle.families.proofs.Growth.{either, join-long, join-all}
 
@@ -21,7 +21,8 @@ module _ (ones others linked : List ℕ) where
   pub swept-none : (sets : List ℕ) → Swept ones others linked 0 sets sets false
   swept-none sets = record { joins = none; same = λ _. (refl, λ k h. absurd (omega arith)); grows = λ t. absurd (true≢false (sym t)) }
 
-  pub swept-end : {k n : ℕ} {start sets : List ℕ} {grew : Bool} → k ≡ n → Swept ones others linked k start sets grew → Swept ones others linked n start sets grew
+  pub swept-end : {k n : ℕ} {start sets : List ℕ} {grew : Bool} → k ≡ n → Swept ones others linked k start sets grew
+      → Swept ones others linked n start sets grew
   swept-end {start = start} {sets = sets} {grew = grew} e x = subst (λ (k : ℕ). Swept ones others linked k start sets grew) e x
 
   module _ {k : ℕ} (below : k < length ones) {start sets after : List ℕ} {grew r : Bool} (x : Swept ones others linked k start sets grew)
@@ -44,8 +45,8 @@ module _ (ones others linked : List ℕ) where
       grows = λ t. rw (s .0) (x .grows t);
     }
       where
-        go : (i : ℕ) → i < k + 1 → Dec (i ≡ k) → ((i : ℕ) → i < k → Agree sets (getD ones i 0) (getD others i 0) (getD linked i 0))
-            → Agree sets (getD ones k 0) (getD others k 0) (getD linked k 0) → Agree sets (getD ones i 0) (getD others i 0) (getD linked i 0)
+        go : (i : ℕ) → i < k + 1 → Dec (i ≡ k) → ((i : ℕ) → i < k → EndsAgree sets (getD ones i 0) (getD others i 0) (getD linked i 0))
+            → EndsAgree sets (getD ones k 0) (getD others k 0) (getD linked k 0) → EndsAgree sets (getD ones i 0) (getD others i 0) (getD linked i 0)
         go i h (yes p) before here = rw p here
         go i h (no n) before here = before i (omega arith)
 
@@ -57,15 +58,18 @@ module _ (ones others linked : List ℕ) where
 
   -- each link hands on what holds of the sets at its two ends
   pub record Steps (P : ℕ → ℕ → Type 0) : Type 0 where
-    pub at-one : (k : ℕ) → k < length ones → (a b : ℕ) → P (getD ones k 0) a → P (getD others k 0) b → P (getD ones k 0) (joined a (either a b (getD linked k 0)))
-    pub at-other : (k : ℕ) → k < length ones → (a b : ℕ) → P (getD ones k 0) a → P (getD others k 0) b → P (getD others k 0) (joined b (either a b (getD linked k 0)))
+    pub at-one : (k : ℕ) → k < length ones → (a b : ℕ) → P (getD ones k 0) a → P (getD others k 0) b
+        → P (getD ones k 0) (joined a (either a b (getD linked k 0)))
+    pub at-other : (k : ℕ) → k < length ones → (a b : ℕ) → P (getD ones k 0) a → P (getD others k 0) b
+        → P (getD others k 0) (joined b (either a b (getD linked k 0)))
 
   module _ {l : List ℕ} (ends : Ends (length l) ones others linked) where
     pub joins-long : {m : List ℕ} → Joins ones others linked l m → length m ≡ length l
     joins-long none = refl
     joins-long (more {m} k h x) = join-long m (getD ones k 0) (getD others k 0) (getD linked k 0) ∙ joins-long x
 
-    pub joins-all : (P : ℕ → ℕ → Type 0) → Steps P → {m : List ℕ} → Joins ones others linked l m → ((x : ℕ) → P x (getD l x 0)) → (x : ℕ) → P x (getD m x 0)
+    pub joins-all : (P : ℕ → ℕ → Type 0) → Steps P → {m : List ℕ} → Joins ones others linked l m → ((x : ℕ) → P x (getD l x 0)) → (x : ℕ)
+        → P x (getD m x 0)
     joins-all P steps none all = all
     joins-all P steps (more {m} k h y) all =
         let before = joins-all P steps y all in

@@ -6,6 +6,7 @@ use lib.ListN.{length, getD}
 use Rattle.lists.specs.Lists.{upTo}
 use Rattle.timer_set.specs.Members.{common, minus}
 use Rattle.model.specs.Family.{Link, Pairs}
+use Rattle.chart_lists.specs.Limits.{mostLocations, mostTimers, mostTransitions}
 
 -- of each transition its source, its target and the set that it starts; of each location its live set
 unfoldable pub linkAt : (sources targets starts live : List ℕ) → ℕ → Link
@@ -24,12 +25,12 @@ pairsOf sources targets starts live timers = record {
 }
 
 -- what the code asks for its safety, and that no set has a timer at or above the number of timers
-pub record Matching (sources targets starts live : List ℕ) (timers : ℕ) : Type 0 where
+pub record SafeTransitions (sources targets starts live : List ℕ) (timers : ℕ) : Type 0 where
   pub few-targets : length targets ≡ length sources
   pub few-starts : length starts ≡ length sources
-  pub few-transitions : length sources ≤ 512
-  pub few-locations : length live ≤ 256
-  pub few-timers : timers ≤ 64
+  pub few-transitions : length sources ≤ mostTransitions
+  pub few-locations : length live ≤ mostLocations
+  pub few-timers : timers ≤ mostTimers
   pub source-below : (i : ℕ) → i < length sources → getD sources i 0 < length live
   pub target-below : (i : ℕ) → i < length sources → getD targets i 0 < length live
   pub live-below : (q : ℕ) → getD live q 0 < 2 ^ timers

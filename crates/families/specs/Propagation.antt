@@ -10,6 +10,7 @@ use Rattle.lists.specs.Lists.{sumOf}
 use Rattle.timer_set.specs.Members.{member, joined, common}
 use Rattle.model.specs.Family.{Link, Pairs, Joined}
 use Rattle.lists.specs.Elements.{Element}
+use Rattle.chart_lists.specs.Limits.{mostLocations}
 
 -- the link at place k of the lists
 unfoldable pub linkOn : (ones others linked : List ℕ) → ℕ → Link
@@ -26,14 +27,14 @@ pub record LinkLists (p : Pairs) (ones others linked : List ℕ) : Type 0 where
 pub record Ends (locations : ℕ) (ones others linked : List ℕ) : Type 0 where
   pub others-long : length others ≡ length ones
   pub linked-long : length linked ≡ length ones
-  pub few-locations : locations ≤ 256
+  pub few-locations : locations ≤ mostLocations
   pub one-below : (k : ℕ) → k < length ones → getD ones k 0 < locations
   pub other-below : (k : ℕ) → k < length ones → getD others k 0 < locations
 
 -- at each location stand those timers of the set whose family from (q, j) on has the location
-pub record Propagated (p : Pairs) (q begun : ℕ) (sets : List ℕ) : Type 0 where
-  pub has : (s j : ℕ) → member begun j ≡ true → Joined p j q s → member (getD sets s 0) j ≡ true
-  pub from : (s j : ℕ) → member (getD sets s 0) j ≡ true → (member begun j ≡ true) × Joined p j q s
+pub record Propagated (p : Pairs) (q roots : ℕ) (sets : List ℕ) : Type 0 where
+  pub has : (s j : ℕ) → member roots j ≡ true → Joined p j q s → member (getD sets s 0) j ≡ true
+  pub from : (s j : ℕ) → member (getD sets s 0) j ≡ true → (member roots j ≡ true) × Joined p j q s
 
 -- ---- how they are found: each link gives both its ends the timers of the link that either has, until no set grows
 
@@ -43,12 +44,12 @@ joinAlong sets one other timers =
     set (set sets one (joined (getD sets one 0) either)) other (joined (getD sets other 0) either)
 
 -- the sets at both ends have the same timers of the link
-pub record Agree (sets : List ℕ) (one other timers : ℕ) : Type 0 where
+pub record EndsAgree (sets : List ℕ) (one other timers : ℕ) : Type 0 where
   pub at : (j : ℕ) → member timers j ≡ true → member (getD sets one 0) j ≡ member (getD sets other 0) j
 
 -- r says whether an end lacked one of the link's timers that the other had, and now both have it
 pub record JoinedEnds (before : List ℕ) (one other timers : ℕ) (after : List ℕ) (r : Bool) : Type 0 where
-  pub same : r ≡ false → (after ≡ before) × Agree before one other timers
+  pub same : r ≡ false → (after ≡ before) × EndsAgree before one other timers
   pub grew : r ≡ true → (after ≡ joinAlong before one other timers) × (sumOf before < sumOf after)
 
 -- m comes from l by joins along links of the lists
@@ -60,5 +61,5 @@ pub data Joins (ones others linked l : List ℕ) : List ℕ → Type 0 where
 -- the sets after joins along the first n links: grew says whether one grew, and if not, each of these links agrees
 pub record Swept (ones others linked : List ℕ) (n : ℕ) (before after : List ℕ) (grew : Bool) : Type 0 where
   pub joins : Joins ones others linked before after
-  pub same : grew ≡ false → (after ≡ before) × ((k : ℕ) → k < n → Agree after (getD ones k 0) (getD others k 0) (getD linked k 0))
+  pub same : grew ≡ false → (after ≡ before) × ((k : ℕ) → k < n → EndsAgree after (getD ones k 0) (getD others k 0) (getD linked k 0))
   pub grows : grew ≡ true → sumOf before < sumOf after

@@ -4,7 +4,7 @@ ghost use Prim.Native.Nat.{ℕ, _≤_, _<_};
 ghost use lib.ListN.{length, getD, take, set};
 ghost use Rattle.timer_set.specs.Members.{common, minus};
 ghost use Rattle.model.specs.Family.{Pairs, WellFormed};
-ghost use Rattle.families.specs.Pairs.{pairsOf, Matching};
+ghost use Rattle.families.specs.Pairs.{pairsOf, SafeTransitions};
 ghost use Rattle.families.specs.Propagation.{LinkLists, Ends, JoinedEnds, Swept, Propagated};
 use timer_set::TimerSet;
 
@@ -50,10 +50,13 @@ pub fn find_links<'a>(
     others: &mut [u16],
     linked: &mut [u64],
 ) -> usize
-    requires { ⌜ Matching (now sources) (now targets) (now starts) (now live) timers × (length (now sources) ≤ length (now ones)) × (length (now sources) ≤ length (now others)) × (length (now sources) ≤ length (now linked)) ⌝ }
+    requires { ⌜ SafeTransitions (now sources) (now targets) (now starts) (now live) timers × (length (now sources) ≤ length (now ones))
+        × (length (now sources) ≤ length (now others)) × (length (now sources) ≤ length (now linked)) ⌝ }
     ensures few { λ r. ⌜ r ≤ length (now (sources .entry)) ⌝ }
-    ensures links { λ r. ⌜ LinkLists (pairsOf (now (sources .entry)) (now (targets .entry)) (now (starts .entry)) (now (live .entry)) timers) (take r (now (ones .exit))) (take r (now (others .exit))) (take r (now (linked .exit))) ⌝ }
-    ensures ends { λ r. ⌜ Ends (length (now (live .entry))) (take r (now (ones .exit))) (take r (now (others .exit))) (take r (now (linked .exit))) ⌝ }
+    ensures links { λ r. ⌜ LinkLists (pairsOf (now (sources .entry)) (now (targets .entry)) (now (starts .entry)) (now (live .entry)) timers)
+        (take r (now (ones .exit))) (take r (now (others .exit))) (take r (now (linked .exit))) ⌝ }
+    ensures ends { λ r. ⌜ Ends (length (now (live .entry)))
+        (take r (now (ones .exit))) (take r (now (others .exit))) (take r (now (linked .exit))) ⌝ }
 {
     let n = sources.len();
     let mut count: usize = 0;
@@ -91,7 +94,8 @@ fn join_ends(sets: &mut [u64], one: usize, other: usize, linked: u64) -> bool
 // One sweep over all links. Whether a set grew.
 fn sweep<'a>(ones: &'a [u16], others: &'a [u16], linked: &'a [u64], sets: &mut [u64]) -> bool
     requires { ⌜ Ends (length (now sets)) (now ones) (now others) (now linked) ⌝ }
-    ensures { λ r. ⌜ Swept (now (ones .entry)) (now (others .entry)) (now (linked .entry)) (length (now (ones .entry))) (now (sets .entry)) (now (sets .exit)) r ⌝ }
+    ensures { λ r. ⌜ Swept (now (ones .entry)) (now (others .entry)) (now (linked .entry)) (length (now (ones .entry)))
+        (now (sets .entry)) (now (sets .exit)) r ⌝ }
 {
     let n = ones.len();
     let mut grew = false;
@@ -126,13 +130,14 @@ pub fn propagate<'a>(
     others: &'a [u16],
     linked: &'a [u64],
     q: usize,
-    begun: TimerSet,
+    roots: TimerSet,
     sets: &mut [u64],
 )
     requires { ⌜ Ends (length (now sets)) (now ones) (now others) (now linked) × (q < length (now sets)) ⌝ }
-    ensures { λ _. ⌜ ((p : Pairs) → WellFormed p → p .locations ≡ length (now (sets .entry)) → LinkLists p (now (ones .entry)) (now (others .entry)) (now (linked .entry)) → Propagated p q (begun .bits) (now (sets .exit))) ⌝ }
+    ensures { λ _. ⌜ ((p : Pairs) → WellFormed p → p .locations ≡ length (now (sets .entry))
+        → LinkLists p (now (ones .entry)) (now (others .entry)) (now (linked .entry)) → Propagated p q (roots .bits) (now (sets .exit))) ⌝ }
 {
     clear(sets);
-    sets[q] = begun.bits;
+    sets[q] = roots.bits;
     while sweep(ones, others, linked, sets) {}
 }

@@ -15,11 +15,12 @@ use Rattle.model.specs.Flow.{Edge, brings, round}
 use Rattle.model.proofs.Edges.{roundTo, roundTo-start, roundTo-step, roundTo-end}
 use Rattle.model.proofs.Rounds.{Words}
 use Rattle.model.proofs.Settled.{Changes, few-changes}
-use Rattle.flow.specs.Edges.{edgeAt, flowOf, Matching}
+use Rattle.flow.specs.Edges.{edgeAt, flowOf, SafeEdges}
 
 module _ {A : Type 0} where
   upTo-getD : (l : List A) (d : A) → upTo (λ i. getD l i d) (length l) ≡ l
-  upTo-getD l d = ext-getD d _ l (length-upTo _ (length l)) (λ i h. getD-upTo _ (length l) i d (omega (arith, length-upTo (λ i. getD l i d) (length l))))
+  upTo-getD l d =
+      ext-getD d _ l (length-upTo _ (length l)) (λ i h. getD-upTo _ (length l) i d (omega (arith, length-upTo (λ i. getD l i d) (length l))))
 
   nth-upTo : (f : ℕ → A) (n i : ℕ) → i < n → getElem? (upTo f n) i ≡ some (f i)
   nth-upTo f n i h = let x = nth-below (upTo f n) i (omega (arith, length-upTo f n)) in
@@ -48,15 +49,17 @@ module _ (into from cut gain own : List ℕ) where
 
     pub round-end : (i : ℕ) (after : List ℕ) → i ≡ length into → after ≡ roundTo (flowOf into from cut gain own) before i
         → after ≡ round (flowOf into from cut gain own) before
-    round-end i after l e = e ∙ ap (roundTo (flowOf into from cut gain own) before) (l ∙ sym length-edges) ∙ roundTo-end (flowOf into from cut gain own) before
+    round-end i after l e = e ∙ ap (roundTo (flowOf into from cut gain own) before) (l ∙ sym length-edges)
+        ∙ roundTo-end (flowOf into from cut gain own) before
 
-  pub edge-of : (i : ℕ) {e : Edge} → getElem? (flowOf into from cut gain own .edges) i ≡ some e → (i < length into) × (e ≡ edgeAt into from cut gain i)
+  pub edge-of : (i : ℕ) {e : Edge} → getElem? (flowOf into from cut gain own .edges) i ≡ some e
+      → (i < length into) × (e ≡ edgeAt into from cut gain i)
   edge-of i n =
       let below : i < length into = omega (arith, below-nth (flowOf into from cut gain own .edges) i n, length-edges) in
       (below, Option·some-injective _ _ (sym n ∙ nth-edge i below))
 
-  -- where the lists match and hold words of 64 the laws of rounds hold
-  pub shaped-lists : Matching into from cut gain own → Words gain → Words own → Shaped (flowOf into from cut gain own)
+  -- where the lists are safe and hold words of 64 the laws of rounds hold
+  pub shaped-lists : SafeEdges into from cut gain own → Words gain → Words own → Shaped (flowOf into from cut gain own)
   unfolding flowOf edgeAt
   shaped-lists m g o = record {
     into-below = λ i {e} n. let x = edge-of i n in rw (x .1) (m .into-below i (x .0));

@@ -17,7 +17,7 @@ use Rattle.timer_set.specs.Members.{joined, minus}
 use Rattle.timer_set.proofs.Members.{joined-more}
 use Rattle.model.specs.Flow.{Edge, brings, sameSets}
 use Rattle.model.proofs.Settled.{same-sets-self, same-sets-equal}
-use Rattle.flow.specs.Edges.{edgeAt, Matching}
+use Rattle.flow.specs.Edges.{edgeAt, SafeEdges}
 use Rattle.flow.specs.Sweeps.{passAlong, sweptTo}
 
 -- ---- sums
@@ -66,7 +66,8 @@ module _ (edge : ℕ → Edge) (l : List ℕ) where
   swept-cases : (n : ℕ) → Inside n → ((sweptTo edge l n ≡ l) × Still n) ⊎ (sumOf l < sumOf (sweptTo edge l n))
   unfolding sweptTo
   swept-cases zero h = inl (refl, below-none _)
-  swept-cases (suc n) h = go (swept-cases n (λ k b. h k (omega arith))) (pass-cases (sweptTo edge l n) (edge n) (omega (arith, h n (omega arith), swept-long n)))
+  swept-cases (suc n) h =
+      go (swept-cases n (λ k b. h k (omega arith))) (pass-cases (sweptTo edge l n) (edge n) (omega (arith, h n (omega arith), swept-long n)))
     where
       go : ((sweptTo edge l n ≡ l) × Still n) ⊎ (sumOf l < sumOf (sweptTo edge l n))
           → (passAlong (sweptTo edge l n) (edge n) ≡ sweptTo edge l n) ⊎ (sumOf (sweptTo edge l n) < sumOf (passAlong (sweptTo edge l n) (edge n)))
@@ -113,7 +114,8 @@ pub sweep-none : (into from cut gain start : List ℕ) → Sweep into from cut g
 unfolding sweptTo
 sweep-none into from cut gain start = record { made = refl; grew-is = ap not (sym (same-sets-self start)) }
 
-module _ (into from cut gain : List ℕ) {start : List ℕ} (m : Matching into from cut gain start) {i : ℕ} (below : i < length into) {sets : List ℕ} {grew : Bool}
+module _ (into from cut gain : List ℕ) {start : List ℕ} (m : SafeEdges into from cut gain start) {i : ℕ} (below : i < length into) {sets : List ℕ}
+    {grew : Bool}
     (x : Sweep into from cut gain start i sets grew) (w : ℕ)
     (w-is : w ≡ joined (getD sets (getD into i 0) 0) (joined (getD gain i 0) (minus (getD sets (getD from i 0) 0) (getD cut i 0)))) where
   next-is : set sets (getD into i 0) w ≡ sweptTo (edgeAt into from cut gain) start (suc i)
@@ -128,4 +130,6 @@ module _ (into from cut gain : List ℕ) {start : List ℕ} (m : Matching into f
   sweep-grew ne = record { made = rw add-one next-is; grew-is = sym (ap not (ap (sameSets start) next-is ∙ different)) }
     where
       different : sameSets start (sweptTo (edgeAt into from cut gain) start (suc i)) ≡ false
-      different = swept-differ (edgeAt into from cut gain) start i (λ k h. m .into-below k (omega arith)) (m .into-below i below) (λ e. ne (w-is ∙ rw (x .made) e))
+      different =
+          swept-differ (edgeAt into from cut gain) start i (λ k h. m .into-below k (omega arith)) (m .into-below i below)
+          (λ e. ne (w-is ∙ rw (x .made) e))

@@ -20,7 +20,7 @@ use Rattle.model.specs.Flow.{Edge, Flow, brings, sameSets, settled}
 use Rattle.model.specs.Comes.Comes.{owned, gained, along}
 use Rattle.model.proofs.Rounds.{Words}
 use Rattle.model.proofs.Settled.{length-settled, settled-words, settled-iff}
-use Rattle.flow.specs.Edges.{edgeAt, flowOf, Matching}
+use Rattle.flow.specs.Edges.{edgeAt, flowOf, SafeEdges}
 use Rattle.flow.specs.Sweeps.{passAlong, sweptTo}
 use Rattle.flow.proofs.EdgeLists.{nth-edge, edge-of}
 use Rattle.flow.proofs.Growth.{passed, pass-long, swept-still, swept-grows}
@@ -53,7 +53,8 @@ module _ {f : Flow} (shaped : Shaped f) {l : List ℕ} (b : Between f l) where
         brought (inl g) = gained here g
         brought (inr x) = along here (not-true _ (and-right (member (getD l (e .from) 0) j) _ x)) (b .comes (e .from) j (and-left _ _ x))
 
-        go : (member (getD l (e .into) 0) j ≡ true) ⊎ ((member (e .gain) j || (member (getD l (e .from) 0) j && not (member (e .cut) j))) ≡ true) → Comes f j (e .into)
+        go : (member (getD l (e .into) 0) j ≡ true) ⊎ ((member (e .gain) j || (member (getD l (e .from) 0) j && not (member (e .cut) j))) ≡ true)
+            → Comes f j (e .into)
         go (inl h) = b .comes (e .into) j h
         go (inr h) = brought (or-cases (member (e .gain) j) h)
 
@@ -76,7 +77,8 @@ module _ {f : Flow} (shaped : Shaped f) {l : List ℕ} (b : Between f l) where
     between-pass = record {
       long = pass-long l e ∙ b .long;
       words = pass-all (λ q w. w < 2 ^ 64) passed-word (b .words);
-      owns = λ q j. pass-all (λ q w. member (f .own q) j ≡ true → member w j ≡ true) (λ o. member-passed l e j ∙ or-left _ (b .owns (e .into) j o)) (λ q. b .owns q j) q;
+      owns = λ q j. pass-all (λ q w. member (f .own q) j ≡ true → member w j ≡ true)
+          (λ o. member-passed l e j ∙ or-left _ (b .owns (e .into) j o)) (λ q. b .owns q j) q;
       comes = λ q j. pass-all (λ q w. member w j ≡ true → Comes f j q) (passed-comes j) (λ q. b .comes q j) q;
     }
 
@@ -86,7 +88,8 @@ module _ {f : Flow} (shaped : Shaped f) {l : List ℕ} (b : Between f l) where
         → member (getD l q 0) j ≡ true
     unfolding passAlong
     closed {q} {e} j x h =
-        ap (λ (s : ℕ). member (getD l s 0) j) (sym (x .leads)) ∙ ap (λ (m : List ℕ). member (getD m (e .into) 0) j) (sym (still (x .number) e (x .is-nth)))
+        ap (λ (s : ℕ). member (getD l s 0) j) (sym (x .leads))
+        ∙ ap (λ (m : List ℕ). member (getD m (e .into) 0) j) (sym (still (x .number) e (x .is-nth)))
         ∙ ap (λ (w : ℕ). member w j) (getD-set-same l (e .into) (passed l e) 0 (inside (x .number) (x .is-nth))) ∙ member-passed l e j
         ∙ or-right (member (getD l (e .into) 0) j) h
 
@@ -109,8 +112,8 @@ module _ (into from cut gain own : List ℕ) where
   between-own w = record { long = refl; words = w; owns = λ q j o. o; comes = λ q j m. owned m }
 
   -- the code asks of the own sets only how many they are
-  pub matching-long : Matching into from cut gain own → {sets : List ℕ} → length sets ≡ length own → Matching into from cut gain sets
-  matching-long m e = record {
+  pub safe-long : SafeEdges into from cut gain own → {sets : List ℕ} → length sets ≡ length own → SafeEdges into from cut gain sets
+  safe-long m e = record {
     froms = m .froms;
     cuts = m .cuts;
     gains = m .gains;
@@ -136,13 +139,14 @@ module _ (into from cut gain own : List ℕ) where
       pub sweep-between : Between (flowOf into from cut gain own) after
       sweep-between = rw made (between-swept (length into) (le-refl _))
 
-      module _ (m : Matching into from cut gain own) {grew : Bool} (grew-is : grew ≡ not (sameSets l after)) where
+      module _ (m : SafeEdges into from cut gain own) {grew : Bool} (grew-is : grew ≡ not (sameSets l after)) where
         targets : (k : ℕ) → k < length into → getD into k 0 < length l
         targets k h = omega (arith, m .into-below k h, between-long b)
 
         pub sweep-grows : grew ≡ true → sumOf l < sumOf after
         unfolding edgeAt
-        sweep-grows g = rw made (swept-grows (edgeAt into from cut gain) l (length into) targets (rw made at (not-true (sameSets l after) (sym grew-is ∙ g))))
+        sweep-grows g =
+            rw made (swept-grows (edgeAt into from cut gain) l (length into) targets (rw made at (not-true (sameSets l after) (sym grew-is ∙ g))))
 
         -- a sweep that changes nothing leaves what the rounds leave
         pub sweep-settled : grew ≡ false → after ≡ settled (flowOf into from cut gain own)

@@ -5,7 +5,7 @@ ghost use mathlib.Core.Bool.{not};
 ghost use lib.ListN.{length, replicate};
 ghost use Rattle.timer_set.specs.Members.{joined, minus};
 ghost use Rattle.model.specs.Flow.{round as Flow·round, sameSets, settled, rounds};
-ghost use Rattle.flow.specs.Edges.{edgeAt, flowOf, Matching};
+ghost use Rattle.flow.specs.Edges.{edgeAt, flowLent, SafeEdges};
 ghost use Rattle.flow.specs.Sweeps.{sweptTo};
 use timer_set::TimerSet;
 
@@ -55,9 +55,9 @@ fn round<'a>(
     before: &'a [u64],
     after: &mut [u64],
 )
-    requires { ⌜ Matching (now into) (now from) (now cut) (now gain) (now own) ⌝ }
+    requires { ⌜ SafeEdges (now into) (now from) (now cut) (now gain) (now own) ⌝ }
     requires { ⌜ (length (now before) ≡ length (now own)) × (length (now after) ≡ length (now own)) ⌝ }
-    ensures { λ _. ⌜ now (after .exit) ≡ Flow·round (flowOf (now (into .entry)) (now (from .entry)) (now (cut .entry)) (now (gain .entry)) (now (own .entry))) (now (before .entry)) ⌝ }
+    ensures { λ _. ⌜ now (after .exit) ≡ Flow·round (flowLent into from cut gain own) (now (before .entry)) ⌝ }
 {
     copy(own, after);
     let n = into.len();
@@ -80,9 +80,9 @@ fn step<'a>(
     before: &'a [u64],
     after: &mut [u64],
 ) -> bool
-    requires { ⌜ Matching (now into) (now from) (now cut) (now gain) (now own) ⌝ }
+    requires { ⌜ SafeEdges (now into) (now from) (now cut) (now gain) (now own) ⌝ }
     requires { ⌜ (length (now before) ≡ length (now own)) × (length (now after) ≡ length (now own)) ⌝ }
-    ensures after { λ _. ⌜ now (after .exit) ≡ Flow·round (flowOf (now (into .entry)) (now (from .entry)) (now (cut .entry)) (now (gain .entry)) (now (own .entry))) (now (before .entry)) ⌝ }
+    ensures after { λ _. ⌜ now (after .exit) ≡ Flow·round (flowLent into from cut gain own) (now (before .entry)) ⌝ }
     ensures same { λ r. ⌜ r ≡ sameSets (now (before .entry)) (now (after .exit)) ⌝ }
 {
     round(into, from, cut, gain, own, before, after);
@@ -99,10 +99,10 @@ fn alternate<'a>(
     sets: &mut [u64],
     next: &mut [u64],
 ) -> u32
-    requires { ⌜ Matching (now into) (now from) (now cut) (now gain) (now own) ⌝ }
+    requires { ⌜ SafeEdges (now into) (now from) (now cut) (now gain) (now own) ⌝ }
     requires { ⌜ (now sets ≡ replicate (length (now own)) 0) × (length (now next) ≡ length (now own)) ⌝ }
-    ensures sets { λ _. ⌜ now (sets .exit) ≡ settled (flowOf (now (into .entry)) (now (from .entry)) (now (cut .entry)) (now (gain .entry)) (now (own .entry))) ⌝ }
-    ensures count { λ r. ⌜ r ≡ rounds (flowOf (now (into .entry)) (now (from .entry)) (now (cut .entry)) (now (gain .entry)) (now (own .entry))) ⌝ }
+    ensures sets { λ _. ⌜ now (sets .exit) ≡ settled (flowLent into from cut gain own) ⌝ }
+    ensures count { λ r. ⌜ r ≡ rounds (flowLent into from cut gain own) ⌝ }
 {
     let mut count: u32 = 0;
     loop {
@@ -125,13 +125,13 @@ pub fn settle<'a>(
     own: &'a [u64],
     sets: &mut [u64],
 ) -> u32
-    requires { ⌜ Matching (now into) (now from) (now cut) (now gain) (now own) ⌝ }
+    requires { ⌜ SafeEdges (now into) (now from) (now cut) (now gain) (now own) ⌝ }
     requires { ⌜ length (now sets) ≡ length (now own) ⌝ }
-    ensures sets { λ _. ⌜ now (sets .exit) ≡ settled (flowOf (now (into .entry)) (now (from .entry)) (now (cut .entry)) (now (gain .entry)) (now (own .entry))) ⌝ }
-    ensures count { λ r. ⌜ r ≡ rounds (flowOf (now (into .entry)) (now (from .entry)) (now (cut .entry)) (now (gain .entry)) (now (own .entry))) ⌝ }
+    ensures sets { λ _. ⌜ now (sets .exit) ≡ settled (flowLent into from cut gain own) ⌝ }
+    ensures count { λ r. ⌜ r ≡ rounds (flowLent into from cut gain own) ⌝ }
 {
     let n = own.len();
-    let mut next = [0u64; 256];
+    let mut next = [0u64; chart_lists::MOST_LOCATIONS];
     copy(&next[..n], sets);
     alternate(into, from, cut, gain, own, sets, &mut next[..n])
 }
@@ -144,8 +144,9 @@ fn sweep<'a>(
     gain: &'a [u64],
     sets: &mut [u64],
 ) -> bool
-    requires { ⌜ Matching (now into) (now from) (now cut) (now gain) (now sets) ⌝ }
-    ensures sets { λ _. ⌜ now (sets .exit) ≡ sweptTo (edgeAt (now (into .entry)) (now (from .entry)) (now (cut .entry)) (now (gain .entry))) (now (sets .entry)) (length (now (into .entry))) ⌝ }
+    requires { ⌜ SafeEdges (now into) (now from) (now cut) (now gain) (now sets) ⌝ }
+    ensures sets { λ _. ⌜ now (sets .exit) ≡ sweptTo (edgeAt (now (into .entry)) (now (from .entry)) (now (cut .entry)) (now (gain .entry)))
+        (now (sets .entry)) (length (now (into .entry))) ⌝ }
     ensures grew { λ r. ⌜ r ≡ not (sameSets (now (sets .entry)) (now (sets .exit))) ⌝ }
 {
     let n = into.len();
@@ -175,9 +176,9 @@ pub fn settle_in_place<'a>(
     own: &'a [u64],
     sets: &mut [u64],
 )
-    requires { ⌜ Matching (now into) (now from) (now cut) (now gain) (now own) ⌝ }
+    requires { ⌜ SafeEdges (now into) (now from) (now cut) (now gain) (now own) ⌝ }
     requires { ⌜ length (now sets) ≡ length (now own) ⌝ }
-    ensures { λ _. ⌜ now (sets .exit) ≡ settled (flowOf (now (into .entry)) (now (from .entry)) (now (cut .entry)) (now (gain .entry)) (now (own .entry))) ⌝ }
+    ensures { λ _. ⌜ now (sets .exit) ≡ settled (flowLent into from cut gain own) ⌝ }
 {
     copy(own, sets);
     while sweep(into, from, cut, gain, sets) {}

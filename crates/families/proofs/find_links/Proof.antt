@@ -5,6 +5,7 @@ use mathlib.Core.List.{List}
 use Prim.Native.Nat.{ℕ, _-_, _≤_, _<_}
 use native.Mathlib.Omega.{arith}
 use lib.ListN.{length, getD}
+use Rattle.chart_lists.specs.Limits.{mostLocations}
 use Rattle.families.specs.Pairs.{linkAt}
 use Rattle.families.specs.Propagation.{linkOn}
 use Rattle.families.proofs.LinkFinding.{Found, found-none, lists-skip, lists-more, found-links, found-ends}
@@ -26,10 +27,12 @@ start l = l .before .before .before .before .before .before .before .before
 record Link-ends (sources targets live : List ℕ) (i : ℕ) : Type 0 where
   pub source : getD sources i 0 < length live
   pub target : getD targets i 0 < length live
-  pub few : length live ≤ 256
+  pub few : length live ≤ mostLocations
 
-ends : (c : tie.In-loop Inv-loop μ-loop) → let a = start (c .before) .args in Link-ends (a .sources .now) (a .targets .now) (a .live .now) (c .before .loop .i)
-ends c = let m = start (c .before) .pre .0 in
+ends : (c : tie.In-loop Inv-loop μ-loop)
+    → let a = start (c .before) .args in Link-ends (a .sources .now) (a .targets .now) (a .live .now) (c .before .loop .i)
+ends c =
+    let m = start (c .before) .pre .0 in
     record { source = m .source-below _ (c .loop-test .taken); target = m .target-below _ (c .loop-test .taken); few = m .few-locations }
 
 loop-holds : tie.Need-loop-holds Inv-loop μ-loop
@@ -88,20 +91,21 @@ loop-less c = search needs
 
 loop-again : tie.Need-loop-again Inv-loop μ-loop
 loop-again c =
-    let d = c .before .before .before .before .before .before .before .before .before .before in
+    let put = c .before .before .before .before .before .before in
+    let d = put .before .before .before .before in
     let at = d .before .before .before .before .before .before .before .before in
     let h = d .before .before .before .before .before .before .before .loop-test .taken in
     let i = at .loop .inv in
     let p = start at .pre in
     let few = i .4 .few in
-    let x = c .before .before .before .before .before .before .put-link in (
+    let x = put .put-link in (
       omega (arith, h),
       x .kept .0 ∙ i .1,
       x .kept .1 .0 ∙ i .2,
       x .kept .1 .1 .0 ∙ i .3,
       rw (x .ensures .0, x .ensures .1 .0, x .ensures .1 .1)
-          (lists-more _ _ _ _ _ _ _ (i .4) _ (d .before .linked-timers .ensures) (omega (arith, h, i .1, few, p .1)) (omega (arith, h, i .2, few, p .2))
-          (omega (arith, h, i .3, few, p .3))),
+          (lists-more _ _ _ _ _ _ _ (i .4) _ (d .before .linked-timers .ensures)
+          (omega (arith, h, i .1, few, p .1)) (omega (arith, h, i .2, few, p .2)) (omega (arith, h, i .3, few, p .3))),
     )
 
 loop-less-2 : tie.Need-loop-less-2 Inv-loop μ-loop

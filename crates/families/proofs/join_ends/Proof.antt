@@ -68,7 +68,8 @@ unfolding joinAlong
 returns-2 c =
     let d = c .before .before .before .before .before in
     let s = d .before .before .before .before .before .before in
-    let e = lacked-is _ _ _ (d .before .before .join .ensures) (d .before .common .ensures) (d .common2 .ensures) (c .before .before .before .before .minus .ensures) in
+    let j = d .before .before .join .ensures in
+    let e = lacked-is _ _ _ j (d .before .common .ensures) (d .common2 .ensures) (c .before .before .before .before .minus .ensures) in
     rw (c .join3 .ensures, c .before .join2 .ensures, d .before .common .ensures, d .before .before .join .ensures)
     (ends-grew (s .args .sets .now) (s .args .one) (s .args .other) (s .args .linked) (s .pre .0) (s .pre .1)
     (λ n. not-both (c .before .before .before .is-empty .ensures ∙ eq-eqb _ 0 (e ∙ n)) (c .before .before .if1 .left)))

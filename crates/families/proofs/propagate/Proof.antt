@@ -13,7 +13,8 @@ use Rattle.families.proofs.propagate.Statement.{statement}
 use Rattle.families.proofs.propagate.Tie as tie
 
 abbrev Inv-loop : tie.InvT-loop
-Inv-loop ones others linked q sets₀ sets = Ends (length sets₀) ones others linked × ((s : ℕ) → getD sets₀ s 0 < 2 ^ 64) × Joins ones others linked sets₀ sets
+Inv-loop ones others linked q sets₀ sets =
+    Ends (length sets₀) ones others linked × ((s : ℕ) → getD sets₀ s 0 < 2 ^ 64) × Joins ones others linked sets₀ sets
 
 abbrev μ-loop : tie.MeasureT-loop
 μ-loop ones others linked q sets₀ sets = 2 ^ 64 * length sets₀ - sumOf sets
@@ -24,22 +25,26 @@ start l = l .before .before .before .before .before .before .before .before .bef
 clear-requires : tie.Need-clear-requires Inv-loop μ-loop
 clear-requires c κs = search needs
 
+-- the sets are cleared: the call that this is of
+abbrev call : tie.After-slice-known2 Inv-loop μ-loop → tie.Start Inv-loop μ-loop
+call c = c .before .before .before .before .before .before .before .before
+
 -- the clearing keeps the number of sets
-inside : (c : tie.After-slice-known2 Inv-loop μ-loop) → c .before .before .before .before .before .before .before .before .args .q < length (c .before .before .clear .last .0)
-inside c = omega (arith, c .before .before .before .before .before .before .before .before .pre .1, c .before .before .clear .kept .0)
+inside : (c : tie.After-slice-known2 Inv-loop μ-loop) → call c .args .q < length (c .before .before .clear .last .0)
+inside c = omega (arith, call c .pre .1, c .before .before .clear .kept .0)
 
 mul-sets : tie.Need-mul-sets Inv-loop μ-loop
-mul-sets c = let s = c .before .before .before .before .before .before .before .before in omega (arith, s .pre .1, s .pre .0 .few-locations)
+mul-sets c = omega (arith, call c .pre .1, call c .pre .0 .few-locations)
 
 slice-write-sets : tie.Need-slice-write-sets Inv-loop μ-loop
 slice-write-sets c = inside c
 
 loop-holds : tie.Need-loop-holds Inv-loop μ-loop
 loop-holds c =
-    let s = c .before .before .before .before .before .before .before .before in
+    let s = call c in
     let x = c .before .before .clear in (
-      ends-long (sym (x .kept .0) ∙ sym (length-set (x .last .0) (s .args .q) (s .args .begun .bits))) (s .pre .0),
-      one-small (x .last .0) (s .args .q) (s .args .begun .bits) (inside c) (x .ensures) (search needs),
+      ends-long (sym (x .kept .0) ∙ sym (length-set (x .last .0) (s .args .q) (s .args .roots .bits))) (s .pre .0),
+      one-small (x .last .0) (s .args .q) (s .args .roots .bits) (inside c) (x .ensures) (search needs),
       none,
     )
 
@@ -69,7 +74,8 @@ returns c = λ p formed long links.
     let at = c .before .before .before .before .before in
     let a = start at .args in
     let x = c .before .before .before .sweep in
-    propagated-over (at .before .before .before .clear .last .0) (a .q) (a .begun .bits) (inside (at .before)) (at .before .before .before .clear .ensures)
+    let k = at .before .before .before .clear in
+    propagated-over (k .last .0) (a .q) (a .roots .bits) (inside (at .before)) (k .ensures)
     (at .loop .inv .0) p links _ (joins-trans _ _ _ (at .loop .inv .2) (x .ensures .joins)) (x .ensures .same (c .if1 .left) .1)
 
 pub propagate-spec : {M : Type 1} → statement M

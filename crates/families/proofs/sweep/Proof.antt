@@ -5,6 +5,7 @@ use mathlib.Core.List.{List}
 use Prim.Native.Nat.{ℕ, _-_, _≤_, _<_}
 use native.Mathlib.Omega.{arith}
 use lib.ListN.{length, getD}
+use Rattle.chart_lists.specs.Limits.{mostLocations}
 use Rattle.families.specs.Propagation.{Swept}
 use Rattle.families.proofs.Sweeps.{swept-none, swept-same, swept-grew, swept-end}
 use Rattle.families.proofs.sweep.Statement.{statement}
@@ -24,10 +25,13 @@ start l = l .before .before .before .before .before
 record Link-ends (ones others : List ℕ) (k locations : ℕ) : Type 0 where
   pub one : getD ones k 0 < locations
   pub other : getD others k 0 < locations
-  pub few : locations ≤ 256
+  pub few : locations ≤ mostLocations
 
-ends : (c : tie.In-loop Inv-loop μ-loop) → let a = start (c .before) .args in Link-ends (a .ones .now) (a .others .now) (c .before .loop .k) (length (a .sets .now))
-ends c = let e = start (c .before) .pre in record { one = e .one-below _ (c .loop-test .taken); other = e .other-below _ (c .loop-test .taken); few = e .few-locations }
+ends : (c : tie.In-loop Inv-loop μ-loop)
+    → let a = start (c .before) .args in Link-ends (a .ones .now) (a .others .now) (c .before .loop .k) (length (a .sets .now))
+ends c =
+    let e = start (c .before) .pre in
+    record { one = e .one-below _ (c .loop-test .taken); other = e .other-below _ (c .loop-test .taken); few = e .few-locations }
 
 loop-holds : tie.Need-loop-holds Inv-loop μ-loop
 loop-holds c = let s = c .before .before .before .before in (omega arith, refl, swept-none _ _ _ (s .args .sets .now))
@@ -61,38 +65,36 @@ add-k c = search needs
 
 join-ends-requires : tie.Need-join-ends-requires Inv-loop μ-loop
 join-ends-requires c κs =
-    let e = ends (c .before .before .before .before) in let l = c .before .before .before .before .before .loop in
+    let e = ends (c .before .before .before .before) in
+    let l = c .before .before .before .before .before .loop in
     (omega (arith, e .one, l .inv .1), omega (arith, e .other, l .inv .1))
+
+-- both ends are joined: the turn that this is of, and that its link is one of the list
+abbrev turn : tie.After-join-ends Inv-loop μ-loop → tie.At-loop Inv-loop μ-loop
+turn x = x .before .before .before .before .before .before
+
+below : (x : tie.After-join-ends Inv-loop μ-loop) → turn x .loop .k < length (start (turn x) .args .ones .now)
+below x = x .before .before .before .before .before .loop-test .taken
 
 loop-less : tie.Need-loop-less Inv-loop μ-loop
 loop-less c = search needs
 
 loop-again : tie.Need-loop-again Inv-loop μ-loop
 loop-again c =
-    let at = c .before .before .before .before .before .before .before .before .before in
-    let l = at .loop in
-    let a = start at .args in
-    let x = c .before .before .before .join-ends in
-    let below = c .before .before .before .before .before .before .before .before .loop-test .taken in (
-      omega (arith, below),
-      x .kept .0 ∙ l .inv .1,
-      swept-grew (a .ones .now) (a .others .now) (a .linked .now) below (l .inv .2) (x .ensures) (c .if1 .taken),
-    )
+    let x = c .before .before .before in
+    let l = turn x .loop in
+    let h = below x in
+    (omega arith, x .join-ends .kept .0 ∙ l .inv .1, swept-grew _ _ _ h (l .inv .2) (x .join-ends .ensures) (c .if1 .taken))
 
 loop-less-2 : tie.Need-loop-less-2 Inv-loop μ-loop
 loop-less-2 c = search needs
 
 loop-again-2 : tie.Need-loop-again-2 Inv-loop μ-loop
 loop-again-2 c =
-    let at = c .before .before .before .before .before .before .before .before .before in
-    let l = at .loop in
-    let a = start at .args in
-    let x = c .before .before .before .join-ends in
-    let below = c .before .before .before .before .before .before .before .before .loop-test .taken in (
-      omega (arith, below),
-      x .kept .0 ∙ l .inv .1,
-      swept-same (a .ones .now) (a .others .now) (a .linked .now) below (l .inv .2) (x .ensures) (c .if1 .left),
-    )
+    let x = c .before .before .before in
+    let l = turn x .loop in
+    let h = below x in
+    (omega arith, x .join-ends .kept .0 ∙ l .inv .1, swept-same _ _ _ h (l .inv .2) (x .join-ends .ensures) (c .if1 .left))
 
 same-length : tie.Need-same-length Inv-loop μ-loop
 same-length c = search needs

@@ -8,7 +8,8 @@ use borrow.Author.Count.{below-none}
 use Rattle.model.specs.Flow.{Flow, roundsOf}
 use Rattle.model.specs.Comes.{Shaped}
 use Rattle.model.proofs.Settled.{Changes}
-use Rattle.flow.specs.Edges.{flowOf, Matching}
+use Rattle.chart_lists.specs.Limits.{mostLocations}
+use Rattle.flow.specs.Edges.{flowOf, SafeEdges}
 use Rattle.flow.proofs.EdgeLists.{shaped-lists, few-rounds}
 use Rattle.flow.proofs.Turns.{Turn, next-is, goes-on, turn-next, ends-here}
 use Rattle.flow.proofs.alternate.Statement.{statement}
@@ -16,7 +17,7 @@ use Rattle.flow.proofs.alternate.Tie as tie
 
 abbrev Inv-loop : tie.InvT-loop
 Inv-loop into from cut gain own sets₀ next₀ count₀ sets next count =
-    Matching into from cut gain own × Shaped (flowOf into from cut gain own) × (length sets ≡ length own) × (length next ≡ length own)
+    SafeEdges into from cut gain own × Shaped (flowOf into from cut gain own) × (length sets ≡ length own) × (length next ≡ length own)
     × (sets ≡ roundsOf (flowOf into from cut gain own) count) × Changes (flowOf into from cut gain own) count
 
 abbrev μ-loop : tie.MeasureT-loop
@@ -29,7 +30,8 @@ loop-holds : tie.Need-loop-holds Inv-loop μ-loop
 unfolding roundsOf flowOf
 loop-holds c = let s = c .before .before .before .before .before .before .before in let p = s .pre in (
   p .0,
-  shaped-lists _ _ _ _ _ (p .0) (λ i. c .before .before .before .shared-slice-known4 .given i .fits) (λ i. c .before .before .shared-slice-known5 .given i .fits),
+  shaped-lists _ _ _ _ _ (p .0) (λ i. c .before .before .before .shared-slice-known4 .given i .fits)
+      (λ i. c .before .before .shared-slice-known5 .given i .fits),
   first-length s,
   p .1 .1,
   p .1 .0,
@@ -60,7 +62,7 @@ turn : (r : Made) → Turn (flow r) (head r .loop .count) (head r .loop .sets) (
 turn r = let i = head r .loop .inv in record { shaped = i .1; reached = i .4; changes = i .5; made = r .step .ensures .0 }
 
 -- the rounds so far are few
-few : (r : Made) → head r .loop .count ≤ 64 * 256
+few : (r : Made) → head r .loop .count ≤ 64 * mostLocations
 few r = let i = head r .loop .inv in omega (arith, few-rounds _ _ _ _ _ (i .1) (head r .loop .count) (i .5), i .0 .locations)
 
 next-length : (r : Made) → length (next r) ≡ length (start r .args .own .now)
@@ -105,7 +107,10 @@ same-length-4 : tie.Need-same-length-4 Inv-loop μ-loop
 same-length-4 c = let r = made (c .before .before .before) in next-length r ∙ sym (start r .pre .1 .1)
 
 returns-2 : tie.Need-returns-2 Inv-loop μ-loop
-returns-2 c = let b = c .before .before .before in let e = ends-here (turn-back b) (sym (b .step2 .ensures .1) ∙ c .if2 .taken) in (e .1, omega (arith, e .2))
+returns-2 c =
+    let b = c .before .before .before in
+    let e = ends-here (turn-back b) (sym (b .step2 .ensures .1) ∙ c .if2 .taken) in
+    (e .1, omega (arith, e .2))
 
 moved : (c : tie.Else2 Inv-loop μ-loop) → let r = made (c .before .before .before) in Changes (flow r) (head r .loop .count + 1 + 1)
 moved c = let b = c .before .before .before in goes-on (turn-back b) (sym (b .step2 .ensures .1) ∙ c .if2 .left)

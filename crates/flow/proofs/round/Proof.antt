@@ -6,34 +6,42 @@ use native.Mathlib.Omega.{arith}
 use lib.ListN.{length, getD, length-set}
 use borrow.Author.Needs.{needs}
 use Rattle.model.proofs.Edges.{roundTo}
-use Rattle.flow.specs.Edges.{flowOf, Matching}
+use Rattle.flow.specs.Edges.{flowOf, SafeEdges}
 use Rattle.flow.proofs.EdgeLists.{round-start, round-step, round-end}
 use Rattle.flow.proofs.round.Statement.{statement}
 use Rattle.flow.proofs.round.Tie as tie
 
 abbrev Inv-loop : tie.InvT-loop
 Inv-loop into from cut gain own before after₀ n i₀ after i =
-    Matching into from cut gain own × (n ≡ length into) × (i ≤ n) × (length before ≡ length own) × (length after ≡ length own)
+    SafeEdges into from cut gain own × (n ≡ length into) × (i ≤ n) × (length before ≡ length own) × (length after ≡ length own)
     × (after ≡ roundTo (flowOf into from cut gain own) before i)
 
 abbrev μ-loop : tie.MeasureT-loop
 μ-loop into from cut gain own before after₀ n i₀ after i = n - i
 
+-- the call that a place is of
+abbrev copied : tie.After-copy Inv-loop μ-loop → tie.Start Inv-loop μ-loop
+copied c = c .before .before .before .before .before .before .before .before .before
+
 abbrev start : tie.At-loop Inv-loop μ-loop → tie.Start Inv-loop μ-loop
-start a = a .before .before .before .before .before .before .before .before .before .before .before .before
+start a = copied (a .before .before .before)
 
 -- an edge that the loop is at leads between two locations
-into-small : (a : tie.At-loop Inv-loop μ-loop) → a .loop .i < length (start a .args .into .now) → getD (start a .args .into .now) (a .loop .i) 0 < length (start a .args .own .now)
+into-small : (a : tie.At-loop Inv-loop μ-loop) → a .loop .i < length (start a .args .into .now)
+    → getD (start a .args .into .now) (a .loop .i) 0 < length (start a .args .own .now)
 into-small a h = a .loop .inv .0 .into-below (a .loop .i) h
 
-from-small : (a : tie.At-loop Inv-loop μ-loop) → a .loop .i < length (start a .args .into .now) → getD (start a .args .from .now) (a .loop .i) 0 < length (start a .args .own .now)
+from-small : (a : tie.At-loop Inv-loop μ-loop) → a .loop .i < length (start a .args .into .now)
+    → getD (start a .args .from .now) (a .loop .i) 0 < length (start a .args .own .now)
 from-small a h = a .loop .inv .0 .from-below (a .loop .i) h
 
 copy-requires : tie.Need-copy-requires Inv-loop μ-loop
 copy-requires c κs = search needs
 
 loop-holds : tie.Need-loop-holds Inv-loop μ-loop
-loop-holds c = let p = c .before .before .before .before .before .before .before .before .before .before .before .pre in let e = c .before .before .copy .ensures in
+loop-holds c =
+    let p = copied (c .before .before) .pre in
+    let e = c .before .before .copy .ensures in
     (p .0, refl, search needs, p .1 .0, ap length e, e ∙ round-start _ _ _ _ _ _)
 
 mul-q : tie.Need-mul-q Inv-loop μ-loop

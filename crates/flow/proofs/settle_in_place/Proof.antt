@@ -10,7 +10,7 @@ use Rattle.model.specs.Comes.{Shaped}
 use Rattle.model.proofs.Rounds.{Words}
 use Rattle.flow.specs.Edges.{flowOf}
 use Rattle.flow.proofs.EdgeLists.{shaped-lists}
-use Rattle.flow.proofs.InPlace.{Between, between-own, between-long, between-small, matching-long, sweep-between, sweep-grows, sweep-settled}
+use Rattle.flow.proofs.InPlace.{Between, between-own, between-long, between-small, safe-long, sweep-between, sweep-grows, sweep-settled}
 use Rattle.flow.proofs.settle_in_place.Statement.{statement}
 use Rattle.flow.proofs.settle_in_place.Tie as tie
 
@@ -20,8 +20,12 @@ Inv-loop into from cut gain own sets₀ sets = Shaped (flowOf into from cut gain
 abbrev μ-loop : tie.MeasureT-loop
 μ-loop into from cut gain own sets₀ sets = 2 ^ 64 * length own - sumOf sets
 
+-- the call that a place is of
+abbrev known : tie.After-shared-slice-known5 Inv-loop μ-loop → tie.Start Inv-loop μ-loop
+known c = c .before .before .before .before .before
+
 abbrev start : tie.At-loop Inv-loop μ-loop → tie.Start Inv-loop μ-loop
-start l = l .before .before .before .before .before .before .before .before .before .before .before
+start l = known (l .before .before .before .before .before .before)
 
 copy-requires : tie.Need-copy-requires Inv-loop μ-loop
 copy-requires c κs = search needs
@@ -29,14 +33,14 @@ copy-requires c κs = search needs
 loop-holds : tie.Need-loop-holds Inv-loop μ-loop
 loop-holds c =
     let own = c .before .before .before .before .before in
-    let s = own .before .before .before .before .before in
+    let s = known own in
     let words : Words (s .args .own .now) = λ i. own .shared-slice-known5 .given i .fits in (
       shaped-lists _ _ _ _ _ (s .pre .0) (λ i. own .before .shared-slice-known4 .given i .fits) words,
       rw (c .before .before .copy .ensures) (between-own _ _ _ _ _ words),
     )
 
 sweep-requires : tie.Need-sweep-requires Inv-loop μ-loop
-sweep-requires c κs = let l = c .before in matching-long _ _ _ _ _ (start l .pre .0) (between-long _ _ _ _ _ (l .loop .inv .1))
+sweep-requires c κs = let l = c .before in safe-long _ _ _ _ _ (start l .pre .0) (between-long _ _ _ _ _ (l .loop .inv .1))
 
 -- ---- after a sweep
 
@@ -56,7 +60,8 @@ loop-less : tie.Need-loop-less Inv-loop μ-loop
 loop-less c =
     let r = c .before .before .before in
     let i = head r .loop .inv in
-    omega (arith, sweep-grows _ _ _ _ _ (i .0) (i .1) (r .sweep .ensures .0) (start (head r) .pre .0) (r .sweep .ensures .1) (c .if1 .taken), between-small _ _ _ _ _ (between r))
+    let g = sweep-grows _ _ _ _ _ (i .0) (i .1) (r .sweep .ensures .0) (start (head r) .pre .0) (r .sweep .ensures .1) (c .if1 .taken) in
+    omega (arith, g, between-small _ _ _ _ _ (between r))
 
 loop-again : tie.Need-loop-again Inv-loop μ-loop
 loop-again c = let r = c .before .before .before in (head r .loop .inv .0, between r)

@@ -5,6 +5,7 @@ use mathlib.Core.List.{List}
 use Prim.Native.Nat.{ℕ, _-_, _≤_, _<_}
 use native.Mathlib.Omega.{arith}
 use lib.ListN.{length, getD}
+use Rattle.chart_lists.specs.Limits.{mostLocations}
 use Rattle.flow.specs.Edges.{edgeAt}
 use Rattle.flow.specs.Sweeps.{sweptTo}
 use Rattle.flow.proofs.Growth.{swept-long, Sweep, sweep-none, sweep-same, sweep-grew}
@@ -27,9 +28,10 @@ sets-long l = ap length (l .loop .inv .1 .made) ∙ swept-long _ _ (l .loop .i)
 record Edge-ends (into from sets : List ℕ) (i : ℕ) : Type 0 where
   pub target : getD into i 0 < length sets
   pub source : getD from i 0 < length sets
-  pub few : length sets ≤ 256
+  pub few : length sets ≤ mostLocations
 
-ends : (c : tie.In-loop Inv-loop μ-loop) → let a = start (c .before) .args in Edge-ends (a .into .now) (a .from .now) (c .before .loop .sets) (c .before .loop .i)
+ends : (c : tie.In-loop Inv-loop μ-loop)
+    → let a = start (c .before) .args in Edge-ends (a .into .now) (a .from .now) (c .before .loop .sets) (c .before .loop .i)
 ends c = let m = start (c .before) .pre in record {
   target = omega (arith, m .into-below _ (c .loop-test .taken), sets-long (c .before));
   source = omega (arith, m .from-below _ (c .loop-test .taken), sets-long (c .before));
@@ -100,8 +102,10 @@ loop-again : tie.Need-loop-again Inv-loop μ-loop
 loop-again c =
     let at = c .before .before .before .before .before .before .before .before in
     let s = start (at .before) in
-    let x = c .before .with-edge in
-    (omega (arith, at .loop-test .taken), sweep-grew _ _ _ _ (s .pre) (at .loop-test .taken) (at .before .loop .inv .1) (x .result) (x .ensures) (c .if1 .taken))
+    let x = c .before .with-edge in (
+      omega (arith, at .loop-test .taken),
+      sweep-grew _ _ _ _ (s .pre) (at .loop-test .taken) (at .before .loop .inv .1) (x .result) (x .ensures) (c .if1 .taken),
+    )
 
 loop-less-2 : tie.Need-loop-less-2 Inv-loop μ-loop
 loop-less-2 c = search needs
@@ -110,8 +114,10 @@ loop-again-2 : tie.Need-loop-again-2 Inv-loop μ-loop
 loop-again-2 c =
     let at = c .before .before .before .before .before .before .before .before in
     let s = start (at .before) in
-    let x = c .before .with-edge in
-    (omega (arith, at .loop-test .taken), sweep-same _ _ _ _ (s .pre) (at .loop-test .taken) (at .before .loop .inv .1) (x .result) (x .ensures) (c .if1 .left))
+    let x = c .before .with-edge in (
+      omega (arith, at .loop-test .taken),
+      sweep-same _ _ _ _ (s .pre) (at .loop-test .taken) (at .before .loop .inv .1) (x .result) (x .ensures) (c .if1 .left),
+    )
 
 same-length : tie.Need-same-length Inv-loop μ-loop
 same-length c = sets-long (c .before)
