@@ -34,7 +34,8 @@ pub record Laid (xs l out : List ℕ) : Type 0 where
 pub laid-first : {xs l out : List ℕ} → out ≡ put xs l → Laid xs l out
 laid-first e = record { is = e }
 
-pub laid-next : {xs l out : List ℕ} {last : List ℕ} → Laid xs l out → (a : ℕ) (ys : List ℕ) → a ≡ length xs → last ≡ put ys (midOf a (length out - a) out)
+pub laid-next : {xs l out : List ℕ} {last : List ℕ} → Laid xs l out → (a : ℕ) (ys : List ℕ) → a ≡ length xs
+    → last ≡ put ys (midOf a (length out - a) out)
     → Laid (xs ++ ys) l (putMid a (length out - a) out last)
 laid-next {xs} {l} {out} {last} h a ys e f = record { is = put-part xs ys l out last a e (h .is) f }
 

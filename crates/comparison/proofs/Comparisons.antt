@@ -1,9 +1,10 @@
--- The yes or no of a comparison is its meaning, codes and comparisons correspond, and the table of all cells is right. Assumes nothing.
+-- The yes or no of a comparison is its meaning, codes and comparisons correspond, and the table of all cells is right. Nothing is hard: each law
+-- is shown case by case. Assumes nothing.
 use mathlib.Core.Path.{_≡_, refl, sym, _∙_}
 use mathlib.Core.Logic.{_↔_}
-use mathlib.Core.Bool.{Bool, true, false}
+use mathlib.Core.Bool.{true, false}
 use mathlib.Core.Option.{none, some}
-use mathlib.Core.List.{List, [], _∷_}
+use mathlib.Core.List.{[]}
 use Prim.Native.Nat.{ℕ, zero, suc, _≤_, _<_}
 use native.Mathlib.Omega.{arith}
 use borrow.Author.Tests.{ltb-true, leb-true, eqb-true, lt-ltb, le-ltb, le-leb, lt-leb, eq-eqb, ne-eqb}
@@ -11,7 +12,7 @@ use lib.ListN.{getD}
 use Rattle.comparison.specs.declared.Comparison.{Comparison}
 use Rattle.comparison.specs.declared.Comparison.the-variants.{AtMost, Below, AtLeast, Above, Equal}
 use Rattle.comparison.specs.Comparison.{Met, met, comparisonOf, codeOf}
-use Rattle.comparison.specs.Order.{Order, below, at, above}
+use Rattle.comparison.specs.Order.{Order, below, at, above, table}
 
 pub met-iff : (x : Comparison) (n k : ℕ) → (met x n k ≡ true) ↔ Met x n k
 unfolding met
@@ -68,16 +69,6 @@ pub order-below : {n k o : ℕ} → Order n k o → o < 3
 order-below (below h) = omega arith
 order-below (at h) = omega arith
 order-below (above h) = omega arith
-
--- a row for each code, and in it what the comparison says below, at and above the constant
-abbrev pub table : List (List Bool)
-table =
-    (true ∷ true ∷ false ∷ [])
-    ∷ (true ∷ false ∷ false ∷ [])
-    ∷ (false ∷ true ∷ true ∷ [])
-    ∷ (false ∷ false ∷ true ∷ [])
-    ∷ (false ∷ true ∷ false ∷ [])
-    ∷ []
 
 -- every cell
 pub table-met : (x : Comparison) {n k o : ℕ} → Order n k o → getD (getD table (codeOf x) []) o false ≡ met x n k

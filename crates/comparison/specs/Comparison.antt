@@ -29,6 +29,7 @@ met Equal n k = eqb n k
 unfoldable pub comparisonOf : (code : ℕ) → Option Comparison
 comparisonOf code = getElem? (AtMost ∷ Below ∷ AtLeast ∷ Above ∷ Equal ∷ []) code
 
+-- the code of a comparison
 unfoldable pub codeOf : Comparison → ℕ
 codeOf AtMost = 0
 codeOf Below = 1

@@ -1,6 +1,5 @@
 pub mod Answers
 pub mod RisingLoop
 pub mod StartsLoop
-pub mod TestsLoop
 pub mod Steps
 pub mod Parts

@@ -1,6 +1,5 @@
 -- The parts of a transition's record make up the record: its head and then its tests. Assumes nothing.
 use mathlib.Core.Path.{_≡_, refl, sym, ap, _∙_, subst}
-use mathlib.Core.Logic.{_⊎_, inl, inr}
 use mathlib.Core.Bool.{Bool, true, false}
 use mathlib.Core.List.{List}
 use Prim.Native.Nat.{ℕ, _≤_}
@@ -13,9 +12,9 @@ use Rattle.model.specs.Chart.{Test, Transition}
 use Rattle.model.specs.Live.{startsSet}
 use Rattle.file_format.specs.Parse.{Parsed, value, refusal, bind, guard, number, below, rising}
 use Rattle.file_format.specs.Body.{readTest, readTests, readTransition, recordLength}
-use Rattle.file_format.proofs.Parsed.{value-refused, bind-value, guard-value, same-value, kept-value, kept-refused}
+use Rattle.file_format.proofs.Parsed.{bind-value, guard-value, same-value, kept-value, kept-refused}
 use Rattle.file_format.proofs.Items.{many-length}
-use Rattle.fields.specs.Parts.{Ends, readEnds, readStarts, Head, headOf, readHead, skipTests, skipTransition}
+use Rattle.fields.specs.Parts.{Ends, readEnds, readStarts, Head, headOf, readHead}
 
 -- readers one after another, grouped in another way
 module _ {A B C : Type 0} where
@@ -27,9 +26,6 @@ module _ {A B C : Type 0} where
 step-guard : {B C : Type 0} (c : Bool) (n p : ℕ) (y : Parsed B) (l : B → List ℕ → Parsed C) (x : Parsed C) → x ≡ bind y l → guard c n p x ≡ bind (guard c n p y) l
 step-guard true n p y l x e = e
 step-guard false n p y l x e = refl
-
-same-refusal : {A B : Type 0} {m q n p : ℕ} → _≡_ {A = Parsed A} (refusal m q) (refusal n p) → _≡_ {A = Parsed B} (refusal m q) (refusal n p)
-same-refusal e = cc
 
 -- the head with the list of the started timers
 record Front : Type 0 where
@@ -122,10 +118,6 @@ module _ (W locations timers i : ℕ) (bs : List ℕ) where
       let f = kept-refused frontHead (readFront W locations timers i bs) (sym (head-front W locations timers i bs) ∙ e) in
       transition-front W locations timers i bs ∙ rw f
 
-  pass-front : (f : Front) (b : List ℕ) → readFront W locations timers i bs ≡ value f b → skipTests W timers i (f .tests) b ≡ skipTransition W locations timers i bs
-  unfolding skipTests skipTransition
-  pass-front f b e = rw (transition-front W locations timers i bs, e) (step (readTests W timers i (f .tests) b) _ _ _ (λ ts u. refl))
-
   module _ {h : Head} {b : List ℕ} (e : readHead W locations timers i bs ≡ value h b) where
     front-found : (f : Front) × (readFront W locations timers i bs ≡ value f b) × (frontHead f ≡ h)
     front-found = kept-value frontHead (readFront W locations timers i bs) (sym (head-front W locations timers i bs) ∙ e)
@@ -143,30 +135,6 @@ module _ (W locations timers i : ℕ) (bs : List ℕ) where
         let q : length ts ≡ front-found .0 .tests = tests-length (h .tests) b ts u k ∙ sym as-many in
         (made (front-found .0) ts, transition-front W locations timers i bs ∙ rw (front-found .1, as-many, k), rw q (front-found .2), refl)
 
-    -- a record that is passed over goes on as its tests do
-    pub skip-tests-left : skipTests W timers i (h .tests) b ≡ skipTransition W locations timers i bs
-    skip-tests-left = ap (λ (g : ℕ). skipTests W timers i g b) (sym as-many) ∙ pass-front (front-found .0) b (front-found .1)
-
-  pub pass-head-refused : {n p : ℕ} → readHead W locations timers i bs ≡ refusal n p → refusal n p ≡ skipTransition W locations timers i bs
-  unfolding skipTransition
-  pass-head-refused e = rw (transition-head-refused e)
-
-  -- a record is refused for its head, or for a test after it
-  pub transition-refused : {n p : ℕ} → transition ≡ refusal n p
-      → (readHead W locations timers i bs ≡ refusal n p)
-      ⊎ ((h : Head) × (b : List ℕ) × (readHead W locations timers i bs ≡ value h b) × (readTests W timers i (h .tests) b ≡ refusal n p))
-  transition-refused {n} {p} e = go (readHead W locations timers i bs) refl
-    where
-      tests-refused : (h : Head) (b : List ℕ) → readHead W locations timers i bs ≡ value h b → (x : Parsed (List Test)) → readTests W timers i (h .tests) b ≡ x → x ≡ refusal n p
-      tests-refused h b k (value ts u) l = absurd (value-refused (transition-whole k l .1) e)
-      tests-refused h b k (refusal m q) l = same-refusal (sym (transition-tests-refused k l) ∙ e)
-
-      go : (x : Parsed Head) → readHead W locations timers i bs ≡ x
-          → (readHead W locations timers i bs ≡ refusal n p)
-          ⊎ ((h : Head) × (b : List ℕ) × (readHead W locations timers i bs ≡ value h b) × (readTests W timers i (h .tests) b ≡ refusal n p))
-      go (value h b) k = inr (h, b, k, tests-refused h b k (readTests W timers i (h .tests) b) refl)
-      go (refusal m q) k = inl (k ∙ same-refusal (sym (transition-head-refused k) ∙ e))
-
 -- ---- a record has at most 8 tests
 
 pub head-at-most : (W locations timers i : ℕ) (bs : List ℕ) {h : Head} {b : List ℕ} → readHead W locations timers i bs ≡ value h b → h .tests ≤ 8
@@ -180,10 +148,3 @@ head-at-most W locations timers i bs {h} {b} e =
     let g₂ = guard-value (leb (i₄ .0) 8) 4 i _ (g₁ .1) in
     let q : i₄ .0 ≡ h .tests = ap (λ (x : Head). x .tests) (same-value (g₂ .1)) in
     subst (λ (g : ℕ). g ≤ 8) q (leb-true (i₄ .0) 8 (g₂ .0))
-
-pub pass-at-most : (W locations timers i : ℕ) (bs : List ℕ) {n : ℕ} {u : List ℕ} → skipTransition W locations timers i bs ≡ value n u → n ≤ 8
-unfolding skipTransition headOf
-pass-at-most W locations timers i bs {n} {u} e =
-    let k = kept-value (λ (r : Transition). length (r .tests)) (readTransition W locations timers i bs) e in
-    let p = transition-parts W locations timers i bs (k .0) u (k .1) in
-    subst (λ (g : ℕ). g ≤ 8) (k .2) (head-at-most W locations timers i bs (p .head))

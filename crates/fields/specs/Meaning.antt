@@ -8,12 +8,12 @@ use Rattle.refusal.specs.declared.Refusal.{Refusal}
 use Rattle.file_format.specs.Parse.{Parsed, value, refusal, number}
 use Rattle.fields.specs.declared.Field.{Field}
 use Rattle.fields.specs.declared.Field.the-variants as field
-use Rattle.fields.specs.declared.TestField.{TestField}
-use Rattle.fields.specs.declared.TestField.the-variants as test
-use Rattle.fields.specs.declared.EndsField.{EndsField}
-use Rattle.fields.specs.declared.EndsField.the-variants as ends
-use Rattle.fields.specs.declared.HeadField.{HeadField}
-use Rattle.fields.specs.declared.HeadField.the-variants as head
+use Rattle.fields.specs.declared.test.TestField.{TestField}
+use Rattle.fields.specs.declared.test.TestField.the-variants as test
+use Rattle.fields.specs.declared.record.EndsField.{EndsField}
+use Rattle.fields.specs.declared.record.EndsField.the-variants as ends
+use Rattle.fields.specs.declared.record.HeadField.{HeadField}
+use Rattle.fields.specs.declared.record.HeadField.the-variants as head
 use Rattle.fields.specs.Parts.{Ends, Head}
 
 abbrev pub refusalAs : {A : Type 0} → Refusal → Parsed A

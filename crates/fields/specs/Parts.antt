@@ -8,7 +8,7 @@ use Rattle.model.specs.Answer.{nowhere}
 use Rattle.model.specs.Chart.{Transition}
 use Rattle.model.specs.Live.{startsSet}
 use Rattle.file_format.specs.Parse.{Parsed, value, bind, guard, number, below, rising}
-use Rattle.file_format.specs.Body.{readTests, readTransition, recordLength}
+use Rattle.file_format.specs.Body.{recordLength}
 
 -- the first four fields
 pub record Ends : Type 0 where
@@ -49,11 +49,3 @@ readHead W locations timers i bs =
     guard (eqb (e .length) (recordLength W s g)) 3 nowhere (
     guard (leb g 8) 4 i (
     value (record { source = e .source; target = e .target; event = e .event; starts = starts; tests = g }) b₄))))))
-
--- tests that are judged and passed over: their number
-unfoldable pub skipTests : (W timers i g : ℕ) → List ℕ → Parsed ℕ
-skipTests W timers i g bs = bind (readTests W timers i g bs) (λ ts t. value (length ts) t)
-
--- a record that is judged and passed over: the number of its tests
-unfoldable pub skipTransition : (W locations timers i : ℕ) → List ℕ → Parsed ℕ
-skipTransition W locations timers i bs = bind (readTransition W locations timers i bs) (λ r t. value (length (r .tests)) t)

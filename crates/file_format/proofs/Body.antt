@@ -1,4 +1,5 @@
--- The header and the body are read and written so that each undoes the other, for constants of W bytes. Assumes nothing.
+-- The header and the body are read and written so that each undoes the other, for constants of W bytes. Hard: limits that an earlier field sets
+-- for a later one, and that nothing may follow the body, which is shown apart. Assumes nothing.
 use mathlib.Core.Path.{_≡_, refl, sym, ap, _∙_, subst}
 use mathlib.Core.List.{List, [], _∷_, _++_, append-nil}
 use Prim.Native.Nat.{ℕ, _≤_, _<_}
@@ -76,22 +77,35 @@ header-trip =
     (field (λ h. Unit {0}) (λ (h : FileHeader). h .locations) _ (below-trip 2 257 4 nowhere (omega arith))
     (λ locations p₁. condition _ 4 nowhere (λ h. leb 1 (h .locations)) _ (λ h c. ap (leb 1) (c .1))
     (λ q. field-as _ (λ (h : FileHeader). h .initial) (λ h. h .initial < h .locations) _
-    (λ h c p. subst (λ l. h .initial < l) (sym (c .1)) p) (λ h c p. subst (λ l. h .initial < l) (c .1) p) (below-trip 2 locations 5 nowhere (omega arith))
+    (λ h c p. subst (λ l. h .initial < l) (sym (c .1)) p)
+    (λ h c p. subst (λ l. h .initial < l) (c .1) p)
+    (below-trip 2 locations 5 nowhere (omega arith))
     (λ initial p₂. field _ (λ (h : FileHeader). h .timers) _ (below-trip 1 65 4 nowhere (omega arith))
     (λ timers p₃. field _ (λ (h : FileHeader). length (h .accepting)) _ (number-trip 2)
     (λ a p₄. field-as _ (λ (h : FileHeader). h .accepting) (λ h. Rising (h .locations) 0 (h .accepting)) _
-    (λ h c p. subst (λ l. Rising l 0 (h .accepting)) (sym (c .0 .0 .0 .1)) (p .1)) (λ h c p. (c .1, subst (λ l. Rising l 0 (h .accepting)) (c .0 .0 .0 .1) p))
+    (λ h c p. subst (λ l. Rising l 0 (h .accepting)) (sym (c .0 .0 .0 .1)) (p .1))
+    (λ h c p. (c .1, subst (λ l. Rising l 0 (h .accepting)) (c .0 .0 .0 .1) p))
     (rising-trip 2 locations 5 nowhere a (omega arith))
     (λ accepting p₅. field _ (λ (h : FileHeader). h .count) _ (below-trip 2 513 4 nowhere (omega arith))
     (λ count p₆. end _ (record { locations = locations; initial = initial; timers = timers; accepting = accepting; count = count })
     ((((((tt, refl), refl), refl), p₅ .0), refl), refl)
-    (λ h c j. record { locations = c .0 .0 .0 .0 .0 .1 j; initial = c .0 .0 .0 .0 .1 j; timers = c .0 .0 .0 .1 j; accepting = c .0 .1 j; count = c .1 j })))))))))
+    (λ h c j. record {
+      locations = c .0 .0 .0 .0 .0 .1 j;
+      initial = c .0 .0 .0 .0 .1 j;
+      timers = c .0 .0 .0 .1 j;
+      accepting = c .0 .1 j;
+      count = c .1 j;
+    })))))))))
 
 -- ---- the body
 
 -- the body without the condition that nothing follows it
 abbrev readChart : (W : ℕ) → List ℕ → Parsed Chart
 readChart W bs = bind (readHeader bs) (λ h b₁. bind (readTransitions W (h .locations) (h .timers) (h .count) b₁) (λ rs b₂. value (chartOf h rs) b₂))
+
+-- the chart's transitions are valid after that header
+abbrev ValidAfter : (W : ℕ) → Chart → FileHeader → Type 0
+ValidAfter W c h = All (ValidTransition W (h .locations) (h .timers)) (c .transitions)
 
 chart-trip : (W : ℕ) → W ≤ 8 → RoundTrip (Valid W) (writeBody W) (readChart W)
 unfolding writeBody writeHeader chartOf
@@ -122,11 +136,12 @@ chart-trip W narrow =
     ))
     (λ c. simp append-nil)
     (field (λ c. Unit {0}) headerOf _ header-trip
-    (λ h v. field-as _ (λ (c : Chart). c .transitions) (λ c. All (ValidTransition W (c .locations) (c .timers)) (c .transitions)) _
-    (λ c q p. subst (λ (h : FileHeader). All (ValidTransition W (h .locations) (h .timers)) (c .transitions)) (sym (q .1)) (p .1))
-    (λ c q p. (ap (λ (h : FileHeader). h .count) (q .1), subst (λ (h : FileHeader). All (ValidTransition W (h .locations) (h .timers)) (c .transitions)) (q .1) p))
+    (λ h v. field-as _ (λ (c : Chart). c .transitions) (λ c. ValidAfter W c (headerOf c)) _
+    (λ c q p. subst (ValidAfter W c) (sym (q .1)) (p .1))
+    (λ c q p. (ap (λ (h : FileHeader). h .count) (q .1), subst (ValidAfter W c) (q .1) p))
     (transitions-trip W (h .locations) (h .timers) narrow (v .few-locations) (v .few-timers) (h .count))
-    (λ rs p. end _ (chartOf h rs) ((tt, λ j. record { locations = h .locations; initial = h .initial; timers = h .timers; accepting = h .accepting; count = p .0 j }), refl)
+    (λ rs p. end _ (chartOf h rs)
+    ((tt, λ j. record { locations = h .locations; initial = h .initial; timers = h .timers; accepting = h .accepting; count = p .0 j }), refl)
     (λ c q j. record {
       locations = (q .0 .1 j) .locations;
       initial = (q .0 .1 j) .initial;
@@ -135,7 +150,8 @@ chart-trip W narrow =
       transitions = q .1 j;
     }))))
 
-bind-assoc : {A B C : Type 0} (x : Parsed A) (k : A → List ℕ → Parsed B) (g : B → List ℕ → Parsed C) → bind (bind x k) g ≡ bind x (λ a t. bind (k a t) g)
+bind-assoc : {A B C : Type 0} (x : Parsed A) (k : A → List ℕ → Parsed B) (g : B → List ℕ → Parsed C)
+    → bind (bind x k) g ≡ bind x (λ a t. bind (k a t) g)
 bind-assoc (value a t) k g = refl
 bind-assoc (refusal n p) k g = refl
 

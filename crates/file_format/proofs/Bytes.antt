@@ -1,17 +1,16 @@
--- Whatever is written is bytes; and a chart can be held by a file if and only if some bytes are read as it. Assumes nothing.
-use mathlib.Core.Path.{_≡_}
+-- Whatever is written is bytes; and a chart can be held by a file if and only if some bytes are read as it. Nothing is hard: both follow part by
+-- part. Assumes nothing.
 use mathlib.Core.Logic.{_↔_}
 use mathlib.Core.List.{List, [], _∷_, _++_}
 use Prim.Native.Nat.{ℕ, zero, suc, _/_, _%_}
 use native.Mathlib.Omega.{arith}
 use lib.ListN.{length}
 use Rattle.comparison.specs.Comparison.{codeOf}
-use Rattle.model.specs.Answer.{result}
 use Rattle.model.specs.Chart.{Test, Transition, Chart}
 use Rattle.model.specs.Valid.{Valid}
 use Rattle.file_format.specs.Parse.{digits, writeAll, Bytes}
 use Rattle.file_format.specs.Body.{recordLength, writeTest, writeTransition, writeHeader, writeBody}
-use Rattle.file_format.specs.File.{writeFile, chartIn, fileOf}
+use Rattle.file_format.specs.File.{writeFile, fileOf, ReadFrom}
 use Rattle.file_format.proofs.File.{chart-survives, reads-valid}
 
 bytes-append : (xs ys : List ℕ) → Bytes xs → Bytes ys → Bytes (xs ++ ys)
@@ -54,7 +53,8 @@ header-bytes c =
     (after-digits 2 (c .initial) _
     (after-digits 1 (c .timers) _
     (after-digits 2 (length (c .accepting)) _
-    (bytes-append (writeAll (digits 2) (c .accepting)) _ (all-bytes (digits 2) (digits-bytes 2) (c .accepting)) (digits-bytes 2 (length (c .transitions)))))))
+    (bytes-append (writeAll (digits 2) (c .accepting)) _ (all-bytes (digits 2) (digits-bytes 2) (c .accepting))
+    (digits-bytes 2 (length (c .transitions)))))))
 
 pub file-bytes : (version W : ℕ) (c : Chart) → Bytes (writeFile version W c)
 unfolding writeFile writeBody
@@ -63,12 +63,9 @@ file-bytes version W c =
     (after-digits 4 (length (writeBody W c)) _
     (bytes-append (writeHeader c) _ (header-bytes c) (all-bytes (writeTransition W) (transition-bytes W) (c .transitions))))
 
--- some bytes are read as c
-pub record ReadFrom (c : Chart) : Type 0 where
-  pub file : List ℕ
-  pub bytes : Bytes file
-  pub reads : chartIn file ≡ result c
-
 pub valid-iff-read : (c : Chart) → Valid 2 c ↔ ReadFrom c
 unfolding fileOf
-valid-iff-read c = (λ v. record { file = fileOf c; bytes = file-bytes 1 2 c; reads = chart-survives c v }, λ r. reads-valid (r .file) c (r .bytes) (r .reads))
+valid-iff-read c = (
+  λ v. record { file = fileOf c; bytes = file-bytes 1 2 c; reads = chart-survives c v },
+  λ r. reads-valid (r .file) c (r .bytes) (r .reads),
+)

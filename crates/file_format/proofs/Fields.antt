@@ -1,4 +1,5 @@
--- The fields of the file are read and written so that each undoes the other: numbers of any width, rising lists, comparisons. Assumes nothing.
+-- The fields of the file are read and written so that each undoes the other: numbers of any width, rising lists, comparisons. Hard: a number, whose
+-- highest byte is read first and whose lowest is split off first: by induction over the width. Assumes nothing.
 use mathlib.Core.Path.{_≡_, refl, sym, ap, _∙_}
 use mathlib.Core.Option.{Option, none, some}
 use mathlib.Core.List.{List, [], _∷_, _++_, append-nil}
@@ -53,12 +54,14 @@ below-trip w limit n p h =
 entry-trip : (w limit n p : ℕ) → limit ≤ 256 ^ w → (lo : ℕ) → RoundTrip (λ x. (lo ≤ x) × (x < limit)) (digits w) (entry w limit n p lo)
 unfolding entry
 entry-trip w limit n p h lo =
-    restated {w = λ v. digits w v ++ []} (λ v c. (leb-true _ _ (c .1 .1 .0), c .1 .0)) (λ v c. (tt, (c .1, (le-leb _ _ (c .0), tt)))) (λ v. append-nil _)
+    restated {w = λ v. digits w v ++ []}
+    (λ v c. (leb-true _ _ (c .1 .1 .0), c .1 .0)) (λ v c. (tt, (c .1, (le-leb _ _ (c .0), tt)))) (λ v. append-nil _)
     (field (λ v. Unit {0}) (λ v. v) _ (below-trip w limit n p h)
     (λ x q. condition _ 7 p (λ v. leb lo v) _ (λ b c. ap (λ y. leb lo y) (c .1))
     (λ t. end _ x (tt, refl) (λ b c. c .1))))
 
-pub rising-trip : (w limit n p k : ℕ) → limit ≤ 256 ^ w → RoundTrip (λ xs. (length xs ≡ k) × Rising limit 0 xs) (writeAll (digits w)) (rising w limit n p k)
+pub rising-trip : (w limit n p k : ℕ) → limit ≤ 256 ^ w
+    → RoundTrip (λ xs. (length xs ≡ k) × Rising limit 0 xs) (writeAll (digits w)) (rising w limit n p k)
 unfolding rising
 rising-trip w limit n p k h =
     items (λ (lo x : ℕ). suc x) (λ lo x. (lo ≤ x) × (x < limit)) (Rising limit) (λ lo. tt) (λ lo x xs p r. (p, r)) (λ lo x xs r. r)

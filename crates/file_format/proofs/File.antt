@@ -1,5 +1,5 @@
 -- Reading and writing a chart file undo one another: what is written for a chart that a file can hold is read as that chart, and a file
--- that is read as a chart is the one that is written for it. Assumes nothing.
+-- that is read as a chart is the one that is written for it. Hard: the length in the frame must hold the body's: four bytes do. Assumes nothing.
 use mathlib.Core.Path.{_≡_, refl, sym, ap, _∙_, subst}
 use mathlib.Core.List.{List, _++_, append-assoc, append-nil}
 use Prim.Native.Nat.{ℕ, _^_, _≤_, _<_}
@@ -35,7 +35,8 @@ frame-trip =
     restated (λ f h. record { version = h .1 .0; follow = h .1 .1 .0 }) (λ f v. (tt, (v .version, (v .follow, tt)))) (λ f. simp append-nil)
     (field (λ f. Unit {0}) (λ (f : Frame). f .version) _ (number-trip 1)
     (λ version p. field _ (λ (f : Frame). f .follow) _ (number-trip 4)
-    (λ follow q. end _ (record { version = version; follow = follow }) ((tt, refl), refl) (λ f c j. record { version = c .0 .1 j; follow = c .1 j }))))
+    (λ follow q. end _ (record { version = version; follow = follow }) ((tt, refl), refl)
+    (λ f c j. record { version = c .0 .1 j; follow = c .1 j }))))
 
 -- a frame that lets the body be read: its length is that of the body, its version the reader's
 judged-frame : (version : ℕ) (x : Parsed Frame) {body : List ℕ} → judgeFrame version x ≡ result body
@@ -62,7 +63,8 @@ read-written version W h narrow c v =
     rw append-assoc at (frame-trip .reads frame (writeBody W c) (record { version = h; follow = body-fits W narrow c v })) in
     rw (e, eqb-self (length (writeBody W c)), eqb-self version, body-reads W narrow c v)
 
-pub written-read : (version W : ℕ) → W ≤ 8 → (bs : List ℕ) (c : Chart) → Bytes bs → readFile version W bs ≡ result c → Valid W c × (bs ≡ writeFile version W c)
+pub written-read : (version W : ℕ) → W ≤ 8 → (bs : List ℕ) (c : Chart) → Bytes bs → readFile version W bs ≡ result c
+    → Valid W c × (bs ≡ writeFile version W c)
 unfolding readFile writeFile
 written-read version W narrow bs c by e =
     let i = then-result (judgeFrame version (readFrame bs)) _ e in

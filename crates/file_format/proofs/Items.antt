@@ -1,4 +1,5 @@
--- A loop that reads n items, one in each turn: what is read so far and what is left give the whole list. Assumes nothing.
+-- A loop that reads n items, one in each turn: what is read so far and what is left give the whole list. Hard: the items read stand in front of
+-- those left, which the definition reads from the front: a turn moves one from the one list to the other. Assumes nothing.
 use mathlib.Core.Path.{_≡_, refl, sym, ap, _∙_}
 use mathlib.Core.List.{List, [], _∷_, _++_, append-assoc, append-nil}
 use Prim.Native.Nat.{ℕ, zero, suc, _+_, _-_, _≤_, _<_}
@@ -41,7 +42,8 @@ module _ {S A : Type 0} {next : S → A → S} {read : S → List ℕ → Parsed
   unfolding many
   turn-done l = let z : n - k ≡ 0 = omega (arith, h .most) in h .left ∙ rw (z, append-nil)
 
-  rest : (a : A) (y : Parsed (List A)) → bind (bind y (λ xs u. value (a ∷ xs) u)) (λ xs t. value (done ++ xs) t) ≡ bind y (λ xs t. value ((done ++ (a ∷ [])) ++ xs) t)
+  rest : (a : A) (y : Parsed (List A))
+      → bind (bind y (λ xs u. value (a ∷ xs) u)) (λ xs t. value (done ++ xs) t) ≡ bind y (λ xs t. value ((done ++ (a ∷ [])) ++ xs) t)
   rest a (value xs t) = rw append-assoc
   rest a (refusal m p) = refl
 
@@ -64,7 +66,8 @@ module _ {S A : Type 0} {next : S → A → S} {read : S → List ℕ → Parsed
     }
 
   -- what is read so far is the front of the whole
-  pub turn-front : {all : List A} {end : List ℕ} → whole ≡ value all end → (xs : List A) × (many next read s (n - k) bs ≡ value xs end) × (done ++ xs ≡ all)
+  pub turn-front : {all : List A} {end : List ℕ} → whole ≡ value all end
+      → (xs : List A) × (many next read s (n - k) bs ≡ value xs end) × (done ++ xs ≡ all)
   turn-front e = kept-value (λ (xs : List A). done ++ xs) (many next read s (n - k) bs) (sym (h .left) ∙ e)
 
 -- ---- the lists of the file begin so

@@ -1,55 +1,37 @@
--- How many bytes a written chart has, and how many at most. Assumes nothing.
+-- How many bytes a written chart has, and how many at most. Hard: only the bound, a sum of products: starts and tests of a transition, then
+-- transitions, each at its most. Assumes nothing.
 use mathlib.Core.Path.{_≡_, refl, _∙_}
-use mathlib.Core.List.{List, [], _∷_, _++_}
+use mathlib.Core.List.{List, [], _∷_, map}
 use Prim.Native.Nat.{ℕ, zero, suc, _+_, _*_, _/_, _≤_}
-use native.Mathlib.Nat.{mul-le-mul, mul-suc, le-refl}
+use native.Mathlib.Nat.{mul-le-mul, le-refl}
 use native.Mathlib.Numerals.{add-one}
 use native.Mathlib.Omega.{arith}
 use lib.ListN.{length, length-append}
-use Rattle.lists.specs.Rising.{All}
+use Rattle.lists.specs.Lists.{sumOf}
+use Rattle.lists.proofs.Sums.{sum-same, sum-most}
 use Rattle.model.specs.Chart.{Test, Transition, Chart}
 use Rattle.model.specs.Valid.{ValidTransition, Valid}
 use Rattle.file_format.specs.Parse.{digits, writeAll}
 use Rattle.file_format.specs.Body.{recordLength, writeTest, writeTransition, writeHeader, writeBody}
 use Rattle.file_format.specs.File.{writeFile, fileOf}
 use Rattle.file_format.proofs.Fields.{rising-most}
-use Rattle.file_format.specs.Lengths.{total, transitionLength, bodyLength, fileLength}
+use Rattle.file_format.specs.Lengths.{transitionLength, bodyLength, fileLength, largestFile}
 
 pub length-digits : (w v : ℕ) → length (digits w v) ≡ w
 unfolding digits
 length-digits zero v = refl
 length-digits (suc w) v = rw (length-append, length-digits w (v / 256)) (add-one w)
 
--- ---- sums
-
-module _ {A : Type 0} (f : A → ℕ) where
-  pub total-append : (xs ys : List A) → total f (xs ++ ys) ≡ total f xs + total f ys
-  unfolding total
-  total-append [] ys = omega arith
-  total-append (a ∷ xs) ys = omega (arith, total-append xs ys)
-
-  -- n for each element
-  pub total-same : (n : ℕ) → ((a : A) → f a ≡ n) → (xs : List A) → total f xs ≡ n * length xs
-  unfolding total
-  total-same n h [] = omega arith
-  total-same n h (a ∷ xs) = rw mul-suc (omega (arith, h a, total-same n h xs))
-
-  -- at most n for each element
-  pub total-most : (n : ℕ) (P : A → Type 0) → ((a : A) → P a → f a ≤ n) → (xs : List A) → All P xs → total f xs ≤ n * length xs
-  unfolding total
-  total-most n P h [] p = omega arith
-  total-most n P h (a ∷ xs) p = rw mul-suc (omega (arith, h a (p .0), total-most n P h xs (p .1)))
-
 -- what is written item by item
 module _ {A : Type 0} (w : A → List ℕ) where
-  pub length-all : (f : A → ℕ) → ((a : A) → length (w a) ≡ f a) → (xs : List A) → length (writeAll w xs) ≡ total f xs
-  unfolding total writeAll
+  pub length-all : (f : A → ℕ) → ((a : A) → length (w a) ≡ f a) → (xs : List A) → length (writeAll w xs) ≡ sumOf (map f xs)
+  unfolding sumOf writeAll
   length-all f h [] = refl
   length-all f h (a ∷ xs) = rw (length-append, h a, length-all f h xs)
 
 -- numbers of w bytes
 pub length-numbers : (w : ℕ) (xs : List ℕ) → length (writeAll (digits w) xs) ≡ w * length xs
-length-numbers w xs = length-all (digits w) (λ x. w) (length-digits w) xs ∙ total-same (λ x. w) w (λ x. refl) xs
+length-numbers w xs = length-all (digits w) (λ x. w) (length-digits w) xs ∙ sum-same (λ x. w) w (λ x. refl) xs
 
 -- ---- the parts of the file
 
@@ -58,7 +40,7 @@ unfolding writeTest
 length-test W t = simp (length-append, length-digits) (omega arith)
 
 pub length-tests : (W : ℕ) (ts : List Test) → length (writeAll (writeTest W) ts) ≡ (2 + W) * length ts
-length-tests W ts = length-all (writeTest W) (λ t. 2 + W) (length-test W) ts ∙ total-same (λ t. 2 + W) (2 + W) (λ t. refl) ts
+length-tests W ts = length-all (writeTest W) (λ t. 2 + W) (length-test W) ts ∙ sum-same (λ t. 2 + W) (2 + W) (λ t. refl) ts
 
 pub length-transition : (W : ℕ) (r : Transition) → length (writeTransition W r) ≡ transitionLength W r
 unfolding writeTransition transitionLength recordLength
@@ -78,7 +60,8 @@ length-file version W c = simp (length-append, length-digits, length-body) (omeg
 
 -- ---- at most
 
-transition-most : (W locations timers : ℕ) → timers ≤ 64 → (r : Transition) → ValidTransition W locations timers r → transitionLength W r ≤ 73 + (2 + W) * 8
+transition-most : (W locations timers : ℕ) → timers ≤ 64 → (r : Transition) → ValidTransition W locations timers r
+    → transitionLength W r ≤ 73 + (2 + W) * 8
 unfolding transitionLength recordLength
 transition-most W locations timers h r v =
     let m : (2 + W) * length (r .tests) ≤ (2 + W) * 8 = mul-le-mul (le-refl (2 + W)) (v .few-tests) in
@@ -90,8 +73,8 @@ file-most W c v =
     let few = rising-most (c .locations) 256 (c .accepting) (v .few-locations) (v .accepting) in
     let each = transition-most W (c .locations) (c .timers) (v .few-timers) in
     let m : (73 + (2 + W) * 8) * length (c .transitions) ≤ (73 + (2 + W) * 8) * 512 = mul-le-mul (le-refl _) (v .few-transitions) in
-    omega (arith, few, total-most (transitionLength W) (73 + (2 + W) * 8) _ each (c .transitions) (v .transitions))
+    omega (arith, few, sum-most (transitionLength W) (73 + (2 + W) * 8) _ each (c .transitions) (v .transitions))
 
-pub largest-file : (c : Chart) → Valid 2 c → length (fileOf c) ≤ 54286
+pub largest-file : (c : Chart) → Valid 2 c → length (fileOf c) ≤ largestFile
 unfolding fileOf
 largest-file c v = omega (arith, length-file 1 2 c, file-most 2 c v)

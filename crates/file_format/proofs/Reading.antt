@@ -1,8 +1,8 @@
--- What the definitions' readers find at a place of a list, in the terms that code has: an index, elements and a length. Assumes nothing.
+-- What the definitions' readers find at a place of a list, in the terms that code has: an index, elements and a length. Hard: a number that the
+-- list cuts off, since the cut may lie before its last byte: by induction over the width. Assumes nothing.
 use mathlib.Core.Path.{_≡_, _∙_}
 use mathlib.Core.Logic.{_⊎_, inl, inr}
-use mathlib.Core.Option.{some}
-use mathlib.Core.List.{List, [], _∷_}
+use mathlib.Core.List.{List}
 use Prim.Native.Nat.{ℕ, zero, suc, _+_, _*_, _≤_, _<_}
 use native.Mathlib.Nat.{zero-add, add-zero, zero-mul}
 use native.Mathlib.Numerals.{add-one}
@@ -10,7 +10,6 @@ use native.Mathlib.Omega.{arith}
 use lib.ListN.{length, getD, drop, drop-of-length-le}
 use lib.Seq.{drop-cons}
 use borrow.Author.Tests.{lt-ltb, le-ltb, le-leb, lt-leb}
-use Rattle.lists.specs.Rising.{All}
 use Rattle.lists.proofs.Bools.{lt-or-le}
 use Rattle.model.specs.Answer.{nowhere}
 use Rattle.file_format.specs.Parse.{value, refusal, byte, number, below, entry}
@@ -85,9 +84,3 @@ module _ (w limit n p : ℕ) (bs : List ℕ) where
     pub entry-low : x < lo → entry w limit n p lo bs ≡ refusal 7 p
     unfolding entry
     entry-low h = rw (e, lt-leb lo x h)
-
--- ---- a list is a list of bytes if its elements are
-
-pub bytes-all : (s : List ℕ) → ((i : ℕ) → i < length s → getD s i 0 < 256) → All (λ b. b < 256) s
-bytes-all [] h = tt
-bytes-all (b ∷ s) h = (h 0 (omega arith), bytes-all s (λ i l. h (suc i) (omega arith)))

@@ -1,5 +1,6 @@
 -- With which numbers and places reading refuses: a file with 1 to 8, a body with 3 to 8; 1, 2 and 3 have no place of their own, and the
--- others none or the number of a transition, which is below 512. Assumes nothing.
+-- others none or the number of a transition, which is below 512. Hard: that bound, which the header's limit on transitions gives to each item of
+-- the list. Assumes nothing.
 use mathlib.Core.Path.{_≡_, refl, subst}
 use mathlib.Core.Logic.{_⊎_, inl, inr, ⊎-map}
 use mathlib.Core.Bool.{Bool, true, false}
@@ -15,7 +16,8 @@ use Rattle.comparison.specs.Comparison.{comparisonOf}
 use Rattle.model.specs.Answer.{Answer, result, refused, then, unless, nowhere}
 use Rattle.model.specs.Chart.{Test, Transition}
 use Rattle.file_format.specs.Parse.{Parsed, value, refusal, bind, guard, byte, number, below, many, entry, rising}
-use Rattle.file_format.specs.Body.{known, readComparison, readTest, readTests, recordLength, readTransition, readTransitions, isEnd, FileHeader, readHeader, chartOf, readBody}
+use Rattle.file_format.specs.Body.{FileHeader, readHeader, chartOf, isEnd, readBody}
+use Rattle.file_format.specs.Body.{known, readComparison, readTest, readTests, recordLength, readTransition, readTransitions}
 use Rattle.file_format.specs.File.{Frame, readFrame, judgeFrame, answered, readFile, chartIn}
 use Rattle.file_format.specs.Refusals.{RefusalOfFile, RefusalOfBody}
 use Rattle.file_format.proofs.Parsed.{value-refused, same-value}
@@ -50,7 +52,8 @@ at-guard false r h = only r
 
 -- items: Left s n says that n items may be read from the state s on
 module _ {S A : Type 0} (next : S → A → S) (read : S → List ℕ → Parsed A) (Left : S → ℕ → Type 0)
-    (item : (s : S) (n : ℕ) (bs : List ℕ) → Left s (suc n) → Reads Some (read s bs)) (more : (s : S) (n : ℕ) (a : A) → Left s (suc n) → Left (next s a) n) where
+    (item : (s : S) (n : ℕ) (bs : List ℕ) → Left s (suc n) → Reads Some (read s bs))
+    (more : (s : S) (n : ℕ) (a : A) → Left s (suc n) → Left (next s a) n) where
   at-many : (s : S) (n : ℕ) (bs : List ℕ) → Left s n → Reads Some (many next read s n bs)
   unfolding many
   at-many s zero bs l = found [] bs tt
@@ -80,13 +83,16 @@ module _ (p : ℕ) (place : (p ≡ nowhere) ⊎ (p < 512)) where
 
   at-below : (w limit n : ℕ) → 4 ≤ n → n ≤ 8 → (bs : List ℕ) → Reads (λ x. x < limit) (below w limit n p bs)
   unfolding below
-  at-below w limit n h l bs = at-bind (number w bs) (at-number w bs) (λ x t _. at-guard (ltb x limit) (numbered n h l) (λ c. found x t (ltb-true x limit c)))
+  at-below w limit n h l bs =
+      at-bind (number w bs) (at-number w bs)
+      (λ x t _. at-guard (ltb x limit) (numbered n h l) (λ c. found x t (ltb-true x limit c)))
 
   at-rising : (w limit n k : ℕ) → 4 ≤ n → n ≤ 8 → (bs : List ℕ) → Reads Some (rising w limit n p k bs)
   unfolding rising entry
   at-rising w limit n k h l bs =
       at-many (λ (lo x : ℕ). suc x) (entry w limit n p) (λ lo k. Unit {0})
-      (λ lo k bs _. at-bind (below w limit n p bs) (at-below w limit n h l bs) (λ x t _. at-guard (leb lo x) (numbered 7 (omega arith) (omega arith)) (λ c. found x t tt)))
+      (λ lo k bs _. at-bind (below w limit n p bs) (at-below w limit n h l bs)
+      (λ x t _. at-guard (leb lo x) (numbered 7 (omega arith) (omega arith)) (λ c. found x t tt)))
       (λ lo k x _. tt) 0 k bs tt
 
 -- ---- the body

@@ -1,10 +1,10 @@
--- A reader and a writer that undo one another, and how such pairs are put together from those of their fields. Assumes nothing.
+-- A reader and a writer that undo one another, and how such pairs are put together from those of their fields. Hard: a field's limit may depend
+-- on fields before it, so each step carries what those say of the value. Assumes nothing.
 use mathlib.Core.Path.{_≡_, refl, sym, ap, _∙_, subst}
 use mathlib.Core.Bool.{Bool, true}
 use mathlib.Core.List.{List, [], _∷_, _++_, append-assoc}
-use Prim.Native.Nat.{ℕ, zero, suc, _<_}
+use Prim.Native.Nat.{ℕ, zero, suc}
 use lib.ListN.{length}
-use Rattle.lists.specs.Rising.{All}
 use Rattle.file_format.specs.Parse.{Parsed, value, bind, guard, many, writeAll, Bytes}
 use Rattle.file_format.proofs.Parsed.{bind-value, guard-value, same-value, same-rest}
 
@@ -77,7 +77,9 @@ module _ {S A : Type 0} (next : S → A → S) (P : S → A → Type 0) (Ps : S 
   many-reads : (s : S) (xs : List A) (t : List ℕ) → Ps s xs → many next r s (length xs) (writeAll w xs ++ t) ≡ value xs t
   unfolding many writeAll
   many-reads s [] t h = refl
-  many-reads s (a ∷ xs) t h = let i = first s a xs h in rw (append-assoc, item s .reads a (writeAll w xs ++ t) (i .0), many-reads (next s a) xs t (i .1))
+  many-reads s (a ∷ xs) t h =
+      let i = first s a xs h in
+      rw (append-assoc, item s .reads a (writeAll w xs ++ t) (i .0), many-reads (next s a) xs t (i .1))
 
   many-written : (s : S) (n : ℕ) (bs : List ℕ) (xs : List A) (t : List ℕ) → Bytes bs → many next r s n bs ≡ value xs t
       → ((length xs ≡ n) × Ps s xs) × (bs ≡ writeAll w xs ++ t)
@@ -90,7 +92,8 @@ module _ {S A : Type 0} (next : S → A → S) (P : S → A → Type 0) (Ps : S 
       let j′ = many-written (next s (i .0)) n (i .1) (i′ .0) (i′ .1) (bytes-rest (w (i .0)) (i .1) (subst Bytes (j .1) by)) (i′ .2) in
       cons (i .0) (i .1) (i′ .0) (i′ .1) j j′ (i′ .3)
     where
-      cons : (a : A) (u : List ℕ) (ys : List A) (v : List ℕ) → P s a × (bs ≡ w a ++ u) → ((length ys ≡ n) × Ps (next s a) ys) × (u ≡ writeAll w ys ++ v)
+      cons : (a : A) (u : List ℕ) (ys : List A) (v : List ℕ)
+          → P s a × (bs ≡ w a ++ u) → ((length ys ≡ n) × Ps (next s a) ys) × (u ≡ writeAll w ys ++ v)
           → value (a ∷ ys) v ≡ value xs t → ((length xs ≡ suc n) × Ps s xs) × (bs ≡ writeAll w xs ++ t)
       cons a u ys v h h′ e =
           let q : xs ≡ a ∷ ys = sym (same-value e) in

@@ -1,4 +1,5 @@
--- Tests and transitions are read and written so that each undoes the other, for constants of W bytes. Assumes nothing.
+-- Tests and transitions are read and written so that each undoes the other, for constants of W bytes. Hard: the length that stands in front of a
+-- transition is judged only once its starts and tests are counted. Assumes nothing.
 use mathlib.Core.Path.{_≡_, refl, ap}
 use mathlib.Core.List.{append-nil}
 use Prim.Native.Nat.{ℕ, suc, _+_, _*_, _^_, _≤_, _<_}
@@ -89,17 +90,26 @@ module _ (W locations timers : ℕ) (narrow : W ≤ 8) (few-locations : location
       (λ source p₂. field _ (λ (r : Transition). r .target) _ (below-trip 2 locations 5 i (omega arith))
       (λ target p₃. field _ (λ (r : Transition). r .event) _ (number-trip 1)
       (λ event p₄. field _ (λ (r : Transition). length (r .starts)) _ (below-trip 1 65 4 i (omega arith))
-      (λ s p₅. field-as _ (λ (r : Transition). r .starts) (λ r. Rising timers 0 (r .starts)) _ (λ r c p. p .1) (λ r c p. (c .1, p)) (rising-trip 1 timers 6 i s (omega arith))
+      (λ s p₅. field-as _ (λ (r : Transition). r .starts) (λ r. Rising timers 0 (r .starts)) _
+      (λ r c p. p .1) (λ r c p. (c .1, p)) (rising-trip 1 timers 6 i s (omega arith))
       (λ starts p₆. field _ (λ (r : Transition). length (r .tests)) _ (number-trip 1)
       (λ g p₇. condition _ {c = eqb len (recordLength W s g)} 3 nowhere (λ r. eqb (lengthOf W r) (lengthOf W r)) _ (λ r c. cc)
       (λ q. condition _ 4 i (λ r. leb (length (r .tests)) 8) _ (λ r c. ap (λ y. leb y 8) (c .1))
-      (λ q′. field-as _ (λ (r : Transition). r .tests) (λ r. All (ValidTest W timers) (r .tests)) _ (λ r c p. p .1) (λ r c p. (c .1, p)) (tests-trip W timers few-timers i g)
+      (λ q′. field-as _ (λ (r : Transition). r .tests) (λ r. All (ValidTest W timers) (r .tests)) _
+      (λ r c p. p .1) (λ r c p. (c .1, p)) (tests-trip W timers few-timers i g)
       (λ tests p₈. end _ (record { source = source; target = target; event = event; starts = starts; tests = tests })
       ((((((((tt, cc (eqb-true len (recordLength W s g) q)), refl), refl), refl), p₆ .0), refl), p₈ .0), refl)
-      (λ r c j. record { source = c .0 .0 .0 .0 .0 .0 .1 j; target = c .0 .0 .0 .0 .0 .1 j; event = c .0 .0 .0 .0 .1 j; starts = c .0 .0 .1 j; tests = c .1 j }))))))))))))
+      (λ r c j. record {
+        source = c .0 .0 .0 .0 .0 .0 .1 j;
+        target = c .0 .0 .0 .0 .0 .1 j;
+        event = c .0 .0 .0 .0 .1 j;
+        starts = c .0 .0 .1 j;
+        tests = c .1 j;
+      }))))))))))))
 
   pub transitions-trip : (n : ℕ)
-      → RoundTrip (λ rs. (length rs ≡ n) × All (ValidTransition W locations timers) rs) (writeAll (writeTransition W)) (readTransitions W locations timers n)
+      → RoundTrip (λ rs. (length rs ≡ n) × All (ValidTransition W locations timers) rs)
+      (writeAll (writeTransition W)) (readTransitions W locations timers n)
   unfolding readTransitions
   transitions-trip n =
       items (λ (i : ℕ) (r : Transition). suc i) (λ i. ValidTransition W locations timers) (λ i. All (ValidTransition W locations timers))

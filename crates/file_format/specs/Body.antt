@@ -17,6 +17,7 @@ abbrev pub known : (i : ℕ) → Option Comparison → List ℕ → Parsed Compa
 known i none t = refusal 8 i
 known i (some x) t = value x t
 
+-- a comparison by its code
 unfoldable pub readComparison : (i : ℕ) → List ℕ → Parsed Comparison
 readComparison i bs = bind (number 1 bs) (λ code t. known i (comparisonOf code) t)
 
@@ -28,6 +29,7 @@ readTest W timers i bs =
     bind (number W b₂) (λ constant b₃.
     value (record { timer = timer; comparison = comparison; constant = constant }) b₃)))
 
+-- g tests
 unfoldable pub readTests : (W timers i g : ℕ) → List ℕ → Parsed (List Test)
 readTests W timers i g bs = many (λ (s : ℕ) (t : Test). s) (readTest W timers) i g bs
 
@@ -50,9 +52,11 @@ readTransition W locations timers i bs =
     bind (readTests W timers i g b₇) (λ tests b₈.
     value (record { source = source; target = target; event = event; starts = starts; tests = tests }) b₈))))))))))
 
+-- n transitions, numbered from 0
 unfoldable pub readTransitions : (W locations timers n : ℕ) → List ℕ → Parsed (List Transition)
 readTransitions W locations timers n bs = many (λ i r. suc i) (readTransition W locations timers) 0 n bs
 
+-- nothing is left
 abbrev pub isEnd : List ℕ → Bool
 isEnd [] = true
 isEnd (b ∷ bs) = false
@@ -65,6 +69,7 @@ pub record FileHeader : Type 0 where
   pub accepting : List ℕ
   pub count : ℕ
 
+-- the header, each field with its refusal
 unfoldable pub readHeader : List ℕ → Parsed FileHeader
 readHeader bs =
     bind (below 2 257 4 nowhere bs) (λ locations b₁.
@@ -76,6 +81,7 @@ readHeader bs =
     bind (below 2 513 4 nowhere b₅) (λ count b₆.
     value (record { locations = locations; initial = initial; timers = timers; accepting = accepting; count = count }) b₆)))))))
 
+-- the chart of a header and its transitions
 unfoldable pub chartOf : FileHeader → List Transition → Chart
 chartOf h rs = record { locations = h .locations; initial = h .initial; timers = h .timers; accepting = h .accepting; transitions = rs }
 
@@ -89,9 +95,11 @@ readBody W bs =
 
 -- ---- the same written
 
+-- timer, code, constant
 unfoldable pub writeTest : (W : ℕ) → Test → List ℕ
 writeTest W t = digits 1 (t .timer) ++ (digits 1 (codeOf (t .comparison)) ++ digits W (t .constant))
 
+-- the length of the record, then its fields
 unfoldable pub writeTransition : (W : ℕ) → Transition → List ℕ
 writeTransition W r =
     digits 2 (recordLength W (length (r .starts)) (length (r .tests)))
@@ -103,6 +111,7 @@ writeTransition W r =
     ++ (digits 1 (length (r .tests))
     ++ writeAll (writeTest W) (r .tests)))))))
 
+-- the header with the number of transitions
 unfoldable pub writeHeader : Chart → List ℕ
 writeHeader c =
     digits 2 (c .locations)
@@ -112,5 +121,6 @@ writeHeader c =
     ++ (writeAll (digits 2) (c .accepting)
     ++ digits 2 (length (c .transitions))))))
 
+-- the header, then the transitions
 unfoldable pub writeBody : (W : ℕ) → Chart → List ℕ
 writeBody W c = writeHeader c ++ writeAll (writeTransition W) (c .transitions)

@@ -60,6 +60,7 @@ unfoldable pub digits : (w v : ℕ) → List ℕ
 digits zero v = []
 digits (suc w) v = digits w (v / 256) ++ (v % 256 ∷ [])
 
+-- the items one after another
 unfoldable pub writeAll : {A : Type 0} → (A → List ℕ) → List A → List ℕ
 writeAll w [] = []
 writeAll w (a ∷ xs) = w a ++ writeAll w xs

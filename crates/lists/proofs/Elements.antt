@@ -1,4 +1,5 @@
--- Elements by their places in joined and gathered lists, numbers that a gathered list has rising, and what is in a filtered list. Assumes nothing.
+-- Elements by their places in joined and gathered lists, numbers that a gathered list has rising, and what is in a filtered list. Hard: a
+-- gathered list grows at its end, so an element stands in the last part or, by induction, in the parts before it. Assumes nothing.
 use mathlib.Core.Path.{_≡_, refl, sym, ap, _∙_, subst}
 use mathlib.Core.Logic.{_⊎_, inl, inr}
 use mathlib.Core.Bool.{true}
@@ -89,26 +90,29 @@ module _ (f : ℕ → Option ℕ) where
   filter-in [] j k m e = absurd (memb-nil j m)
   filter-in (x ∷ l) j k m e = go (f x) refl (memb-cases j x l m) (λ (n : memb j l ≡ true). filter-in l j k n e)
     where
-      go : (o : Option ℕ) → f x ≡ o → (j ≡ x) ⊎ (memb j l ≡ true) → (memb j l ≡ true → memb k (filterMap f l) ≡ true) → memb k (filterMap f (x ∷ l)) ≡ true
+      go : (o : Option ℕ) → f x ≡ o → (j ≡ x) ⊎ (memb j l ≡ true) → (memb j l ≡ true → memb k (filterMap f l) ≡ true)
+          → memb k (filterMap f (x ∷ l)) ≡ true
       go none t (inl p) ih = absurd (Option·none-ne-some _ (sym t ∙ ap f (sym p) ∙ e))
       go none t (inr n) ih = rw (filterMap-cons-none f x l t) (ih n)
       go (some y) t (inl p) ih = rw (filterMap-cons-some f x l t) (memb-head k y (filterMap f l) (Option·some-injective _ _ (sym e ∙ ap f p ∙ t)))
       go (some y) t (inr n) ih = rw (filterMap-cons-some f x l t) (memb-tail k y (filterMap f l) (ih n))
+
+  -- an element of the list gives k
+  abbrev Gives : List ℕ → ℕ → Type 0
+  Gives l k = (j : ℕ) × (memb j l ≡ true) × (f j ≡ some k)
 
   pub filter-out : (l : List ℕ) (k : ℕ) → memb k (filterMap f l) ≡ true → (j : ℕ) × (memb j l ≡ true) × (f j ≡ some k)
   unfolding filterMap
   filter-out [] k m = absurd (memb-nil k m)
   filter-out (x ∷ l) k m = go (f x) refl (filter-out l k)
     where
-      more : (j : ℕ) × (memb j l ≡ true) × (f j ≡ some k) → (j : ℕ) × (memb j (x ∷ l) ≡ true) × (f j ≡ some k)
+      more : Gives l k → Gives (x ∷ l) k
       more r = (r .0, memb-tail (r .0) x l (r .1), r .2)
 
-      here : (y : ℕ) → f x ≡ some y → (k ≡ y) ⊎ (memb k (filterMap f l) ≡ true) → (memb k (filterMap f l) ≡ true → (j : ℕ) × (memb j l ≡ true) × (f j ≡ some k))
-          → (j : ℕ) × (memb j (x ∷ l) ≡ true) × (f j ≡ some k)
+      here : (y : ℕ) → f x ≡ some y → (k ≡ y) ⊎ (memb k (filterMap f l) ≡ true) → (memb k (filterMap f l) ≡ true → Gives l k) → Gives (x ∷ l) k
       here y t (inl e) ih = (x, memb-head x x l refl, t ∙ ap some (sym e))
       here y t (inr n) ih = more (ih n)
 
-      go : (o : Option ℕ) → f x ≡ o → (memb k (filterMap f l) ≡ true → (j : ℕ) × (memb j l ≡ true) × (f j ≡ some k))
-          → (j : ℕ) × (memb j (x ∷ l) ≡ true) × (f j ≡ some k)
+      go : (o : Option ℕ) → f x ≡ o → (memb k (filterMap f l) ≡ true → Gives l k) → Gives (x ∷ l) k
       go none t ih = more (ih (rw (filterMap-cons-none f x l t) at m))
       go (some y) t ih = here y t (memb-cases k y (filterMap f l) (rw (filterMap-cons-some f x l t) at m)) ih

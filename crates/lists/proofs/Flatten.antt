@@ -1,4 +1,5 @@
--- Gathered lists: of a sum of numbers, of lists that are empty from a bound on, and of rows of 64 as one. Assumes nothing.
+-- Gathered lists: of a sum of numbers, of lists that are empty from a bound on, and of rows of 64 as one. Hard: the rows as one list, whose
+-- place x is row x / 64 and column x % 64. Assumes nothing.
 use mathlib.Core.Path.{_≡_, refl, sym, ap, ap₂, _∙_}
 use mathlib.Core.List.{List, [], _++_, append-nil, append-assoc}
 use Prim.Native.Nat.{ℕ, zero, suc, _+_, _-_, _*_, _/_, _%_, _≤_, _<_}
@@ -15,7 +16,9 @@ module _ {A : Type 0} where
   gather-sum : (f : ℕ → List A) (m n : ℕ) → gather f (m + n) ≡ gather f m ++ gather (λ i. f (m + i)) n
   unfolding gather
   gather-sum f m zero = rw add-zero (sym (append-nil _))
-  gather-sum f m (suc n) = rw add-suc (ap (λ (l : List A). l ++ f (m + n)) (gather-sum f m n) ∙ append-assoc (gather f m) (gather (λ i. f (m + i)) n) (f (m + n)))
+  gather-sum f m (suc n) =
+      let last = append-assoc (gather f m) (gather (λ i. f (m + i)) n) (f (m + n)) in
+      rw add-suc (ap (λ (l : List A). l ++ f (m + n)) (gather-sum f m n) ∙ last)
 
   gather-empty : (f : ℕ → List A) (n : ℕ) → ((i : ℕ) → f i ≡ []) → gather f n ≡ []
   unfolding gather

@@ -1,4 +1,5 @@
--- Lists made of what the numbers below n give. Assumes nothing.
+-- Lists made of what the numbers below n give: their lengths and entries, which numbers pass, and that these rise. Hard: the lists grow at their
+-- end, so each law tells the last number from those before it. Assumes nothing.
 use mathlib.Core.Path.{_≡_, refl, sym, ap, _∙_}
 use mathlib.Core.Logic.{_⊎_, inl, inr}
 use mathlib.Core.Bool.{Bool, true, false, _||_}
@@ -42,7 +43,8 @@ module _ (f : ℕ → Bool) where
       last : k ≡ n → memb k (elim (f n) [ true ↦ n ∷ [] | false ↦ [] ]) ≡ true
       last e = rw (ap f (sym e) ∙ t) (memb-head k n [] e)
 
-      go : Dec (k ≡ n) → (k < n → f k ≡ true → memb k (pick f n) ≡ true) → (memb k (pick f n) || memb k (elim (f n) [ true ↦ n ∷ [] | false ↦ [] ])) ≡ true
+      go : Dec (k ≡ n) → (k < n → f k ≡ true → memb k (pick f n) ≡ true)
+          → (memb k (pick f n) || memb k (elim (f n) [ true ↦ n ∷ [] | false ↦ [] ])) ≡ true
       go (yes e) ih = or-right (memb k (pick f n)) (last e)
       go (no ne) ih = or-left (memb k (elim (f n) [ true ↦ n ∷ [] | false ↦ [] ])) (ih (omega arith) t)
 

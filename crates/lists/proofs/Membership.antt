@@ -1,4 +1,5 @@
--- What is in a list, and which elements pass. Assumes nothing.
+-- What is in a list, which elements pass, the first that does, and the largest. Hard: only the first that passes, whose place depends on whether
+-- the head passes; the rest are inductions along the list. Assumes nothing.
 use mathlib.Core.Path.{_≡_, refl, sym, ap, _∙_}
 use mathlib.Core.Logic.{_⊎_, inl, inr}
 use mathlib.Core.Bool.{Bool, true, false, _||_, true≢false}
@@ -10,7 +11,7 @@ use lib.Dec.{eqb}
 use lib.ListN.{length, getElem?}
 use borrow.Author.Tests.{eq-eqb}
 use Rattle.lists.specs.Lists.{memb, anyOf, firstOf, top}
-use Rattle.lists.proofs.Bools.{or-cases, or-left, or-right, same-number}
+use Rattle.lists.proofs.Bools.{or-cases, or-left, or-right, same-number, lt-or-le}
 
 pub memb-cases : (k x : ℕ) (xs : List ℕ) → memb k (x ∷ xs) ≡ true → (k ≡ x) ⊎ (memb k xs ≡ true)
 unfolding memb
@@ -60,16 +61,7 @@ module _ {A : Type 0} (f : A → Bool) where
       go (inl e) k = (0, x, refl, e)
       go (inr m) k = let y = k m in (suc (y .0), y .1, y .2, y .3)
 
-  -- the place of the first that passes: a place of the list, or its length; it passes there, and nowhere before
-  pub first-le : (l : List A) → firstOf f l ≤ length l
-  unfolding firstOf
-  first-le [] = omega arith
-  first-le (x ∷ l) = go (f x) refl (first-le l)
-    where
-      go : (b : Bool) → f x ≡ b → firstOf f l ≤ length l → firstOf f (x ∷ l) ≤ suc (length l)
-      go true e h = rw (e, firstOf) (omega arith)
-      go false e h = rw (e, firstOf) (omega arith)
-
+  -- the first that passes: where there is one, it passes at its place, and nothing before it does
   pub first-passes : (l : List A) → firstOf f l < length l → (a : A) × (getElem? l (firstOf f l) ≡ some a) × (f a ≡ true)
   unfolding firstOf
   first-passes [] h = absurd (omega arith)
@@ -127,7 +119,7 @@ top-above (x ∷ l) k m = go (memb-cases k x l m) (top-above l k)
 pub top-below : (l : List ℕ) (k : ℕ) → k < top l → (x : ℕ) × (memb x l ≡ true) × (k ≤ x)
 unfolding top
 top-below [] k h = absurd (omega arith)
-top-below (x ∷ l) k h = go (Rattle.lists.proofs.Bools.lt-or-le k (suc x)) (top-below l k)
+top-below (x ∷ l) k h = go (lt-or-le k (suc x)) (top-below l k)
   where
     go : (k < suc x) ⊎ (suc x ≤ k) → (k < top l → (x : ℕ) × (memb x l ≡ true) × (k ≤ x)) → (y : ℕ) × (memb y (x ∷ l) ≡ true) × (k ≤ y)
     go (inl b) f = (x, memb-head x x l refl, omega arith)

@@ -1,4 +1,5 @@
--- Elements by their places, in lists by numbers and in mapped lists, and a list that a loop writes from the front. Assumes nothing.
+-- Elements by their places, in lists by numbers and in mapped lists, and a list that a loop writes from the front. Hard: that a list by numbers
+-- is a mapped one, since the one grows at its end and the other at its front: they are compared place by place. Assumes nothing.
 use mathlib.Core.Path.{_≡_, refl, sym, _∙_}
 use mathlib.Core.Option.{some, Option·some-injective, Option·none-ne-some}
 use mathlib.Core.List.{List, [], _∷_, map}
@@ -32,15 +33,16 @@ module _ {A : Type 0} where
   getD-map f l i e = getD-nth (map f l) i 0 (nth-map f l i e)
 
   -- a list by numbers is a mapped list, if each element is what its place gives
-  pub upTo-map : {B : Type 0} (d : B) (f : ℕ → B) (g : A → B) (l : List A) (n : ℕ) → n ≡ length l → ((i : ℕ) (a : A) → getElem? l i ≡ some a → f i ≡ g a)
-      → upTo f n ≡ map g l
+  pub upTo-map : {B : Type 0} (d : B) (f : ℕ → B) (g : A → B) (l : List A) (n : ℕ) → n ≡ length l
+      → ((i : ℕ) (a : A) → getElem? l i ≡ some a → f i ≡ g a) → upTo f n ≡ map g l
   upTo-map d f g l n e each = ext-getD d (upTo f n) (map g l) (length-upTo f n ∙ e ∙ sym (length-map l g)) (λ i h.
       let b : i < n = omega (arith, length-upTo f n) in
       let x = nth-below l i (omega arith) in
       getD-upTo f n i d b ∙ each i (x .0) (x .1) ∙ sym (getD-nth (map g l) i d (nth-map g l i (x .1))))
 
 -- an entry more
-pub filled-more : (f : ℕ → ℕ) (l : List ℕ) (x : ℕ) → x < length l → ((k : ℕ) → k < x → getD l k 0 ≡ f k) → (k : ℕ) → k < x + 1 → getD (set l x (f x)) k 0 ≡ f k
+pub filled-more : (f : ℕ → ℕ) (l : List ℕ) (x : ℕ) → x < length l → ((k : ℕ) → k < x → getD l k 0 ≡ f k)
+    → (k : ℕ) → k < x + 1 → getD (set l x (f x)) k 0 ≡ f k
 filled-more f l x h below k lt = go (ℕ-discrete k x)
   where
     go : Dec (k ≡ x) → getD (set l x (f x)) k 0 ≡ f k

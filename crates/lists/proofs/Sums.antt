@@ -1,13 +1,15 @@
--- The sum of a list: of one with another entry, of one that is nowhere higher, of words. Assumes nothing.
+-- The sum of a list: of one with another entry, of one that is nowhere higher, of words, and of what elements give. Hard: a list that is nowhere
+-- higher and differs has a smaller sum, by cases at its head. Assumes nothing.
 use mathlib.Core.Path.{_≡_, refl, sym, ap, ap₂}
 use mathlib.Core.Logic.{_⊎_, inl, inr}
-use mathlib.Core.List.{List, [], _∷_}
+use mathlib.Core.List.{List, [], _∷_, map}
 use Prim.Native.Nat.{ℕ, zero, suc, _+_, _*_, _^_, _≤_, _<_}
-use native.Mathlib.Nat.{suc-inj, suc-ne-zero}
+use native.Mathlib.Nat.{suc-inj, suc-ne-zero, mul-suc}
 use native.Mathlib.Decide.{ℕ-discrete}
 use native.Mathlib.Omega.{arith}
 use lib.ListN.{length, getD, set}
 use Rattle.lists.specs.Lists.{sumOf}
+use Rattle.lists.specs.Rising.{All}
 
 pub sum-set : (l : List ℕ) (q v : ℕ) → q < length l → sumOf (set l q v) + getD l q 0 ≡ sumOf l + v
 unfolding sumOf
@@ -36,3 +38,18 @@ pub sum-small : (l : List ℕ) → ((x : ℕ) → getD l x 0 < 2 ^ 64) → sumOf
 unfolding sumOf
 sum-small [] h = omega arith
 sum-small (x ∷ xs) h = let first : x < 2 ^ 64 = h 0 in omega (arith, first, sum-small xs (λ i. h (suc i)))
+
+-- ---- the sum of what the elements give
+
+module _ {A : Type 0} (f : A → ℕ) where
+  -- n for each element
+  pub sum-same : (n : ℕ) → ((a : A) → f a ≡ n) → (xs : List A) → sumOf (map f xs) ≡ n * length xs
+  unfolding sumOf
+  sum-same n h [] = omega arith
+  sum-same n h (a ∷ xs) = rw mul-suc (omega (arith, h a, sum-same n h xs))
+
+  -- at most n for each element
+  pub sum-most : (n : ℕ) (P : A → Type 0) → ((a : A) → P a → f a ≤ n) → (xs : List A) → All P xs → sumOf (map f xs) ≤ n * length xs
+  unfolding sumOf
+  sum-most n P h [] p = omega arith
+  sum-most n P h (a ∷ xs) p = rw mul-suc (omega (arith, h a (p .0), sum-most n P h xs (p .1)))

@@ -42,6 +42,7 @@ unfoldable pub top : List ℕ → ℕ
 top [] = 0
 top (x ∷ xs) = max (suc x) (top xs)
 
+-- the sum of the list; of what the elements of xs give it is sumOf (map f xs)
 unfoldable pub sumOf : List ℕ → ℕ
 sumOf [] = 0
 sumOf (x ∷ xs) = x + sumOf xs

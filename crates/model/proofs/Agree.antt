@@ -1,4 +1,5 @@
--- What the states of a chart and of the rewritten chart have in common during a run, and that one step keeps it. Assumes nothing.
+-- What the states of a chart and of the rewritten chart have in common during a run, and that one step keeps it. Hard: the counts after a step:
+-- a board timer is started exactly if the timer is that has its number at the target, also where timers share a number. Assumes nothing.
 use mathlib.Core.Path.{_≡_, refl, sym, ap, ap₂, _∙_}
 use mathlib.Core.Logic.{_⊎_, inl, inr}
 use mathlib.Core.Bool.{Bool, true, false}
@@ -12,7 +13,7 @@ use Rattle.lists.proofs.Bools.{yes-or-no, not-both, is-no, same-number}
 use Rattle.model.specs.Chart.{Transition, Chart, Nth}
 use Rattle.model.specs.Run.{Counts, State, Step, grown, restarted, after, enabled, attempt, begin}
 use Rattle.model.specs.Path.{Reached}
-use Rattle.model.specs.Rewrite.{Numbering, newTests, newStarts, newTransition, rewrittenBy}
+use Rattle.model.specs.Rewrite.{Numbering, newStarts, newTransition, rewrittenBy}
 use Rattle.model.specs.Plan.{Has, Plan, Numbered}
 use Rattle.model.specs.Equivalence.{Starts}
 use Rattle.model.proofs.Answers.{Matching, match-unless}
@@ -41,12 +42,6 @@ module _ {c : Chart} {N : Numbering} where
   pub agree-weaken : {S S′ : ℕ → Type 0} → ((k : ℕ) → S k → S′ k) → (s s′ : State) → Agree c N S s s′ → Agree c N S′ s s′
   agree-weaken f s s′ a =
       record { location = a .location; time = a .time; reached = a .reached; shows = a .shows; started = λ j k h. f k (a .started j k h) }
-
-  -- the counts of board timers that carry no number at the present location may change
-  pub idle : {S : ℕ → Type 0} {s s′ : State} → Agree c N S s s′ → (w : Counts) → ((j k : ℕ) → Has N (s .location) j k → s′ .counts k ≡ w k)
-      → Agree c N S s (record { location = s′ .location; time = s′ .time; counts = w })
-  idle a w e =
-      record { location = a .location; time = a .time; reached = a .reached; shows = λ j k h. a .shows j k h ∙ e j k h; started = a .started }
 
 module _ (c : Chart) (N : Numbering) (P : Plan c N) where
   pub agree-begin : (v w : Counts) → Agree c N (λ k. ⊥) (begin c v) (begin (rewrittenBy N c) w)

@@ -1,19 +1,19 @@
--- Answers: two of them that match, and which refusal numbers they can hold. Assumes nothing.
-use mathlib.Core.Path.{_≡_, refl, sym, ap₂, subst}
+-- Answers: two of them that match, and which refusal numbers they can hold. Nothing is hard: all by cases. Assumes nothing.
+use mathlib.Core.Path.{_≡_, refl, ap₂}
 use mathlib.Core.Bool.{Bool, true, false}
 use mathlib.Core.List.{List}
 use Prim.Native.Nat.{ℕ}
+use native.Mathlib.Omega.{arith}
 use Rattle.lists.specs.Lists.{memb}
 use Rattle.model.specs.Answer.{Answer, result, refused, then, unless}
 
 module _ {A : Type 0} where
-  IsResult : Answer A → Type 0
-  IsResult (result a) = Unit {0}
-  IsResult (refused n p) = ⊥
+  -- a result is no refusal
+  pub result-refused : {x : Answer A} {a : A} {n p : ℕ} → x ≡ result a → x ≡ refused n p → ⊥
+  result-refused e f = let z : _≡_ {A = ℕ} 0 1 = cc in omega arith
 
   pub not-result : {a : A} {n p : ℕ} → refused n p ≡ result a → ⊥
-  unfolding IsResult
-  not-result e = subst IsResult (sym e) tt
+  not-result e = result-refused e refl
 
   pub result-same : {a b : A} → result a ≡ result b → a ≡ b
   result-same e = cc
@@ -21,10 +21,10 @@ module _ {A : Type 0} where
   pub refused-same : {n n′ p p′ : ℕ} → _≡_ {A = Answer A} (refused n p) (refused n′ p′) → (n ≡ n′) × (p ≡ p′)
   refused-same e = (cc, cc)
 
-  -- a result passed the test
-  pub unless-passed : (b : Bool) (n p : ℕ) (x : Answer A) {a : A} → unless b n p x ≡ result a → (b ≡ true) × (x ≡ result a)
-  unless-passed true n p x e = (refl, e)
-  unless-passed false n p x e = absurd (not-result e)
+  -- where there is a result, the condition holds
+  pub unless-result : (b : Bool) (n p : ℕ) (x : Answer A) {a : A} → unless b n p x ≡ result a → (b ≡ true) × (x ≡ result a)
+  unless-result true n p x e = (refl, e)
+  unless-result false n p x e = absurd (not-result e)
 
 -- ---- two answers match: results that R relates, or the same refusal
 

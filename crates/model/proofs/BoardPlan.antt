@@ -1,5 +1,6 @@
 -- A chart's pairs are well formed, so its board numbers are a plan; each transition of the rewritten chart starts the numbers of the timers born
--- on it; and 20 is given exactly where more than K numbers are used. Assumes nothing.
+-- on it; and 20 is given exactly where more than K numbers are used. Hard: that a timer keeps its number over a transition that does not start it:
+-- it is live at both ends, so the transition links the two pairs. Assumes nothing.
 use mathlib.Core.Path.{_≡_, refl, sym, ap, _∙_, subst}
 use mathlib.Core.Logic.{inl, _↔_}
 use mathlib.Core.Bool.{true, false, not, _&&_}
@@ -87,8 +88,8 @@ module _ {W : ℕ} {c : Chart} (valid : Valid W c) where
 
   pub board-plan : ((i : ℕ) (r : Transition) → Nth c i r → UnstartedTest c r → ⊥) → Plan c (numbering (board c))
   unfolding numbering board
-  board-plan sure = record {
-    begins = λ j k e. let u = live-unstarted (number-live (c .initial) j k e) in sure _ (u .transition) (u .is-nth) (u .test);
+  board-plan started = record {
+    begins = λ j k e. let u = live-unstarted (number-live (c .initial) j k e) in started _ (u .transition) (u .is-nth) (u .test);
     reads = λ q j x r. live-number q j (live-here r);
     keeps = λ i r j k n x f e.
         let l = number-live (r .target) j k e in
@@ -105,7 +106,9 @@ module _ {W : ℕ} {c : Chart} (valid : Valid W c) where
     λ m.
         let x = filter-out (numberAt (board c) (r .target)) (r .starts) k (pick-out _ (usedBy (board c)) k m .1) in
         (x .0, record { started = x .1; active = number-live (r .target) (x .0) k (x .2) }, x .2),
-    λ x. pick-in _ (usedBy (board c)) k (number-below (r .target) (x .0) (board c) k (x .2)) (filter-in (numberAt (board c) (r .target)) (r .starts) (x .0) k (x .1 .started) (x .2)),
+    λ x.
+        let below = number-below (r .target) (x .0) (board c) k (x .2) in
+        pick-in _ (usedBy (board c)) k below (filter-in (numberAt (board c) (r .target)) (r .starts) (x .0) k (x .1 .started) (x .2)),
   )
 
 -- 20: all K numbers are held exactly where more than K are used

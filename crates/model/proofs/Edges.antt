@@ -1,4 +1,5 @@
--- What a round makes of the sets before it, edge by edge, as a loop over the edges goes. Assumes nothing.
+-- What a round makes of the sets before it, edge by edge, as a loop over the edges goes. Hard: the definition takes location by location, the
+-- loop edge by edge: the sets after the first i edges are compared place by place. Assumes nothing.
 use mathlib.Core.Path.{_≡_, refl, sym, ap, _∙_}
 use mathlib.Core.Bool.{Bool, true, false}
 use mathlib.Core.Option.{some, Option·some-injective, Option·none-ne-some}
@@ -61,7 +62,9 @@ module _ (f : Flow) (before : List ℕ) where
       → roundTo f before (suc i) ≡ set (roundTo f before i) (e .into) (joined (getD (roundTo f before i) (e .into) 0) (brings before e))
   roundTo-step i e n =
       ext-getD 0 (roundTo f before (suc i)) _ (length-roundTo (suc i) ∙ sym (length-set (roundTo f before i) _ _ ∙ length-roundTo i))
-      (λ q h. let l : q < f .locations = omega (arith, length-roundTo (suc i)) in getD-roundTo (suc i) q l ∙ made-as-loop q i e n ∙ at q l (ℕ-discrete q (e .into)))
+      (λ q h.
+      let l : q < f .locations = omega (arith, length-roundTo (suc i)) in
+      getD-roundTo (suc i) q l ∙ made-as-loop q i e n ∙ at q l (ℕ-discrete q (e .into)))
     where
       at : (q : ℕ) → q < f .locations → Dec (q ≡ e .into)
           → withEdge before q (withEdges before q (f .own q) (take i (f .edges))) e

@@ -1,5 +1,5 @@
 -- Demand 3 on charts, with nothing left open: a valid chart that is rewritten and what the rewriting returns behave alike, and the player
--- answers alike for both. Assumes nothing.
+-- answers alike for both. Nothing is hard here: the parts are put together. Assumes nothing.
 use mathlib.Core.Path.{_≡_}
 use mathlib.Core.Logic.{⊎-elim}
 use mathlib.Core.Bool.{false}
@@ -49,7 +49,9 @@ module _ (W K : ℕ) (c : Chart) (valid : Valid W c) (x : Rewriting) (made : rew
   pub rewriting-judged : judged (x .chart) ≡ result (x .chart)
   rewriting-judged =
       let e = equal-behaviour in
-      rw (e .chart) (rewritten-judged W c (numbering (board c)) plan valid (omega (arith, e .used, e .fits, e .limit)) (rewriting-is K c x made .accepted))
+      let few : numbering (board c) .used ≤ 64 = omega (arith, e .used, e .fits, e .limit) in
+      rw (e .chart) (rewritten-judged W c (numbering (board c)) plan valid few (rewriting-is K c x made .accepted))
 
-  pub equal-answers : (v w : List ℕ) → CountsAllowed c v → CountsAllowed (x .chart) w → (is ts : List ℕ) → played c v is ts ≡ played (x .chart) w is ts
+  pub equal-answers : (v w : List ℕ) → CountsAllowed c v → CountsAllowed (x .chart) w → (is ts : List ℕ)
+      → played c v is ts ≡ played (x .chart) w is ts
   equal-answers = rewriting-played K c plan fits x made rewriting-judged

@@ -1,4 +1,5 @@
--- For every plan a chart and its rewritten chart have equal runs (demand 3 on charts). Assumes nothing.
+-- For every plan a chart and its rewritten chart have equal runs (demand 3 on charts). Hard: along a list of steps the invariant also says which
+-- board timers were started earlier in it, since a test may read only those. Assumes nothing.
 use mathlib.Core.Path.{_≡_, refl, sym, ap, ap₂, _∙_}
 use mathlib.Core.Logic.{_⊎_, inl, inr, _↔_}
 use mathlib.Core.Bool.{Bool}
@@ -9,7 +10,8 @@ use lib.ListN.{getElem?}
 use Rattle.lists.specs.Lists.{memb}
 use Rattle.model.specs.Answer.{Answer, result}
 use Rattle.model.specs.Chart.{Test, Transition, Chart, Nth}
-use Rattle.model.specs.Run.{Counts, State, Step, Run, EndsAccepting, grown, attempt, steps, begin, outcome, everyTime, playerTime, accepts, waited}
+use Rattle.model.specs.Run.{Counts, State, Step, Run, EndsAccepting, grown, accepts, waited}
+use Rattle.model.specs.Run.{attempt, steps, begin, outcome, everyTime, playerTime}
 use Rattle.model.specs.Rewrite.{Numbering, newTransition, rewrittenBy}
 use Rattle.model.specs.Plan.{Plan}
 use Rattle.model.specs.Player.{Arrival, arrival, answerOf}
@@ -31,8 +33,10 @@ module _ (c : Chart) (N : Numbering) (P : Plan c N) where
   steps-alike allowed (e ∷ es) n S s s′ a =
       match-then (Agree c N (λ k. S k ⊎ Starts c′ k e)) (Agree c N (λ k. S k ⊎ StartedIn c′ k (e ∷ es)))
       (attempt allowed c n s e) (attempt allowed c′ n s′ e) (λ t. steps allowed c (suc n) t es) (λ t. steps allowed c′ (suc n) t es)
-      (λ t t′ b. match-weaken (Agree c N (λ k. (S k ⊎ Starts c′ k e) ⊎ StartedIn c′ k es)) _ (steps allowed c (suc n) t es) (steps allowed c′ (suc n) t′ es)
-      (agree-weaken regroup) (steps-alike allowed es (suc n) (λ k. S k ⊎ Starts c′ k e) t t′ b))
+      (λ t t′ b.
+      match-weaken (Agree c N (λ k. (S k ⊎ Starts c′ k e) ⊎ StartedIn c′ k es)) _
+      (steps allowed c (suc n) t es) (steps allowed c′ (suc n) t′ es) (agree-weaken regroup)
+      (steps-alike allowed es (suc n) (λ k. S k ⊎ Starts c′ k e) t t′ b))
       (attempt-alike c N P allowed n a e)
     where
       regroup : (k : ℕ) → (S k ⊎ Starts c′ k e) ⊎ StartedIn c′ k es → S k ⊎ (Starts c′ k e ⊎ StartedIn c′ k es)

@@ -1,5 +1,5 @@
 -- The family computed of a pair is the family by chains of links: its locations, its number, the same for each of its pairs, and which ones meet.
--- Assumes nothing.
+-- Hard: that all pairs of a family compute the same one: their rising lists of locations have the same elements. Assumes nothing.
 use mathlib.Core.Path.{_≡_, refl, sym, _∙_}
 use mathlib.Core.Logic.{_↔_}
 use mathlib.Core.Bool.{true}

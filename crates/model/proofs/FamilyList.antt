@@ -1,9 +1,9 @@
 -- The list of all families: each pair's family stands in it, each of its elements is the family of a pair, and their numbers rise strictly, so
--- that each family stands once. Assumes nothing.
+-- that each family stands once. Hard: the numbers rise over two nested loops, within a location and from one to the next. Assumes nothing.
 use mathlib.Core.Path.{_≡_, refl, sym, ap, ap₂, _∙_, subst}
 use mathlib.Core.Bool.{Bool, true, false}
 use mathlib.Core.Option.{some, Option·none-ne-some, Option·some-injective}
-use mathlib.Core.List.{[], _∷_, map}
+use mathlib.Core.List.{List, [], _∷_, map}
 use Prim.Native.Nat.{ℕ, zero, suc, _+_, _*_}
 use native.Mathlib.Omega.{arith}
 use lib.Dec.{eqb}
@@ -20,6 +20,10 @@ use Rattle.model.proofs.Joined.{joined-pair}
 use Rattle.model.proofs.Families.{family-timer, first-joined, family-same}
 
 module _ (p : Pairs) (q j : ℕ) where
+  -- the pair's family, or none
+  abbrev familyIf : Bool → List Family
+  familyIf b = elim b [ true ↦ familyOf p q j ∷ [] | false ↦ [] ]
+
   from-in : isPair p q j ≡ true → familyOf p q j .first ≡ q → Element (familyFrom p q j) (familyOf p q j)
   unfolding familyFrom
   from-in pair e = rw (pair, familyFrom) (rw (eq-eqb _ q e) (record { place = 0; is-nth = refl }))
@@ -39,13 +43,12 @@ module _ (p : Pairs) (q j : ℕ) where
           record { pair = rw first (rw timer pair); whole = sym e ∙ ap₂ (familyOf p) (sym first) (sym timer) }
 
       low : (b : Bool) → eqb (familyOf p q j .first) q ≡ b → isPair p q j ≡ true
-          → getElem? (elim b [ true ↦ familyOf p q j ∷ [] | false ↦ [] ]) i ≡ some f → FamilyOfPair p f
+          → getElem? (familyIf b) i ≡ some f → FamilyOfPair p f
       low true u t h = this t (same-number u) (one i h)
       low false u t h = absurd (Option·none-ne-some _ h)
 
       go : (b : Bool) → isPair p q j ≡ b
-          → getElem? (elim b [ false ↦ [] | true ↦ elim (eqb (familyOf p q j .first) q) [ true ↦ familyOf p q j ∷ [] | false ↦ [] ] ]) i ≡ some f
-          → FamilyOfPair p f
+          → getElem? (elim b [ false ↦ [] | true ↦ familyIf (eqb (familyOf p q j .first) q) ]) i ≡ some f → FamilyOfPair p f
       go true t h = low (eqb (familyOf p q j .first) q) refl t h
       go false t h = absurd (Option·none-ne-some _ h)
 
@@ -53,11 +56,12 @@ module _ (p : Pairs) (q j : ℕ) where
   unfolding familyFrom familyNumber
   from-rising = go (isPair p q j)
     where
-      low : (b : Bool) → eqb (familyOf p q j .first) q ≡ b → Rising (64 * q + suc j) (64 * q + j) (map familyNumber (elim b [ true ↦ familyOf p q j ∷ [] | false ↦ [] ]))
+      low : (b : Bool) → eqb (familyOf p q j .first) q ≡ b → Rising (64 * q + suc j) (64 * q + j) (map familyNumber (familyIf b))
       low true u = let e : familyOf p q j .first ≡ q = same-number u in let t = family-timer p q j in ((omega arith, omega arith), tt)
       low false u = tt
 
-      go : (b : Bool) → Rising (64 * q + suc j) (64 * q + j) (map familyNumber (elim b [ false ↦ [] | true ↦ elim (eqb (familyOf p q j .first) q) [ true ↦ familyOf p q j ∷ [] | false ↦ [] ] ]))
+      go : (b : Bool)
+          → Rising (64 * q + suc j) (64 * q + j) (map familyNumber (elim b [ false ↦ [] | true ↦ familyIf (eqb (familyOf p q j .first) q) ]))
       go true = low (eqb (familyOf p q j .first) q) refl
       go false = tt
 
@@ -82,7 +86,8 @@ module _ {p : Pairs} (formed : WellFormed p) where
 
   pub families-rising : Rising (64 * p .locations) 0 (map familyNumber (families p))
   unfolding families
-  families-rising = gather-rising (λ q. gather (λ j. familyFrom p q j) (p .timers)) familyNumber (λ (q : ℕ). 64 * q) (λ q. omega arith) row (p .locations) .1
+  families-rising =
+      gather-rising (λ q. gather (λ j. familyFrom p q j) (p .timers)) familyNumber (λ (q : ℕ). 64 * q) (λ q. omega arith) row (p .locations) .1
     where
       row : (q : ℕ) → Rising (64 * suc q) (64 * q) (map familyNumber (gather (λ j. familyFrom p q j) (p .timers)))
       row q =

@@ -1,5 +1,5 @@
 -- First fit over any list of families: the rule in the document's words, how many numbers are used, and refusal 20 ("Live, born, family,
--- board number"). Assumes nothing.
+-- board number"). Hard: 20: all K numbers are held for a family exactly where the number that it is given is K or more. Assumes nothing.
 use mathlib.Core.Path.{_≡_, refl, sym, ap, _∙_, subst}
 use mathlib.Core.Logic.{_⊎_, inl, inr, _↔_}
 use mathlib.Core.Bool.{Bool, true, false, not, _||_, true≢false}
@@ -55,7 +55,8 @@ module _ (f : Family) where
   held-out k [] m = absurd (memb-nil k m)
   held-out k (h ∷ ps) m = go (meets f (h .family)) refl (held-out k ps)
     where
-      here : meets f (h .family) ≡ true → (k ≡ h .number) ⊎ (memb k (held f ps) ≡ true) → (memb k (held f ps) ≡ true → HeldBy f k ps) → HeldBy f k (h ∷ ps)
+      here : meets f (h .family) ≡ true → (k ≡ h .number) ⊎ (memb k (held f ps) ≡ true) → (memb k (held f ps) ≡ true → HeldBy f k ps)
+          → HeldBy f k (h ∷ ps)
       here t (inl e) ih = record { place = 0; holder = h; is-nth = refl; met = t; number = sym e }
       here t (inr n) ih = later (ih n)
 
@@ -88,7 +89,8 @@ first-fit-rule fs = record {
       (free-least (held (g .family) earlier) k (subst (λ (x : ℕ). k < x) (number later g earlier e) l));
 }
   where
-    number : (later : List Placed) (g : Placed) (earlier : List Placed) → place fs [] ≡ later ++ (g ∷ earlier) → g .number ≡ free (held (g .family) earlier)
+    number : (later : List Placed) (g : Placed) (earlier : List Placed) → place fs [] ≡ later ++ (g ∷ earlier)
+        → g .number ≡ free (held (g .family) earlier)
     number later g earlier e = fitted-at later g earlier (subst (λ (x : List Placed). Fitted x) e (place-fitted fs [] tt))
 
 -- ---- how many numbers are used
@@ -129,13 +131,17 @@ module _ (K : ℕ) where
           go (inr b) = b
 
       back : K ≤ free l → allHeld K l ≡ true
-      back h = eq-eqb _ K (lowest-is (λ k. not (memb k l)) K K (omega arith) (λ b. absurd (omega arith)) (λ k b. ap not (free-least l k (omega arith))))
+      back h =
+          eq-eqb _ K (lowest-is (λ k. not (memb k l)) K K (omega arith) (λ b. absurd (omega arith)) (λ k b. ap not (free-least l k (omega arith))))
 
   fitted-blocked : (ps : List Placed) → Fitted ps → (blocked K ps ≡ true) ↔ (K < usedBy ps)
   unfolding blocked usedBy top
   fitted-blocked [] a = (λ h. absurd (true≢false (sym h)), λ h. absurd (omega arith))
   fitted-blocked (g ∷ ps) a =
-      let ih = fitted-blocked ps (a .1) in (λ h. there (or-cases (allHeld K (held (g .family) ps)) h) (ih .0), λ h. back (lt-or-le (g .number) K) (ih .1) h)
+      let ih = fitted-blocked ps (a .1) in (
+        λ h. there (or-cases (allHeld K (held (g .family) ps)) h) (ih .0),
+        λ h. back (lt-or-le (g .number) K) (ih .1) h,
+      )
     where
       there : (allHeld K (held (g .family) ps) ≡ true) ⊎ (blocked K ps ≡ true) → (blocked K ps ≡ true → K < usedBy ps)
           → K < max (suc (g .number)) (usedBy ps)

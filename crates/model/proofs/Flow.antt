@@ -1,15 +1,15 @@
--- What a round makes of the sets before it, by members, and how a timer comes to a location by rounds. Assumes nothing.
+-- What a round makes of the sets before it, by members, and how a timer comes to a location by rounds. Hard: the round folds over all edges, and
+-- only those into the location count: it is read as "some edge brings the timer". Assumes nothing.
 use mathlib.Core.Path.{_≡_, refl, ap, _∙_}
 use mathlib.Core.Logic.{_⊎_, inl, inr}
 use mathlib.Core.Bool.{Bool, true, false, _||_, _&&_, not}
-use mathlib.Core.Option.{some}
 use mathlib.Core.List.{List, [], _∷_}
-use Prim.Native.Nat.{ℕ, _<_, _^_}
+use Prim.Native.Nat.{ℕ}
 use lib.Dec.{eqb}
-use lib.ListN.{getD, getElem?}
+use lib.ListN.{getD}
 use borrow.Author.Tests.{not-true}
 use Rattle.timer_set.specs.Members.{member, joined, minus}
-use Rattle.model.specs.Comes.{EdgeInto, Comes, Shaped}
+use Rattle.model.specs.Comes.{EdgeInto}
 use Rattle.timer_set.proofs.Members.{member-joined, member-minus}
 use Rattle.lists.specs.Lists.{anyOf}
 use Rattle.lists.proofs.Bools.{or-cases, or-left, or-right, and-left, and-right, and-both, same-number, eqb-self}
@@ -17,7 +17,7 @@ use Rattle.lists.proofs.Membership.{any-in, any-out}
 use Rattle.model.specs.Flow.{Edge, Flow, brings, made}
 use Rattle.model.proofs.Edges.{withEdge, withEdges}
 
--- the same of one round, where P says where it stands before
+-- how j comes to q in one round, where P says where it stands before
 pub data Way (f : Flow) (j : ℕ) (P : ℕ → Type 0) (q : ℕ) : Type 0 where
   by-own : member (f .own q) j ≡ true → Way f j P q
   by-gain : {e : Edge} → EdgeInto f q e → member (e .gain) j ≡ true → Way f j P q
@@ -54,12 +54,17 @@ member-brings : (before : List ℕ) (e : Edge) (j : ℕ)
     → member (brings before e) j ≡ (member (e .gain) j || (member (getD before (e .from) 0) j && not (member (e .cut) j)))
 unfolding brings
 member-brings before e j =
-    member-joined (e .gain) (minus (getD before (e .from) 0) (e .cut)) j ∙ ap (λ (b : Bool). member (e .gain) j || b) (member-minus (getD before (e .from) 0) (e .cut) j)
+    let kept = member-minus (getD before (e .from) 0) (e .cut) j in
+    member-joined (e .gain) (minus (getD before (e .from) 0) (e .cut)) j ∙ ap (λ (b : Bool). member (e .gain) j || b) kept
 
 module _ (f : Flow) (before : List ℕ) (q j : ℕ) where
   -- j stands at s before the round
   abbrev Stood : ℕ → Type 0
   Stood s = member (getD before s 0) j ≡ true
+
+  -- e brings j from where it stands before
+  abbrev carries : Edge → Bool
+  carries e = member (getD before (e .from) 0) j && not (member (e .cut) j)
 
   member-made : member (made f before q) j ≡ (member (f .own q) j || anyOf (bringsTo before q j) (f .edges))
   unfolding made
@@ -68,7 +73,7 @@ module _ (f : Flow) (before : List ℕ) (q j : ℕ) where
   pub made-out : member (made f before q) j ≡ true → Way f j (λ s. member (getD before s 0) j ≡ true) q
   made-out h = go (or-cases (member (f .own q) j) (rw member-made at h))
     where
-      edge : (e : Edge) → EdgeInto f q e → (member (e .gain) j ≡ true) ⊎ ((member (getD before (e .from) 0) j && not (member (e .cut) j)) ≡ true) → Way f j Stood q
+      edge : (e : Edge) → EdgeInto f q e → (member (e .gain) j ≡ true) ⊎ (carries e ≡ true) → Way f j Stood q
       edge e i (inl g) = by-gain i g
       edge e i (inr b) = by-edge i (not-true (member (e .cut) j) (and-right (member (getD before (e .from) 0) j) _ b)) (and-left _ _ b)
 
@@ -83,11 +88,12 @@ module _ (f : Flow) (before : List ℕ) (q j : ℕ) where
   pub made-in : Way f j (λ s. member (getD before s 0) j ≡ true) q → member (made f before q) j ≡ true
   made-in w = rw member-made (go w)
     where
-      edge : (e : Edge) → EdgeInto f q e → (member (e .gain) j || (member (getD before (e .from) 0) j && not (member (e .cut) j))) ≡ true
+      edge : (e : Edge) → EdgeInto f q e → (member (e .gain) j || carries e) ≡ true
           → (member (f .own q) j || anyOf (bringsTo before q j) (f .edges)) ≡ true
       edge e i b =
+          let into : eqb (e .into) q ≡ true = ap (λ (x : ℕ). eqb x q) (i .leads) ∙ eqb-self q in
           or-right (member (f .own q) j)
-          (any-in (bringsTo before q j) (f .edges) (i .number) (i .is-nth) (and-both (ap (λ (x : ℕ). eqb x q) (i .leads) ∙ eqb-self q) (member-brings before e j ∙ b)))
+          (any-in (bringsTo before q j) (f .edges) (i .number) (i .is-nth) (and-both into (member-brings before e j ∙ b)))
 
       go : Way f j Stood q → (member (f .own q) j || anyOf (bringsTo before q j) (f .edges)) ≡ true
       go (by-own o) = or-left _ o

@@ -1,24 +1,23 @@
--- The sets that go forwards from the initial location are the reached locations, and the timers that some path starts nowhere. Assumes nothing.
+-- The sets that go forwards from the initial location are the reached locations, and the timers that some path starts nowhere. Hard: that both
+-- are one flow with another cut, so one least fixed point serves both; reached is asked of timer 0. Assumes nothing.
 use mathlib.Core.Path.{_≡_, refl, sym, ap, _∙_, subst}
 use mathlib.Core.Logic.{_↔_}
 use mathlib.Core.Bool.{Bool, true, false}
-use mathlib.Core.List.{map}
 use Prim.Native.Nat.{ℕ, _<_, _^_}
 use lib.Dec.{eqb, lit<}
 use lib.ListN.{getD}
 use borrow.Author.Tests.{eqb-false, eqb-true, ne-eqb}
 use Rattle.timer_set.specs.Members.{member, everyTimer}
-use Rattle.model.specs.Comes.{EdgeInto, Comes, Shaped}
+use Rattle.model.specs.Comes.{Comes, Shaped}
 use Rattle.timer_set.proofs.Members.{member-empty, member-every, some-member}
 use Rattle.lists.proofs.Bools.{not-both, eqb-self}
-use Rattle.lists.proofs.Membership.{nth-map}
 use Rattle.model.specs.Chart.{Transition, Chart, Nth}
 use Rattle.model.specs.Valid.{Valid}
 use Rattle.model.specs.Path.{Reached, Unstarted}
 use Rattle.model.specs.Flow.{Edge, Flow}
 use Rattle.model.specs.Live.{startsSet, atInitial, unstartedFlow, reachedFlow, unstartedSets, reachedSets, isEmpty}
 use Rattle.model.proofs.Transitions.{nth-valid}
-use Rattle.model.proofs.TransitionSets.{member-starts, edge-of}
+use Rattle.model.proofs.TransitionSets.{member-starts, edge-of, edgeFlow, edge-to, edges-shaped}
 use Rattle.model.proofs.Paths.{reached-initial, reached-step, reached-least, unstarted-initial, unstarted-step, unstarted-least}
 use Rattle.model.specs.Comes.Comes.{owned, gained, along}
 use Rattle.model.proofs.Settled.{settled-words, settled-iff}
@@ -60,10 +59,7 @@ module _ (c : Chart) (cut : Transition → ℕ) where
   onwards r = record { into = r .target; from = r .source; cut = cut r; gain = 0 }
 
   abbrev forward : Flow
-  forward = record { locations = c .locations; own = atInitial c everyTimer; edges = map onwards (c .transitions) }
-
-  edge-to : {i : ℕ} {r : Transition} → Nth c i r → EdgeInto forward (r .target) (onwards r)
-  edge-to {i} n = record { number = i; is-nth = nth-map onwards (c .transitions) i (n .there); leads = refl }
+  forward = edgeFlow c (atInitial c everyTimer) onwards
 
   -- what holds at the initial location, and on over each transition that does not cut j, holds wherever j comes
   comes-least : (j : ℕ) (R : ℕ → Type 0) → R (c .initial)
@@ -82,15 +78,12 @@ module _ (c : Chart) (cut : Transition → ℕ) where
   comes-initial j l = owned (ap (λ (w : ℕ). member w j) (own-initial c everyTimer) ∙ member-every j l)
 
   comes-step : (j : ℕ) {i : ℕ} {r : Transition} → Nth c i r → member (cut r) j ≡ false → Comes forward j (r .source) → Comes forward j (r .target)
-  comes-step j n f m = along (edge-to n) f m
+  comes-step j n f m = along (edge-to c (atInitial c everyTimer) onwards n) f m
 
   forward-shaped : {W : ℕ} → Valid W c → Shaped forward
-  forward-shaped valid = record {
-    into-below = λ i {e} n. let x = edge-of c onwards i n in subst (λ (y : Edge). y .into < c .locations) (x .is-edge) (nth-valid valid (x .is-nth) .target);
-    from-below = λ i {e} n. let x = edge-of c onwards i n in subst (λ (y : Edge). y .from < c .locations) (x .is-edge) (nth-valid valid (x .is-nth) .source);
-    own-word = own-word c;
-    gain-word = λ i {e} n. let x = edge-of c onwards i n in subst (λ (y : Edge). y .gain < 2 ^ 64) (x .is-edge) (lit< tt);
-  }
+  forward-shaped valid =
+      edges-shaped c (atInitial c everyTimer) onwards (own-word c)
+      (λ i r n. let v = nth-valid valid n in (v .target, v .source, lit< tt))
 
 -- ---- the two flows
 
@@ -106,21 +99,28 @@ module _ {W : ℕ} {c : Chart} (valid : Valid W c) where
   pub unstarted-iff : (q j : ℕ) → q < c .locations → j < 64 → (member (getD (unstartedSets c) q 0) j ≡ true) ↔ Unstarted c q j
   unfolding unstartedSets unstartedFlow
   unstarted-iff q j l b =
-      let e = settled-iff (unstartedFlow c) unstarted-shaped q j l in (
-        (λ h.
-            comes-least c startsSet j (λ s. Unstarted c s j) unstarted-initial (λ i r n f x. unstarted-step x n (sym (member-starts r j) ∙ f)) q (e .0 h)),
-        (λ x.
-            e .1 (unstarted-least (Comes (forward c startsSet) j) (comes-initial c startsSet j b) (λ i r n f m. comes-step c startsSet j n (member-starts r j ∙ f) m) x)),
-      )
+      let e = settled-iff (unstartedFlow c) unstarted-shaped q j l in
+      (λ h. out (e .0 h), λ x. e .1 (back x))
+    where
+      out : Comes (forward c startsSet) j q → Unstarted c q j
+      out = comes-least c startsSet j (λ s. Unstarted c s j) unstarted-initial (λ i r n f x. unstarted-step x n (sym (member-starts r j) ∙ f)) q
+
+      back : Unstarted c q j → Comes (forward c startsSet) j q
+      back = unstarted-least (Comes (forward c startsSet) j) (comes-initial c startsSet j b)
+          (λ i r n f m. comes-step c startsSet j n (member-starts r j ∙ f) m)
 
   pub reached-iff : (q : ℕ) → q < c .locations → (isEmpty (getD (reachedSets c) q 0) ≡ false) ↔ Reached c q
   unfolding reachedSets reachedFlow
   reached-iff q l = (
-    (λ h.
+    λ h.
         let x = filled-member (getD (reachedSets c) q 0) (settled-words (reachedFlow c) reached-shaped q) h in
-        comes-least c (λ r. 0) (x .0) (Reached c) reached-initial (λ i r n f y. reached-step y n) q (settled-iff (reachedFlow c) reached-shaped q (x .0) l .0 (x .2))),
-    (λ x.
-        member-filled (getD (reachedSets c) q 0) 0
-        (settled-iff (reachedFlow c) reached-shaped q 0 l .1
-        (reached-least (Comes (forward c (λ r. 0)) 0) (comes-initial c (λ r. 0) 0 (lit< tt)) (λ i r n m. comes-step c (λ r. 0) 0 n (member-empty 0) m) x))),
+        out (x .0) (settled-iff (reachedFlow c) reached-shaped q (x .0) l .0 (x .2)),
+    λ x. member-filled (getD (reachedSets c) q 0) 0 (settled-iff (reachedFlow c) reached-shaped q 0 l .1 (back x)),
   )
+    where
+      out : (j : ℕ) → Comes (forward c (λ r. 0)) j q → Reached c q
+      out j = comes-least c (λ r. 0) j (Reached c) reached-initial (λ i r n f y. reached-step y n) q
+
+      back : Reached c q → Comes (forward c (λ r. 0)) 0 q
+      back = reached-least (Comes (forward c (λ r. 0)) 0) (comes-initial c (λ r. 0) 0 (lit< tt))
+          (λ i r n m. comes-step c (λ r. 0) 0 n (member-empty 0) m)

@@ -1,13 +1,11 @@
--- Pairs that are well formed, and chains of links between them: of one family is an equivalence, and stays among the pairs. Assumes nothing.
+-- Pairs that are well formed, and chains of links between them: of one family is an equivalence, and stays among the pairs. Hard: a chain read
+-- backwards, by induction along it. Assumes nothing.
 use mathlib.Core.Path.{_≡_, refl, sym, subst}
 use mathlib.Core.Logic.{_⊎_, inl, inr}
 use mathlib.Core.Bool.{true}
-use mathlib.Core.Option.{some}
 use mathlib.Core.List.{List, [], _∷_, _++_}
-use Prim.Native.Nat.{ℕ, _≤_, _<_}
-use lib.ListN.{getElem?}
-use Rattle.timer_set.specs.Members.{member}
-use Rattle.model.specs.Family.{Link, Pairs, isPair, Linked, Chain, Joined, WellFormed, WellFormedLink}
+use Prim.Native.Nat.{ℕ}
+use Rattle.model.specs.Family.{Pairs, isPair, Linked, Chain, Joined, WellFormed, WellFormedLink}
 
 pub chain-append : (p : Pairs) (j : ℕ) (v w : List ℕ) (q s t : ℕ) → Chain p j q v s → Chain p j s w t → Chain p j q (v ++ w) t
 chain-append p j [] w q s t a b = subst (λ (x : ℕ). Chain p j x w t) (sym a) b
@@ -38,7 +36,7 @@ module _ {p : Pairs} {j : ℕ} where
       go [] x e = subst (λ (y : ℕ). Joined p j y x) e (joined-refl x)
       go (y ∷ w) x c = joined-trans (go w y (c .1)) (joined-one (linked-sym (c .0)))
 
-  -- what every link hands on, a chain hands on
+  -- what goes over every link goes along a chain
   pub joined-carries : (L : ℕ → Type 0) → ((q s : ℕ) → Linked p j q s → L q → L s) → {q s : ℕ} → Joined p j q s → L q → L s
   joined-carries L step {q} {s} a l = go (a .way) q (a .chain) l
     where

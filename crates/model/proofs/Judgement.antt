@@ -1,5 +1,5 @@
 -- What the judgement of a chart says, by paths: 9 at the lowest location that no path reaches, else 10 at the lowest transition with an unstarted
--- test, else the chart. Assumes nothing.
+-- test, else the chart. Hard: each answer exactly when, since two places of which neither is lower must be one. Assumes nothing.
 use mathlib.Core.Path.{_≡_, refl, sym, ap, _∙_, subst}
 use mathlib.Core.Logic.{_⊎_, inl, inr, _↔_}
 use mathlib.Core.Bool.{Bool, true, false, not}
@@ -44,9 +44,8 @@ module _ {W : ℕ} {c : Chart} (valid : Valid W c) where
   meets-iff : {i : ℕ} {r : Transition} → Nth c i r → (meets r ≡ true) ↔ UnstartedTest c r
   meets-iff {i} {r} n = (
     (λ h.
-        let x =
-        filled-member (common (testsSet r) sets) (common-lt 64 (testsSet r) sets (tests-word valid n)) (not-true (isEmpty (common (testsSet r) sets)) h)
-        in
+        let filled = not-true (isEmpty (common (testsSet r) sets)) h in
+        let x = filled-member (common (testsSet r) sets) (common-lt 64 (testsSet r) sets (tests-word valid n)) filled in
         let m = sym (member-common (testsSet r) sets (x .0)) ∙ x .2 in
         record {
           timer = x .0;
@@ -56,9 +55,8 @@ module _ {W : ℕ} {c : Chart} (valid : Valid W c) where
     (λ u.
         let j = u .timer in
         let l : j < 64 = omega (arith, valid .few-timers, tested-below valid j n (u .tests-it)) in
-        ap not
-        (member-filled (common (testsSet r) sets) j
-        (member-common (testsSet r) sets j ∙ and-both (member-tests r j ∙ u .tests-it) (unstarted-iff valid (r .source) j source l .1 (u .unstarted))))),
+        let both = and-both (member-tests r j ∙ u .tests-it) (unstarted-iff valid (r .source) j source l .1 (u .unstarted)) in
+        ap not (member-filled (common (testsSet r) sets) j (member-common (testsSet r) sets j ∙ both))),
   )
     where
       sets : ℕ
@@ -68,45 +66,50 @@ module _ {W : ℕ} {c : Chart} (valid : Valid W c) where
       source = nth-valid valid n .source
 
   -- 9
-  lost-reached : (q : ℕ) → q < c .locations → q < firstUnreached c → Reached c q
+  unreached-before : (q : ℕ) → q < c .locations → q < firstUnreached c → Reached c q
   unfolding firstUnreached
-  lost-reached q b l = reached-iff valid q b .0 (lowest-before (λ p. isEmpty (getD (reachedSets c) p 0)) (c .locations) q l)
+  unreached-before q b l = reached-iff valid q b .0 (lowest-before (λ p. isEmpty (getD (reachedSets c) p 0)) (c .locations) q l)
 
-  lost-lowest : firstUnreached c < c .locations → LowestUnreached c (firstUnreached c)
+  unreached-lowest : firstUnreached c < c .locations → LowestUnreached c (firstUnreached c)
   unfolding firstUnreached
-  lost-lowest l = record {
+  unreached-lowest l = record {
     below = l;
-    unreached = λ x. not-both (lowest-passes (λ p. isEmpty (getD (reachedSets c) p 0)) (c .locations) l) (reached-iff valid (firstUnreached c) l .1 x);
-    lower-reached = λ p h. lost-reached p (omega arith) h;
+    unreached = λ x.
+        not-both (lowest-passes (λ p. isEmpty (getD (reachedSets c) p 0)) (c .locations) l) (reached-iff valid (firstUnreached c) l .1 x);
+    lower-reached = λ p h. unreached-before p (omega arith) h;
   }
 
   all-reached : c .locations ≤ firstUnreached c → AllReached c
-  all-reached h q b = lost-reached q b (omega arith)
+  all-reached h q b = unreached-before q b (omega arith)
 
   -- 10
-  early-none : (k : ℕ) → k < firstUnstarted c → UnstartedAt c k → ⊥
+  unstarted-none : (k : ℕ) → k < firstUnstarted c → UnstartedAt c k → ⊥
   unfolding firstUnstarted
-  early-none k l u = not-both (meets-iff (u .is-nth) .1 (u .test)) (first-before meets (c .transitions) k (u .transition) l (u .is-nth .there))
+  unstarted-none k l u = not-both (meets-iff (u .is-nth) .1 (u .test)) (first-before meets (c .transitions) k (u .transition) l (u .is-nth .there))
 
-  early-lowest : AllReached c → firstUnstarted c < length (c .transitions) → LowestUnstarted c (firstUnstarted c)
+  unstarted-lowest : AllReached c → firstUnstarted c < length (c .transitions) → LowestUnstarted c (firstUnstarted c)
   unfolding firstUnstarted
-  early-lowest reached l =
+  unstarted-lowest reached l =
       let x = first-passes meets (c .transitions) l in
       let n : Nth c (firstUnstarted c) (x .0) = record { there = x .1 } in
-      record { all-reached = reached; unstarted-test = record { transition = x .0; is-nth = n; test = meets-iff n .0 (x .2) }; none-lower = early-none }
+      record {
+        all-reached = reached;
+        unstarted-test = record { transition = x .0; is-nth = n; test = meets-iff n .0 (x .2) };
+        none-lower = unstarted-none;
+      }
 
-  early-accepted : AllReached c → length (c .transitions) ≤ firstUnstarted c → Accepted c
-  early-accepted reached h =
-      record { all-reached = reached; no-unstarted-test = λ i u. early-none i (omega (arith, below-nth (c .transitions) i (u .is-nth .there))) u }
+  unstarted-accepted : AllReached c → length (c .transitions) ≤ firstUnstarted c → Accepted c
+  unstarted-accepted reached h =
+      record { all-reached = reached; no-unstarted-test = λ i u. unstarted-none i (omega (arith, below-nth (c .transitions) i (u .is-nth .there))) u }
 
   pub judged-cases : Judgement c
   unfolding judged
   judged-cases = go (leb (c .locations) (firstUnreached c)) refl (leb (length (c .transitions)) (firstUnstarted c)) refl
     where
       go : (a : Bool) → leb (c .locations) (firstUnreached c) ≡ a → (b : Bool) → leb (length (c .transitions)) (firstUnstarted c) ≡ b → Judgement c
-      go false e b f = is-unreached (firstUnreached c) (rw (e, judged)) (lost-lowest (leb-false _ _ e))
-      go true e false f = is-unstarted (firstUnstarted c) (rw (e, f, judged)) (early-lowest (all-reached (leb-true _ _ e)) (leb-false _ _ f))
-      go true e true f = is-accepted (rw (e, f, judged)) (early-accepted (all-reached (leb-true _ _ e)) (leb-true _ _ f))
+      go false e b f = is-unreached (firstUnreached c) (rw (e, judged)) (unreached-lowest (leb-false _ _ e))
+      go true e false f = is-unstarted (firstUnstarted c) (rw (e, f, judged)) (unstarted-lowest (all-reached (leb-true _ _ e)) (leb-false _ _ f))
+      go true e true f = is-accepted (rw (e, f, judged)) (unstarted-accepted (all-reached (leb-true _ _ e)) (leb-true _ _ f))
 
 -- ---- each answer is given exactly where what it says holds
 

@@ -1,4 +1,5 @@
--- What stands at a location of a pair passes along the links to exactly the locations of its family. Assumes nothing.
+-- What stands at a location of a pair passes along the links to exactly the locations of its family. Hard: a link is two edges, to and fro, each
+-- of which cuts all but the link's timers. Assumes nothing.
 use mathlib.Core.Path.{_≡_, refl, sym, ap, _∙_, subst, subst₂}
 use mathlib.Core.Logic.{_⊎_, inl, inr, _↔_}
 use mathlib.Core.Bool.{Bool, true, false, not, _&&_}
@@ -72,8 +73,9 @@ module _ (p : Pairs) (j q : ℕ) where
       go : ((l .link .one ≡ x) × (l .link .other ≡ y)) ⊎ ((l .link .one ≡ y) × (l .link .other ≡ x))
           → Element (map fro (p .links) ++ map to (p .links)) (edge y x (l .link .timers))
       go (inl e) =
+          let there = nth-map to (p .links) (l .number) (l .is-nth) in
           subst₂ (λ (a b : ℕ). Element (map fro (p .links) ++ map to (p .links)) (edge b a (l .link .timers))) (e .0) (e .1)
-          (element-right (map fro (p .links)) (map to (p .links)) (record { place = l .number; is-nth = nth-map to (p .links) (l .number) (l .is-nth) }))
+          (element-right (map fro (p .links)) (map to (p .links)) (record { place = l .number; is-nth = there }))
       go (inr e) =
           subst₂ (λ (a b : ℕ). Element (map fro (p .links) ++ map to (p .links)) (edge a b (l .link .timers))) (e .0) (e .1)
           (element-left (map fro (p .links)) (map to (p .links)) (l .number) (nth-map fro (p .links) (l .number) (l .is-nth)))
@@ -144,7 +146,9 @@ module _ {p : Pairs} (formed : WellFormed p) (q j : ℕ) (pair : isPair p q j �
   joined-comes a = joined-carries (λ (x : ℕ). Comes (linkFlow p j q) j x) step a (owned (own-in p j q))
     where
       step : (x y : ℕ) → Linked p j x y → Comes (linkFlow p j q) j x → Comes (linkFlow p j q) j y
-      step x y l c = let e = edge-in p j q l in along (record { number = e .place; is-nth = e .is-nth; leads = refl }) (not-cut (l .link .timers) j few ∙ ap not (l .holds)) c
+      step x y l c =
+          let e = edge-in p j q l in
+          along (record { number = e .place; is-nth = e .is-nth; leads = refl }) (not-cut (l .link .timers) j few ∙ ap not (l .holds)) c
 
   pub link-flow-iff : (s : ℕ) → s < p .locations → (member (getD (settled (linkFlow p j q)) s 0) j ≡ true) ↔ Joined p j q s
   unfolding linkFlow

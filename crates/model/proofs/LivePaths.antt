@@ -1,21 +1,21 @@
--- The live sets that the rounds give are what is live by paths. Assumes nothing.
-use mathlib.Core.Path.{_≡_, refl, sym, ap, _∙_, subst}
+-- The live sets that the rounds give are what is live by paths. Hard: paths run forwards and the sets backwards: both are the least that holds at
+-- each test and goes back over each transition that does not start the timer. Assumes nothing.
+use mathlib.Core.Path.{_≡_, sym, ap, _∙_, subst}
 use mathlib.Core.Logic.{_⊎_, inl, inr, _↔_}
 use mathlib.Core.Bool.{true}
-use Prim.Native.Nat.{ℕ, _≤_, _<_, _^_}
+use Prim.Native.Nat.{ℕ, _≤_, _<_}
 use lib.Dec.{lit<}
 use Rattle.timer_set.specs.Members.{member}
-use Rattle.model.specs.Comes.{EdgeInto, Comes, Shaped}
+use Rattle.model.specs.Comes.{Comes, Shaped}
 use Rattle.timer_set.proofs.Members.{member-empty}
 use Rattle.lists.proofs.Bools.{not-both, lt-or-le}
-use Rattle.lists.proofs.Membership.{nth-map}
-use Rattle.model.specs.Chart.{Transition, Chart, Nth}
+use Rattle.model.specs.Chart.{Transition, Chart}
 use Rattle.model.specs.Valid.{Valid}
 use Rattle.model.specs.Path.{Live}
 use Rattle.model.specs.Flow.{Edge}
 use Rattle.model.specs.Live.{startsSet, testsSet, liveFlow, liveSets, live}
 use Rattle.model.proofs.Transitions.{nth-valid}
-use Rattle.model.proofs.TransitionSets.{member-starts, member-tests, tests-word, edge-of}
+use Rattle.model.proofs.TransitionSets.{member-starts, member-tests, tests-word, edge-of, edge-to, edges-shaped}
 use Rattle.model.proofs.Paths.{live-test, live-back, live-least, live-inside}
 use Rattle.model.specs.Comes.Comes.{owned, gained, along}
 use Rattle.model.proofs.Settled.{settled-beyond, settled-iff}
@@ -25,10 +25,6 @@ abbrev backwards : Transition → Edge
 backwards r = record { into = r .source; from = r .target; cut = startsSet r; gain = testsSet r }
 
 module _ (c : Chart) (j : ℕ) where
-  edge-to : {i : ℕ} {r : Transition} → Nth c i r → EdgeInto (liveFlow c) (r .source) (backwards r)
-  unfolding liveFlow
-  edge-to {i} n = record { number = i; is-nth = nth-map backwards (c .transitions) i (n .there); leads = refl }
-
   comes-live : (q : ℕ) → Comes (liveFlow c) j q → Live c q j
   unfolding liveFlow
   comes-live q (owned o) = absurd (not-both o (member-empty j))
@@ -45,24 +41,25 @@ module _ (c : Chart) (j : ℕ) where
       (subst (λ (s : ℕ). Live c s j) (sym (ap (λ (y : Edge). y .from) (x .is-edge))) (comes-live (e .from) m)))
 
   live-comes : {q : ℕ} → Live c q j → Comes (liveFlow c) j q
+  unfolding liveFlow
   live-comes l =
-      live-least (Comes (liveFlow c) j) (λ i r n t. gained (edge-to n) (member-tests r j ∙ t)) (λ i r n f m. along (edge-to n) (member-starts r j ∙ f) m) l
+      live-least (Comes (liveFlow c) j)
+      (λ i r n t. gained (edge-to c (λ q. 0) backwards n) (member-tests r j ∙ t))
+      (λ i r n f m. along (edge-to c (λ q. 0) backwards n) (member-starts r j ∙ f) m) l
 
 module _ {W : ℕ} {c : Chart} (valid : Valid W c) where
   pub live-shaped : Shaped (liveFlow c)
   unfolding liveFlow
-  live-shaped = record {
-    into-below = λ i {e} n.
-        let x = edge-of c backwards i n in subst (λ (y : Edge). y .into < c .locations) (x .is-edge) (nth-valid valid (x .is-nth) .source);
-    from-below = λ i {e} n.
-        let x = edge-of c backwards i n in subst (λ (y : Edge). y .from < c .locations) (x .is-edge) (nth-valid valid (x .is-nth) .target);
-    own-word = λ q. lit< tt;
-    gain-word = λ i {e} n. let x = edge-of c backwards i n in subst (λ (y : Edge). y .gain < 2 ^ 64) (x .is-edge) (tests-word valid (x .is-nth));
-  }
+  live-shaped =
+      edges-shaped c (λ q. 0) backwards (λ q. lit< tt)
+      (λ i r n. let v = nth-valid valid n in (v .source, v .target, tests-word valid n))
 
   pub live-iff : (q j : ℕ) → (live c q j ≡ true) ↔ Live c q j
   unfolding live liveSets liveFlow
-  live-iff q j = (out (lt-or-le q (c .locations)), λ l. settled-iff (liveFlow c) live-shaped q j (live-inside valid l .location) .1 (live-comes c j l))
+  live-iff q j = (
+    out (lt-or-le q (c .locations)),
+    λ l. settled-iff (liveFlow c) live-shaped q j (live-inside valid l .location) .1 (live-comes c j l),
+  )
     where
       out : (q < c .locations) ⊎ (c .locations ≤ q) → live c q j ≡ true → Live c q j
       out (inl b) h = comes-live c j q (settled-iff (liveFlow c) live-shaped q j b .0 h)

@@ -1,8 +1,9 @@
 -- The number of a pair among any placed families: whose it is, that first fit gives two timers of a location two numbers, and that it is
--- below the number of numbers used. Assumes nothing.
+-- below the number of numbers used. Hard: two timers of one location, whose families meet there, so the later one avoids the number of the earlier.
+-- Assumes nothing.
 use mathlib.Core.Path.{_≡_, refl, sym, ap, _∙_}
 use mathlib.Core.Logic.{_⊎_, inl, inr}
-use mathlib.Core.Bool.{Bool, true, false, _&&_}
+use mathlib.Core.Bool.{Bool, true, false}
 use mathlib.Core.Option.{some, Option·none-ne-some, Option·some-injective}
 use mathlib.Core.List.{List, [], _∷_}
 use Prim.Native.Nat.{ℕ, zero, suc, _<_}
@@ -15,10 +16,7 @@ use Rattle.lists.proofs.Membership.{any-memb-in}
 use Rattle.model.specs.Family.{Family, meets}
 use Rattle.model.specs.FirstFit.{Placed, held, free, place, usedBy, numberAt}
 use Rattle.model.proofs.FirstFit.{Fitted, free-not-held, held-in, used-above}
-
--- the pair (q, j) is of the family
-abbrev pub has : Family → (q j : ℕ) → Bool
-has f q j = eqb (f .timer) j && memb q (f .locations)
+pub use Rattle.model.specs.Family.{has}
 
 pub has-timer : (f : Family) (q j : ℕ) → has f q j ≡ true → f .timer ≡ j
 has-timer f q j h = same-number (and-left (eqb (f .timer) j) (memb q (f .locations)) h)

@@ -1,5 +1,5 @@
 -- The numbers that first fit gives to pairs: each pair has the number of its family, and nothing else has one; linked pairs have one number,
--- two timers of a location have two. Assumes nothing.
+-- two timers of a location have two. Hard: that a placed family which has the pair is the pair's own. Assumes nothing.
 use mathlib.Core.Path.{_≡_, sym, ap, _∙_, subst}
 use mathlib.Core.Logic.{_⊎_, inl, inr}
 use mathlib.Core.Bool.{true}
@@ -10,10 +10,11 @@ use lib.ListN.{getElem?}
 use Rattle.lists.specs.Lists.{memb}
 use Rattle.model.specs.SharingRule.{FamilyOfPair, PairNumber}
 use Rattle.lists.proofs.Bools.{same-bool}
-use Rattle.model.specs.Family.{Pairs, isPair, Linked, Joined, Family, familyOf, families, WellFormed}
+use Rattle.model.specs.Family.{Pairs, isPair, Linked, Joined, Family, has, familyOf, families, WellFormed}
 use Rattle.model.specs.FirstFit.{Placed, place, firstFit, usedBy, numberAt}
-use Rattle.model.proofs.FirstFit.{FirstFitRule, Fitted, first-fit-rule, place-fitted}
-use Rattle.model.proofs.NumberAt.{has, has-timer, has-location, has-pair, number-in, number-out, number-same, number-apart, number-below, place-in, place-out}
+use Rattle.model.proofs.FirstFit.{Fitted, place-fitted}
+use Rattle.model.proofs.NumberAt.{has-timer, has-location, has-pair, place-in, place-out}
+use Rattle.model.proofs.NumberAt.{number-in, number-out, number-same, number-apart, number-below}
 use Rattle.model.proofs.Joined.{joined-refl, joined-one, joined-sym, joined-pair, linked-sym, linked-pair}
 use Rattle.model.proofs.Families.{family-timer, family-has, family-same}
 use Rattle.model.proofs.FamilyList.{families-have, families-are}
@@ -21,10 +22,6 @@ use Rattle.model.proofs.FamilyList.{families-have, families-are}
 pub first-fit-fitted : (p : Pairs) → Fitted (firstFit p)
 unfolding firstFit
 first-fit-fitted p = place-fitted (families p) [] tt
-
-pub first-fit-families : (p : Pairs) → FirstFitRule (firstFit p)
-unfolding firstFit
-first-fit-families p = first-fit-rule (families p)
 
 module _ {p : Pairs} (formed : WellFormed p) where
   pub placed-family : (i : ℕ) (g : Placed) → getElem? (firstFit p) i ≡ some g → FamilyOfPair p (g .family)

@@ -1,4 +1,5 @@
--- Paths: how they join, and the ways to be live, reached or unstarted one transition at a time. Assumes nothing.
+-- Paths: how they join, and the ways to be live, reached or unstarted one transition at a time. Hard: paths grow at their end and are taken apart
+-- at their front: what holds wherever a path leads is shown along the path. Assumes nothing.
 use mathlib.Core.Path.{_≡_, refl, sym, _∙_, subst}
 use mathlib.Core.Logic.{_⊎_, inl, inr}
 use mathlib.Core.Bool.{true, false}
@@ -7,7 +8,7 @@ use Prim.Native.Nat.{ℕ, _<_}
 use Rattle.lists.specs.Lists.{memb}
 use Rattle.model.specs.Chart.{Transition, Chart, Nth, tested}
 use Rattle.model.specs.Valid.{Valid}
-use Rattle.model.specs.Path.{Path, StartsNowhere, ReadAt, Live, Reached, Unstarted}
+use Rattle.model.specs.Path.{Path, StartsNowhere, ReadAt, Live, LiveOnward, Reached, Unstarted}
 use Rattle.model.proofs.Transitions.{nth-same, nth-valid, tested-below}
 pub use Rattle.model.specs.Places.{UnstartedAt}
 
@@ -28,15 +29,6 @@ module _ (c : Chart) where
   starts-one j n f = ((λ s m. subst (λ (x : Transition). memb j (x .starts) ≡ false) (nth-same n m) f), tt)
 
 -- ---- live, from the end of the path backwards
-
--- a transition from q that does not start j, with j live at its target
-pub record LiveOnward (c : Chart) (q j : ℕ) : Type 0 where
-  pub number : ℕ
-  pub transition : Transition
-  pub is-nth : Nth c number transition
-  pub leaves : transition .source ≡ q
-  pub not-started : memb j (transition .starts) ≡ false
-  pub live : Live c (transition .target) j
 
 module _ {c : Chart} {j : ℕ} where
   pub live-here : {q : ℕ} → ReadAt c q j → Live c q j
@@ -109,7 +101,8 @@ module _ {c : Chart} where
   }
 
   -- what holds at the initial location, and on over each transition, holds wherever a path leads; and so over those that do not start j
-  pub reached-least : (R : ℕ → Type 0) → R (c .initial) → ((i : ℕ) (r : Transition) → Nth c i r → R (r .source) → R (r .target)) → {q : ℕ} → Reached c q → R q
+  pub reached-least : (R : ℕ → Type 0) → R (c .initial) → ((i : ℕ) (r : Transition) → Nth c i r → R (r .source) → R (r .target))
+      → {q : ℕ} → Reached c q → R q
   reached-least R base step {q} x = go (x .path) (c .initial) base (x .leads)
     where
       go : (p : List ℕ) (s : ℕ) → R s → Path c s p q → R q
@@ -138,8 +131,11 @@ module _ {c : Chart} where
     test = record {
       timer = j;
       tests-it = l .read .tests-it;
-      unstarted =
-          record { path = l .front; leads = subst (λ (x : ℕ). Path c (c .initial) (l .front) x) (sym (l .read .leaves)) (l .leads); nowhere = l .unstarted };
+      unstarted = record {
+        path = l .front;
+        leads = subst (λ (x : ℕ). Path c (c .initial) (l .front) x) (sym (l .read .leaves)) (l .leads);
+        nowhere = l .unstarted;
+      };
     };
   }
 

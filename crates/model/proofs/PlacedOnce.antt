@@ -1,4 +1,5 @@
--- First fit places each family once, so a placed family that has a pair gives the pair its number. Assumes nothing.
+-- First fit places each family once, so a placed family that has a pair gives the pair its number. Hard: no family stands twice: the family
+-- numbers of the placed ones fall strictly. Assumes nothing.
 use mathlib.Core.Path.{_≡_, refl, sym, ap, _∙_}
 use mathlib.Core.Bool.{Bool, true, false}
 use mathlib.Core.Option.{some, Option·none-ne-some, Option·some-injective}
@@ -7,9 +8,8 @@ use Prim.Native.Nat.{ℕ, zero, suc, _*_, _≤_, _<_}
 use native.Mathlib.Omega.{arith}
 use lib.ListN.{getElem?}
 use Rattle.lists.specs.Rising.{Rising}
-use Rattle.model.specs.Family.{Pairs, Family, familyNumber, families, WellFormed}
+use Rattle.model.specs.Family.{Pairs, Family, has, familyNumber, familyOf, families, WellFormed}
 use Rattle.model.specs.FirstFit.{Placed, held, free, place, firstFit, numberAt}
-use Rattle.model.proofs.NumberAt.{has}
 use Rattle.model.proofs.FamilyList.{families-rising}
 use Rattle.model.proofs.PairNumbers.{placed-family, has-whole}
 
@@ -55,7 +55,11 @@ module _ {p : Pairs} (formed : WellFormed p) where
   unfolding firstFit
   first-fit-falling = place-falling (64 * p .locations) 0 (families p) [] (omega arith) (families-rising formed) tt
 
-  pub placed-number : (q j i : ℕ) (g : Placed) → getElem? (firstFit p) i ≡ some g → has (g .family) q j ≡ true → numberAt (firstFit p) q j ≡ some (g .number)
+  -- the number of a pair is that of the placed family that has it
+  pub placed-number : (q j i : ℕ) (g : Placed) → getElem? (firstFit p) i ≡ some g → has (g .family) q j ≡ true
+      → numberAt (firstFit p) q j ≡ some (g .number)
   placed-number q j i g e its =
-      falling-number q j g its (64 * p .locations) (firstFit p) first-fit-falling i e
-      (λ n h x t. has-whole formed (h .family) q j (placed-family formed n h x) t ∙ sym (has-whole formed (g .family) q j (placed-family formed i g e) its))
+      falling-number q j g its (64 * p .locations) (firstFit p) first-fit-falling i e (λ n h x t. whole n h x t ∙ sym (whole i g e its))
+    where
+      whole : (n : ℕ) (h : Placed) → getElem? (firstFit p) n ≡ some h → has (h .family) q j ≡ true → h .family ≡ familyOf p q j
+      whole n h x t = has-whole formed (h .family) q j (placed-family formed n h x) t

@@ -1,5 +1,6 @@
 -- The player's answer is the step list's own answer, except that it is 15 at step n exactly when the steps before n are taken, step n names a
--- transition, and its time is over 16,777,215 (and no earlier step has that). Assumes nothing.
+-- transition, and its time is the first over `largestTime`. Hard: both are stepped at once: up to the first late step they go alike. Assumes
+-- nothing.
 use mathlib.Core.Path.{_≡_, refl, sym, ap, _∙_, subst}
 use mathlib.Core.Logic.{_⊎_, inl, inr}
 use mathlib.Core.Bool.{true≢false}
@@ -47,7 +48,8 @@ module _ {c : Chart} where
 -- ---- one step
 
 module _ (c : Chart) (n : ℕ) (s : State) (e : Step) where
-  player-some : {r : Transition} → Nth c (e .transition) r → attempt playerTime c n s e ≡ unless (leb (e .time) largestTime) 15 n (judgedStep c n r s (e .time))
+  player-some : {r : Transition} → Nth c (e .transition) r
+      → attempt playerTime c n s e ≡ unless (leb (e .time) largestTime) 15 n (judgedStep c n r s (e .time))
   unfolding playerTime
   player-some m = attempt-some playerTime c n s e m
 
@@ -79,12 +81,14 @@ module _ (c : Chart) where
   late-stops [] n s m x k = absurd (Option·none-ne-some _ (x .is-step))
   late-stops (e ∷ es) n s zero x k =
       let p : e ≡ x .step = Option·some-injective _ _ (x .is-step) in
-      rw (late-refused c n s e (subst (λ (y : Step). Nth c (y .transition) (x .transition)) (sym p) (x .names)) (rw p (x .over))) (ap (refused 15) (omega arith))
+      let names = subst (λ (y : Step). Nth c (y .transition) (x .transition)) (sym p) (x .names) in
+      rw (late-refused c n s e names (rw p (x .over))) (ap (refused 15) (omega arith))
   late-stops (e ∷ es) n s (suc m) x k = rw (allowed-alike c n s e (x .first 0 e (omega arith) refl))
       (go (attempt everyTime c n s e) (λ (t : State). late-stops es (suc n) t m (late-tail e es m x)) k)
     where
       go : (y : Answer State) → ((t : State) → Taken (suc n) t (take m es) → steps playerTime c (suc n) t es ≡ refused 15 (suc n + m))
-          → ((t : State) × (then y (λ t′. steps everyTime c (suc n) t′ (take m es)) ≡ result t)) → then y (λ t. steps playerTime c (suc n) t es) ≡ refused 15 (n + suc m)
+          → ((t : State) × (then y (λ t′. steps everyTime c (suc n) t′ (take m es)) ≡ result t))
+          → then y (λ t. steps playerTime c (suc n) t es) ≡ refused 15 (n + suc m)
       go (result t) f z = f t z ∙ ap (refused 15) (omega arith)
       go (refused i p) f z = absurd (not-result (z .1))
 
@@ -101,7 +105,8 @@ module _ (c : Chart) where
       onward l t h (inl x) = inl (suc (x .0), late-later e es (x .0) l (x .1), (x .2 .0, rw h (x .2 .1)))
       onward l t h (inr p) = inr (rw (allowed-alike c n s e l, h) p)
 
-      allowed : e .time ≤ largestTime → (y : Answer State) → attempt everyTime c n s e ≡ y → ((t : State) → LateOrSame (suc n) t es) → LateOrSame n s (e ∷ es)
+      allowed : e .time ≤ largestTime → (y : Answer State) → attempt everyTime c n s e ≡ y → ((t : State) → LateOrSame (suc n) t es)
+          → LateOrSame n s (e ∷ es)
       allowed l (result t) h ih = onward l t h (ih t)
       allowed l (refused i p) h ih = inr (rw (allowed-alike c n s e l, h) refl)
 
@@ -133,7 +138,8 @@ player-answer c v es = record { late = λ n. (λ e. is-late n e cases, stops n);
         let found : LateStep c v es (x .0) = record { too-late = x .1; taken = run (x .0) (x .2) } in
         subst (λ (m : ℕ). LateStep c v es m) (refused-same (sym (stops (x .0) found) ∙ e) .1) found
     is-late n e (inr p) =
-        absurd (true≢false (sym (number-is _ _ (list-numbers c v es) (sym (ap (λ (y : Answer State). then y (arrival c)) p) ∙ e)) ∙ unfold memb in refl))
+        let own : answerOf everyTime c v es ≡ refused 15 n = sym (ap (λ (y : Answer State). then y (arrival c)) p) ∙ e in
+        absurd (true≢false (sym (number-is _ _ (list-numbers c v es) own) ∙ unfold memb in refl))
 
     same : ((n : ℕ) → LateStep c v es n → ⊥) → LateOrSame c 0 (begin c v) es → answerOf playerTime c v es ≡ answerOf everyTime c v es
     same h (inl x) = absurd (h (x .0) (record { too-late = x .1; taken = run (x .0) (x .2) }))

@@ -1,4 +1,5 @@
--- The player on two charts that behave alike gives one answer, from any counts that 12 allows. Assumes nothing.
+-- The player on two charts that behave alike gives one answer, from any counts that 12 allows, and 12 allows just these. Nothing is hard. Assumes
+-- nothing.
 use mathlib.Core.Path.{_≡_, refl, sym, ap, _∙_}
 use mathlib.Core.Bool.{not}
 use mathlib.Core.List.{List}
@@ -12,18 +13,15 @@ use Rattle.lists.proofs.Lowest.{lowest-before, lowest-is}
 use Rattle.model.specs.Answer.{Answer, result, unless, nowhere}
 use Rattle.model.specs.Chart.{Chart}
 use Rattle.model.specs.Run.{playerTime, largestTime}
-use Rattle.model.specs.Rewrite.{Numbering, rewrittenBy}
-use Rattle.model.specs.Plan.{Plan}
 use Rattle.model.specs.Judge.{judged}
 use Rattle.model.specs.Player.{answerOf, tooLarge, countsJudged, stepsOf, played}
 use Rattle.model.specs.Equivalence.{Alike}
-use Rattle.model.proofs.Answers.{unless-passed}
-use Rattle.model.proofs.EqualRuns.{plan-alike}
+use Rattle.model.proofs.Answers.{unless-result}
 use Rattle.model.proofs.PlayerNumbers.{played-judged}
 pub use Rattle.model.specs.PlayerTerms.{CountsAllowed}
 
 module _ (c : Chart) (counts : List ℕ) where
-  -- 12 lets them pass, and no others
+  -- counts that 12 allows are not refused
   pub counts-pass : {A : Type 0} (x : Answer A) → CountsAllowed c counts → countsJudged c counts x ≡ x
   unfolding countsJudged tooLarge
   counts-pass x a =
@@ -32,12 +30,13 @@ module _ (c : Chart) (counts : List ℕ) where
       (λ j l. ap not (le-leb (getD counts j 0) largestTime (a .small j l))) in
       rw (eq-eqb (length counts) (c .timers) (a .one-each), none, le-leb (c .timers) (c .timers) (omega arith)) refl
 
-  pub pass-counts : {A : Type 0} (x : Answer A) (y : A) → countsJudged c counts x ≡ result y → CountsAllowed c counts
+  -- and no others are taken
+  pub counts-allowed : {A : Type 0} (x : Answer A) (y : A) → countsJudged c counts x ≡ result y → CountsAllowed c counts
   unfolding countsJudged tooLarge
-  pass-counts x y e =
+  counts-allowed x y e =
       let first : ℕ = lowest (tooLarge counts) (c .timers) in
-      let one = unless-passed (eqb (length counts) (c .timers)) 12 nowhere (unless (leb (c .timers) first) 12 first x) e in
-      let two = unless-passed (leb (c .timers) first) 12 first x (one .1) in
+      let one = unless-result (eqb (length counts) (c .timers)) 12 nowhere (unless (leb (c .timers) first) 12 first x) e in
+      let two = unless-result (leb (c .timers) first) 12 first x (one .1) in
       record {
         one-each = eqb-true (length counts) (c .timers) (one .0);
         small = λ j l. leb-true (getD counts j 0) largestTime
@@ -55,7 +54,3 @@ module _ (c c′ : Chart) (alike : Alike c c′) (judged-c : judged c ≡ result
       played-steps c v judged-c a is ts
       ∙ ap (unless (eqb (length is) (length ts)) 13 nowhere) (alike .plays (λ j. getD v j 0) (λ j. getD w j 0) (stepsOf is ts))
       ∙ sym (played-steps c′ w judged-c′ a′ is ts)
-
-pub played-alike : (c : Chart) (N : Numbering) → Plan c N → judged c ≡ result c → judged (rewrittenBy N c) ≡ result (rewrittenBy N c)
-    → (v w : List ℕ) → CountsAllowed c v → CountsAllowed (rewrittenBy N c) w → (is ts : List ℕ) → played c v is ts ≡ played (rewrittenBy N c) w is ts
-played-alike c N P = alike-played c (rewrittenBy N c) (plan-alike c N P)

@@ -1,22 +1,21 @@
--- The numbers that a step list and the player can be refused with. Assumes nothing.
-use mathlib.Core.Path.{_≡_, refl, sym, ap, ap₂, _∙_}
-use mathlib.Core.Logic.{_⊎_, inl, inr, _↔_}
-use mathlib.Core.Bool.{Bool, true, false, _||_, true≢false}
+-- The numbers that a step list and the player can be refused with. Nothing is hard: each refusal's number is looked up in the list. Assumes
+-- nothing.
+use mathlib.Core.Path.{_≡_, refl, sym, _∙_}
+use mathlib.Core.Logic.{_⊎_, inl, inr}
+use mathlib.Core.Bool.{Bool, true, false, true≢false}
 use mathlib.Core.Option.{Option, none, some}
 use mathlib.Core.List.{List, [], _∷_}
 use Prim.Native.Nat.{ℕ, suc, _-_}
 use lib.Dec.{leb, eqb}
 use lib.ListN.{length, getD, getElem?}
 use Rattle.lists.specs.Lists.{memb, lowest}
-use Rattle.lists.proofs.Bools.{or-left, or-right}
-use Rattle.lists.proofs.Membership.{memb-cases, memb-nil, memb-append}
 use Rattle.model.specs.Answer.{Answer, result, refused, unless, nowhere}
 use Rattle.model.specs.Chart.{Transition, Chart}
 use Rattle.model.specs.Run.{Counts, State, Step, grown, after, enabled, attempt, steps, begin, outcome, everyTime, playerTime}
 use Rattle.model.specs.Live.{firstUnreached, firstUnstarted}
 use Rattle.model.specs.Judge.{judged}
 use Rattle.model.specs.Player.{Arrival, arrival, answerOf, tooLarge, countsJudged, stepsOf, played, playedOn}
-use Rattle.model.proofs.Answers.{not-result, refused-same, NumberIn, number-unless, number-then, number-is}
+use Rattle.model.proofs.Answers.{not-result, NumberIn, number-unless, number-then}
 use Rattle.model.proofs.Steps.{judgedStep, attempt-none, attempt-some}
 
 -- ---- a list that has the numbers of the steps
@@ -35,9 +34,10 @@ module _ (l : List ℕ) (allowed : ℕ → Bool) (has-15 : (t : ℕ) → allowed
       go : (o : Option Transition) → getElem? (c .transitions) (e .transition) ≡ o → NumberIn l (attempt allowed c n s e)
       go none h = rw (attempt-none allowed c n s e h) (has .0)
       go (some r) h =
+          let met = enabled c r (grown (e .time - s .time) (s .counts)) in
           rw (attempt-some allowed c n s e (record { there = h }))
           (number-unless l (allowed (e .time)) 15 n (judgedStep c n r s (e .time)) (has-15 (e .time))
-          (three-tests (eqb (r .source) (s .location)) (leb (s .time) (e .time)) (enabled c r (grown (e .time - s .time) (s .counts))) n (after r s (e .time))))
+          (three-tests (eqb (r .source) (s .location)) (leb (s .time) (e .time)) met n (after r s (e .time))))
 
   steps-numbers : (es : List Step) (n : ℕ) (s : State) → NumberIn l (steps allowed c n s es)
   unfolding steps
@@ -58,18 +58,6 @@ list-numbers c v es = answer-numbers _ everyTime (λ t e. absurd (true≢false e
 -- the numbers that follow on 9 and 10
 abbrev later : List ℕ
 later = 12 ∷ 13 ∷ 14 ∷ 15 ∷ 22 ∷ 23 ∷ 24 ∷ []
-
-not-later : (n : ℕ) → memb n (9 ∷ 10 ∷ []) ≡ true → memb n later ≡ true → ⊥
-unfolding memb
-not-later n m h = nine (memb-cases n 9 (10 ∷ []) m)
-  where
-    ten : (n ≡ 10) ⊎ (memb n [] ≡ true) → ⊥
-    ten (inl e) = true≢false (sym h ∙ ap (λ (x : ℕ). memb x later) e)
-    ten (inr x) = memb-nil n x
-
-    nine : (n ≡ 9) ⊎ (memb n (10 ∷ []) ≡ true) → ⊥
-    nine (inl e) = true≢false (sym h ∙ ap (λ (x : ℕ). memb x later) e)
-    nine (inr x) = ten (memb-cases n 10 [] x)
 
 module _ (counts is ts : List ℕ) (c : Chart) where
   counts-numbers : (l : List ℕ) {A : Type 0} (x : Answer A) → memb 12 l ≡ true → NumberIn l x → NumberIn l (countsJudged c counts x)
@@ -99,7 +87,8 @@ module _ (c : Chart) where
 
   pub judged-either : (judged c ≡ result c) ⊎ ((n p : ℕ) × (judged c ≡ refused n p) × (memb n (9 ∷ 10 ∷ []) ≡ true))
   unfolding judged
-  judged-either = two-tests (leb (c .locations) (firstUnreached c)) (leb (length (c .transitions)) (firstUnstarted c)) (firstUnreached c) (firstUnstarted c)
+  judged-either =
+      two-tests (leb (c .locations) (firstUnreached c)) (leb (length (c .transitions)) (firstUnstarted c)) (firstUnreached c) (firstUnstarted c)
     where
       two-tests : (b b′ : Bool) (p p′ : ℕ)
           → (unless b 9 p (unless b′ 10 p′ (result c)) ≡ result c) ⊎ Refused (unless b 9 p (unless b′ 10 p′ (result c)))
@@ -123,20 +112,3 @@ module _ (c : Chart) (counts is ts : List ℕ) where
   pub played-refused : {n p : ℕ} → judged c ≡ refused n p → played c counts is ts ≡ refused n p
   unfolding played
   played-refused e = rw e refl
-
-  -- the player is refused 9 or 10 exactly as the judgement of the chart is
-  pub played-9-10 : (n p : ℕ) → memb n (9 ∷ 10 ∷ []) ≡ true → (played c counts is ts ≡ refused n p) ↔ (judged c ≡ refused n p)
-  played-9-10 n p m = (λ e. go (judged-either c) e, played-refused)
-    where
-      go : (judged c ≡ result c) ⊎ ((n p : ℕ) × (judged c ≡ refused n p) × (memb n (9 ∷ 10 ∷ []) ≡ true)) → played c counts is ts ≡ refused n p
-          → judged c ≡ refused n p
-      go (inl h) e = absurd (not-later n m (number-is later _ (after-numbers counts is ts c) (sym (played-judged h) ∙ e)))
-      go (inr h) e = let x = refused-same (sym (played-refused (h .2)) ∙ e) in h .2 ∙ ap₂ refused (x .0) (x .1)
-
-  pub played-numbers : (n p : ℕ) → played c counts is ts ≡ refused n p → memb n (9 ∷ 10 ∷ 12 ∷ 13 ∷ 14 ∷ 15 ∷ 22 ∷ 23 ∷ 24 ∷ []) ≡ true
-  played-numbers n p e = memb-append n (9 ∷ 10 ∷ []) later ∙ go (judged-either c)
-    where
-      go : (judged c ≡ result c) ⊎ ((n p : ℕ) × (judged c ≡ refused n p) × (memb n (9 ∷ 10 ∷ []) ≡ true))
-          → (memb n (9 ∷ 10 ∷ []) || memb n later) ≡ true
-      go (inl h) = or-right (memb n (9 ∷ 10 ∷ [])) (number-is later _ (after-numbers counts is ts c) (sym (played-judged h) ∙ e))
-      go (inr h) = or-left (memb n later) (rw (refused-same (sym (played-refused (h .2)) ∙ e) .0) at (h .3))

@@ -1,4 +1,5 @@
--- What the rewriting of a chart returns behaves as the chart, and the player answers alike for both. Assumes nothing.
+-- What the rewriting of a chart returns behaves as the chart, and the player answers alike for both. Nothing is hard: a result says that none of
+-- 9, 10, 11 and 20 was given. Assumes nothing.
 use mathlib.Core.Path.{_≡_, refl, sym, ap}
 use mathlib.Core.Bool.{false, not}
 use mathlib.Core.List.{List}
@@ -8,34 +9,25 @@ use lib.Dec.{leb}
 use borrow.Author.Tests.{leb-true, not-true}
 use Rattle.model.specs.Answer.{Answer, result, refused, then, unless, nowhere}
 use Rattle.model.specs.Chart.{Chart}
-use Rattle.model.specs.Valid.{Valid}
 use Rattle.model.specs.FirstFit.{board, usedBy, blocked}
 use Rattle.model.specs.Rewrite.{numbering, rewrittenBy}
 use Rattle.model.specs.Plan.{Plan}
 use Rattle.model.specs.Judge.{Rewriting, judged, fitted, rewriting}
 use Rattle.model.specs.Player.{played}
-use Rattle.model.specs.Equivalence.{Alike}
-use Rattle.model.proofs.Answers.{result-same, not-result, unless-passed}
+use Rattle.model.proofs.Answers.{result-same, not-result, unless-result}
 use Rattle.model.proofs.EqualRuns.{plan-alike}
 use Rattle.model.proofs.RewrittenValid.{rewritten-valid}
 use Rattle.model.proofs.PlayerNumbers.{judged-is}
 use Rattle.model.proofs.PlayerLaws.{CountsAllowed, alike-played}
-
--- nothing is refused: 9, 10, 11, 20 in this order, and the result is the chart rewritten by first fit
-pub record NotRefused (K : ℕ) (c : Chart) (x : Rewriting) : Type 0 where
-  pub accepted : judged c ≡ result c
-  pub limit : K ≤ 64
-  pub unblocked : blocked K (board c) ≡ false
-  pub used : x .used ≡ usedBy (board c)
-  pub chart : x .chart ≡ rewrittenBy (numbering (board c)) c
+pub use Rattle.model.specs.Returned.{NotRefused, RewritingAlike}
 
 pub rewriting-is : (K : ℕ) (c : Chart) (x : Rewriting) → rewriting K c ≡ result x → NotRefused K c x
 unfolding rewriting fitted
 rewriting-is K c x e =
     let accepted : judged c ≡ result c = go (judged c) refl e in
     let rest : fitted K c ≡ result x = rw accepted at e in
-    let one = unless-passed (leb K 64) 11 nowhere (unless (not (blocked K (board c))) 20 nowhere (result made)) rest in
-    let two = unless-passed (not (blocked K (board c))) 20 nowhere (result made) (one .1) in
+    let one = unless-result (leb K 64) 11 nowhere (unless (not (blocked K (board c))) 20 nowhere (result made)) rest in
+    let two = unless-result (not (blocked K (board c))) 20 nowhere (result made) (one .1) in
     let same : made ≡ x = result-same (two .1) in
     record {
       accepted = accepted;
@@ -51,15 +43,6 @@ rewriting-is K c x e =
     go : (y : Answer Chart) → judged c ≡ y → then y (fitted K) ≡ result x → judged c ≡ result c
     go (result d) h p = judged-is c h
     go (refused n p) h q = absurd (not-result q)
-
--- what the rewriting returns: the rewritten chart, which behaves as the chart, fits the board, and fits a file
-pub record RewritingAlike (K : ℕ) (c : Chart) (x : Rewriting) : Type 0 where
-  pub chart : x .chart ≡ rewrittenBy (numbering (board c)) c
-  pub alike : Alike c (x .chart)
-  pub used : x .used ≡ numbering (board c) .used
-  pub fits : x .used ≤ K
-  pub limit : K ≤ 64
-  pub valid : (W : ℕ) → Valid W c → Valid W (x .chart)
 
 -- with first fit's numbers a plan, and 20 given wherever more than K are used
 module _ (K : ℕ) (c : Chart) (plan : Plan c (numbering (board c))) (fits-unblocked : blocked K (board c) ≡ false → usedBy (board c) ≤ K)

@@ -1,4 +1,5 @@
--- The rewritten chart has the paths of the chart, and no test of it is unstarted. Assumes nothing.
+-- The rewritten chart has the paths of the chart, and no test of it is unstarted. Hard: back along a path that does not start a board timer, the
+-- drawn timer has had its number from the beginning, and there no timer has one. Assumes nothing.
 use mathlib.Core.Path.{_≡_, sym, ap, _∙_, subst}
 use mathlib.Core.Logic.{_↔_}
 use mathlib.Core.Bool.{false}
@@ -40,13 +41,15 @@ module _ (c : Chart) (N : Numbering) where
 
   module _ (P : Plan c N) where
     -- back along a path that starts board timer k nowhere, a timer that has the number k at its end has had it from its beginning
-    numbered-before : (j k s : ℕ) → Has N s j k → (p : List ℕ) (q : ℕ) → Reached c q → Path c q p s → StartsNowhere (rewrittenBy N c) k p → Has N q j k
+    numbered-before : (j k s : ℕ) → Has N s j k → (p : List ℕ) (q : ℕ) → Reached c q → Path c q p s → StartsNowhere (rewrittenBy N c) k p
+        → Has N q j k
     numbered-before j k s h [] q reach w u = rw w h
     numbered-before j k s h (i ∷ p) q reach w u =
         rw (← (w .2)) (over (w .1) (rw (w .2) reach) (u .0 _ (new-nth N c i (w .1)))
         (numbered-before j k s h p (w .0 .target) (reached-step (rw (w .2) reach) (w .1)) (w .3) (u .1)))
       where
-        over : {r : Transition} → Nth c i r → Reached c (r .source) → memb k (newTransition N r .starts) ≡ false → Has N (r .target) j k → Has N (r .source) j k
+        over : {r : Transition} → Nth c i r → Reached c (r .source) → memb k (newTransition N r .starts) ≡ false
+            → Has N (r .target) j k → Has N (r .source) j k
         over {r} n here f t = unfold newTransition in (P .keeps i r j k n here (sym (started-alike c N P n here j k t) ∙ f) t)
 
     -- no transition of the rewritten chart has an unstarted test
@@ -58,4 +61,5 @@ module _ (c : Chart) (N : Numbering) where
             let path : List ℕ = u .unstarted .path in
             let w : Path c (c .initial) path (r .source) = old-path path (c .initial) (r .source) (u .unstarted .leads) in
             let t = tested-old N (r .source) (u .timer) (r .tests) (u .tests-it) in
-            P .begins (t .0) (u .timer) (numbered-before (t .0) (u .timer) (r .source) (t .2) path (c .initial) reached-initial w (u .unstarted .nowhere)))
+            P .begins (t .0) (u .timer)
+            (numbered-before (t .0) (u .timer) (r .source) (t .2) path (c .initial) reached-initial w (u .unstarted .nowhere)))

@@ -1,15 +1,14 @@
--- The rewritten chart is one that a file can hold, and it names only timers below used. Assumes nothing.
+-- The rewritten chart is one that a file can hold, and it names only timers below used. Nothing is hard: tests may be left out, and starts are
+-- numbers below used that rise. Assumes nothing.
 use mathlib.Core.Path.{_≡_, refl}
-use mathlib.Core.Bool.{true}
 use mathlib.Core.Option.{Option, none, some}
 use mathlib.Core.List.{List, [], _∷_, map, filterMap}
-use Prim.Native.Nat.{ℕ, _≤_, _<_}
+use Prim.Native.Nat.{ℕ, _≤_}
 use native.Mathlib.Omega.{arith}
 use lib.ListN.{length, length-map}
-use Rattle.lists.specs.Lists.{memb}
 use Rattle.lists.specs.Rising.{All}
 use Rattle.lists.proofs.Gather.{pick-rising}
-use Rattle.model.specs.Chart.{Test, Transition, Chart, Nth, tested}
+use Rattle.model.specs.Chart.{Test, Transition, Chart, Nth}
 use Rattle.model.specs.Valid.{Valid, ValidTest, ValidTransition}
 use Rattle.model.specs.Rewrite.{Numbering, newTests, newStarts, newTransition, rewrittenBy, NamesBelow}
 use Rattle.model.specs.Plan.{Plan}
@@ -45,7 +44,9 @@ module _ (c : Chart) (N : Numbering) (P : Plan c N) where
     few-timers = few;
     accepting = x .accepting;
     few-transitions = rw (length-map (c .transitions) (newTransition N)) (x .few-transitions);
-    transitions = all-map (ValidTransition W (c .locations) (c .timers)) (ValidTransition W (c .locations) (N .used)) (newTransition N) (c .transitions) kept (x .transitions);
+    transitions =
+        all-map (ValidTransition W (c .locations) (c .timers)) (ValidTransition W (c .locations) (N .used))
+        (newTransition N) (c .transitions) kept (x .transitions);
   }
     where
       kept : (r : Transition) → ValidTransition W (c .locations) (c .timers) r → ValidTransition W (c .locations) (N .used) (newTransition N r)

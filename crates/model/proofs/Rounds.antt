@@ -1,4 +1,5 @@
--- Rounds from the empty sets: they grow, hold only what comes, and hold all of it where a round changes nothing. Assumes nothing.
+-- Rounds from the empty sets: they grow, hold only what comes, and hold all of it where a round changes nothing. Hard: that they hold all of it,
+-- by induction over how a timer comes, from sets that a round does not change. Assumes nothing.
 use mathlib.Core.Path.{_≡_, refl}
 use mathlib.Core.Logic.{_⊎_, inl, inr}
 use mathlib.Core.Bool.{Bool, true, false}
@@ -78,7 +79,8 @@ module _ (f : Flow) where
   sound zero q j h = absurd (not-both (rw getD-zeros at h) (member-empty j))
   sound (suc k) q j h = go (λ s. sound k s j) (round-out (roundsOf f k) q j h .way)
     where
-      go : ((s : ℕ) → member (getD (roundsOf f k) s 0) j ≡ true → Comes f j s) → Way f j (λ s. member (getD (roundsOf f k) s 0) j ≡ true) q → Comes f j q
+      go : ((s : ℕ) → member (getD (roundsOf f k) s 0) j ≡ true → Comes f j s)
+          → Way f j (λ s. member (getD (roundsOf f k) s 0) j ≡ true) q → Comes f j q
       go ih (by-own o) = owned o
       go ih (by-gain i g) = gained i g
       go ih (by-edge {e} i n s) = along i n (ih (e .from) s)
@@ -88,7 +90,8 @@ module _ (f : Flow) where
     complete sets still q j l (owned o) = rw still at (round-in sets q j (record { below = l; way = by-own o }))
     complete sets still q j l (gained i g) = rw still at (round-in sets q j (record { below = l; way = by-gain i g }))
     complete sets still q j l (along {e = e} i n m) =
-        rw still at (round-in sets q j (record { below = l; way = by-edge i n (complete sets still (e .from) j (shaped .from-below (i .number) (i .is-nth)) m) }))
+        let before = complete sets still (e .from) j (shaped .from-below (i .number) (i .is-nth)) m in
+        rw still at (round-in sets q j (record { below = l; way = by-edge i n before }))
 
     -- ---- every set of a round is a word of 64
 
@@ -99,7 +102,9 @@ module _ (f : Flow) where
     edges-word before words q (e ∷ es) w h g = edges-word before words q es (withEdge before q w e) (one (eqb (e .into) q)) (λ i. g (suc i))
       where
         one : (b : Bool) → elim b as (λ _. ℕ) [ true ↦ joined w (brings before e) | false ↦ w ] < 2 ^ 64
-        one true = joined-lt 64 w (brings before e) h (joined-lt 64 (e .gain) _ (g 0 e refl) (minus-lt 64 (getD before (e .from) 0) (e .cut) (words (e .from))))
+        one true =
+            let kept = minus-lt 64 (getD before (e .from) 0) (e .cut) (words (e .from)) in
+            joined-lt 64 w (brings before e) h (joined-lt 64 (e .gain) _ (g 0 e refl) kept)
         one false = h
 
     round-words : (before : List ℕ) → Words before → Words (round f before)
@@ -107,7 +112,8 @@ module _ (f : Flow) where
     round-words before words q = go (lt-or-le q (f .locations))
       where
         go : (q < f .locations) ⊎ (f .locations ≤ q) → getD (round f before) q 0 < 2 ^ 64
-        go (inl l) = rw (getD-round before q l) (edges-word before words q (f .edges) (f .own q) (shaped .own-word q) (λ i e n. shaped .gain-word i n))
+        go (inl l) =
+            rw (getD-round before q l) (edges-word before words q (f .edges) (f .own q) (shaped .own-word q) (λ i e n. shaped .gain-word i n))
         go (inr l) = rw (getD-beyond before q l) (lit< tt)
 
     pub rounds-words : (k : ℕ) → Words (roundsOf f k)

@@ -1,9 +1,9 @@
--- Rounds end: each round that changes a set puts one timer more into one, so at most 64 to a location do. Where they end the sets hold exactly
--- what comes. Assumes nothing.
+-- Rounds end, and where they end the sets hold exactly what comes. Hard: the number of rounds, bounded by how many timers can still be added: each
+-- round that changes a set puts one more into one, and there is room for 64 to a location. Assumes nothing.
 use mathlib.Core.Path.{_≡_, refl, sym, ap, ap₂, _∙_}
 use mathlib.Core.Logic.{_⊎_, inl, inr, _↔_}
 use mathlib.Core.Bool.{Bool, true, true≢false}
-use mathlib.Core.List.{List, [], _∷_}
+use mathlib.Core.List.{List, [], _∷_, map}
 use Prim.Native.Nat.{ℕ, zero, suc, _+_, _*_, _≤_, _<_}
 use native.Mathlib.Nat.{suc-inj, suc-ne-zero}
 use native.Mathlib.Omega.{arith}
@@ -11,36 +11,37 @@ use lib.Count.{ones, ones-le}
 use lib.Dec.{eqb}
 use lib.ListN.{length, getD, List·getD-eq-default}
 use Rattle.timer_set.specs.Members.{member}
+use Rattle.lists.specs.Lists.{sumOf}
 use Rattle.model.specs.Comes.{Comes, Shaped}
 use Rattle.timer_set.proofs.Counts.{ones-grow}
 use Rattle.lists.proofs.Bools.{lt-or-le, not-both, is-no, and-left, and-right, and-both, eqb-self, same-number}
-use Rattle.lists.proofs.Lowest.{lowest-le, lowest-passes, lowest-before, lowest-is}
+use Rattle.lists.proofs.Lowest.{lowest-passes, lowest-before, lowest-is}
 use Rattle.model.specs.Flow.{Flow, round, roundsOf, sameSets, changing, settled, rounds}
 use Rattle.model.proofs.Rounds.{Under, Words, length-rounds, rounds-grow, sound, complete, rounds-words}
 
 -- ---- how many timers stand in the sets
 
-total : List ℕ → ℕ
-total [] = 0
-total (w ∷ ws) = ones w + total ws
+abbrev timersIn : List ℕ → ℕ
+timersIn l = sumOf (map ones l)
 
-total-le : (l : List ℕ) → Words l → total l ≤ 64 * length l
-unfolding total
-total-le [] h = omega arith
-total-le (w ∷ ws) h = omega (arith, ones-le 64 w (h 0), total-le ws (λ q. h (suc q)))
+timers-most : (l : List ℕ) → Words l → timersIn l ≤ 64 * length l
+unfolding sumOf
+timers-most [] h = omega arith
+timers-most (w ∷ ws) h = omega (arith, ones-le 64 w (h 0), timers-most ws (λ q. h (suc q)))
 
-more : (a b : List ℕ) → Words a → Words b → length a ≡ length b → Under a b → (a ≡ b) ⊎ (total a < total b)
-unfolding total
+more : (a b : List ℕ) → Words a → Words b → length a ≡ length b → Under a b → (a ≡ b) ⊎ (timersIn a < timersIn b)
+unfolding sumOf
 more [] [] v w e u = inl refl
 more [] (y ∷ ys) v w e u = absurd (suc-ne-zero (length ys) (sym e))
 more (x ∷ xs) [] v w e u = absurd (suc-ne-zero (length xs) e)
 more (x ∷ xs) (y ∷ ys) v w e u =
     go (ones-grow 64 x y (v 0) (w 0) (λ j l. u 0 j)) (more xs ys (λ q. v (suc q)) (λ q. w (suc q)) (suc-inj e) (λ q. u (suc q)))
   where
-    go : (x ≡ y) ⊎ (ones x < ones y) → (xs ≡ ys) ⊎ (total xs < total ys) → (x ∷ xs ≡ y ∷ ys) ⊎ (ones x + total xs < ones y + total ys)
+    go : (x ≡ y) ⊎ (ones x < ones y) → (xs ≡ ys) ⊎ (timersIn xs < timersIn ys)
+        → (x ∷ xs ≡ y ∷ ys) ⊎ (ones x + timersIn xs < ones y + timersIn ys)
     go (inl p) (inl q) = inl (ap₂ (λ (z : ℕ) (zs : List ℕ). z ∷ zs) p q)
     go (inl p) (inr q) = inr (omega (arith, ap ones p))
-    go (inr p) (inl q) = inr (omega (arith, ap total q))
+    go (inr p) (inl q) = inr (omega (arith, ap timersIn q))
     go (inr p) (inr q) = inr (omega arith)
 
 -- ---- the same sets
@@ -56,7 +57,8 @@ same-sets-equal [] [] h = refl
 same-sets-equal [] (y ∷ ys) h = absurd (true≢false (sym h))
 same-sets-equal (x ∷ xs) [] h = absurd (true≢false (sym h))
 same-sets-equal (x ∷ xs) (y ∷ ys) h =
-    ap₂ (λ (z : ℕ) (zs : List ℕ). z ∷ zs) (same-number (and-left (eqb x y) (sameSets xs ys) h)) (same-sets-equal xs ys (and-right (eqb x y) (sameSets xs ys) h))
+    let first = same-number (and-left (eqb x y) (sameSets xs ys) h) in
+    ap₂ (λ (z : ℕ) (zs : List ℕ). z ∷ zs) first (same-sets-equal xs ys (and-right (eqb x y) (sameSets xs ys) h))
 
 -- ---- the rounds that change a set
 
@@ -78,10 +80,6 @@ module _ (f : Flow) where
   unfolding changing
   changing-moves k l e = not-both (rw (← e) (same-sets-self (roundsOf f k))) (lowest-before still (64 * f .locations) k l)
 
-  pub changing-most : changing f ≤ 64 * f .locations
-  unfolding changing
-  changing-most = lowest-le _ (64 * f .locations)
-
   pub length-settled : length (settled f) ≡ f .locations
   unfolding settled
   length-settled = length-rounds f (changing f)
@@ -90,19 +88,23 @@ module _ (f : Flow) where
   settled-beyond q h = List·getD-eq-default (settled f) 0 (omega (arith, length-settled))
 
   module _ (shaped : Shaped f) where
-    next : (k : ℕ) → (roundsOf f k ≡ roundsOf f (suc k)) ⊎ (total (roundsOf f k) < total (roundsOf f (suc k)))
+    -- the round after k changes nothing, or adds a timer
+    abbrev StillOrMore : ℕ → Type 0
+    StillOrMore k = (roundsOf f k ≡ roundsOf f (suc k)) ⊎ (timersIn (roundsOf f k) < timersIn (roundsOf f (suc k)))
+
+    next : (k : ℕ) → StillOrMore k
     next k =
-        more (roundsOf f k) (roundsOf f (suc k)) (rounds-words f shaped k) (rounds-words f shaped (suc k)) (length-rounds f k ∙ sym (length-rounds f (suc k)))
-        (rounds-grow f k)
+        let lengths = length-rounds f k ∙ sym (length-rounds f (suc k)) in
+        more (roundsOf f k) (roundsOf f (suc k)) (rounds-words f shaped k) (rounds-words f shaped (suc k)) lengths (rounds-grow f k)
 
-    room : (k : ℕ) → total (roundsOf f k) ≤ 64 * f .locations
-    room k = omega (arith, total-le (roundsOf f k) (rounds-words f shaped k), length-rounds f k)
+    room : (k : ℕ) → timersIn (roundsOf f k) ≤ 64 * f .locations
+    room k = omega (arith, timers-most (roundsOf f k) (rounds-words f shaped k), length-rounds f k)
 
-    counted : (k : ℕ) → Changes f k → k ≤ total (roundsOf f k)
+    counted : (k : ℕ) → Changes f k → k ≤ timersIn (roundsOf f k)
     counted zero m = omega arith
     counted (suc k) m = go (next k) (counted k (λ i l. m i (omega arith)))
       where
-        go : (roundsOf f k ≡ roundsOf f (suc k)) ⊎ (total (roundsOf f k) < total (roundsOf f (suc k))) → k ≤ total (roundsOf f k) → suc k ≤ total (roundsOf f (suc k))
+        go : StillOrMore k → k ≤ timersIn (roundsOf f k) → suc k ≤ timersIn (roundsOf f (suc k))
         go (inl e) h = absurd (m k (omega arith) e)
         go (inr l) h = omega arith
 
@@ -123,7 +125,7 @@ module _ (f : Flow) where
     unfolding settled roundsOf changing
     settled-still = sym (go (next (changing f)) (lt-or-le (changing f) (64 * f .locations)))
       where
-        go : (roundsOf f (changing f) ≡ roundsOf f (suc (changing f))) ⊎ (total (roundsOf f (changing f)) < total (roundsOf f (suc (changing f))))
+        go : StillOrMore (changing f)
             → (changing f < 64 * f .locations) ⊎ (64 * f .locations ≤ changing f) → roundsOf f (changing f) ≡ roundsOf f (suc (changing f))
         go (inl e) x = e
         go (inr l) (inl h) = same-sets-equal (roundsOf f (changing f)) (roundsOf f (suc (changing f))) (lowest-passes still (64 * f .locations) h)

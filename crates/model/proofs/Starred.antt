@@ -1,4 +1,5 @@
--- The cases that document 01 marks ★ hold, and those that go wrong unnoticed: the definitions compute the replies that it gives. Assumes nothing.
+-- The cases that document 01 marks ★ hold, and those that go wrong unnoticed. Nothing is hard: the definitions compute the replies that it gives.
+-- Assumes nothing.
 use mathlib.Core.Path.{_≡_, refl}
 use mathlib.Core.List.{_++_, map, filterMap}
 use lib.Count.{ones, onesIn}
@@ -7,13 +8,15 @@ use Rattle.comparison.specs.Comparison.{met}
 use Rattle.lists.specs.Lists.{memb, anyOf, firstOf, lowest, gather, upTo, pick, top}
 use Rattle.model.specs.Run.{grown, restarted, allMet, after, enabled, attempt, steps, begin, outcome, playerTime, accepts}
 use Rattle.model.specs.Flow.{brings, made, round, roundsOf, sameSets, changing, settled}
-use Rattle.model.specs.Live.{startsSet, testsSet, atInitial, liveFlow, unstartedFlow, reachedFlow, liveSets, unstartedSets, reachedSets, isEmpty, firstUnreached, firstUnstarted}
+use Rattle.model.specs.Live.{startsSet, testsSet, atInitial, liveFlow, unstartedFlow, reachedFlow}
+use Rattle.model.specs.Live.{liveSets, unstartedSets, reachedSets, isEmpty, firstUnreached, firstUnstarted}
 use Rattle.model.specs.Family.{isPair, livePairs, familyNumber, linkFlow, familyOf, familyFrom, families, meets}
 use Rattle.model.specs.FirstFit.{held, free, place, firstFit, usedBy, numberAt, allHeld, blocked, fullest, floor, board}
 use Rattle.model.specs.Rewrite.{numbering, renamed, newTests, newStarts, newTransition, rewrittenBy}
 use Rattle.model.specs.Judge.{judged, fitted, rewriting}
 use Rattle.model.specs.Player.{arrival, answerOf, tooLarge, countsJudged, stepsOf, played}
-use Rattle.model.specs.Cases.{arrow, test, drawn, A, B, C, selfLoop, neverStarted, restart, ownStart, B′, C′, selfLoop′, boardNumbers, ask, Case, case, starred, unnoticed}
+use Rattle.model.specs.Cases.{arrow, test, drawn, A, B, C, selfLoop, neverStarted, restart, ownStart, B′, C′, selfLoop′}
+use Rattle.model.specs.Cases.{boardNumbers, ask, Case, case, starred, unnoticed}
 
 pub starred-hold : map (λ (x : Case). ask (x .question)) (starred ++ unnoticed) ≡ map (λ (x : Case). x .reply) (starred ++ unnoticed)
 unfolding arrow test drawn A B C selfLoop neverStarted restart ownStart B′ C′ selfLoop′ boardNumbers ask case starred unnoticed

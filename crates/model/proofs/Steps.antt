@@ -1,4 +1,4 @@
--- One step, and lists of steps: how an attempt is judged, and that what begins a run is a run. Assumes nothing.
+-- One step, and lists of steps: how an attempt is judged, and that what begins a run is a run. Nothing is hard. Assumes nothing.
 use mathlib.Core.Path.{_≡_, refl}
 use mathlib.Core.Bool.{Bool}
 use mathlib.Core.Option.{none}
@@ -25,7 +25,8 @@ module _ (allowed : ℕ → Bool) (c : Chart) (n : ℕ) (s : State) (e : Step) w
   unfolding attempt
   attempt-none h = rw (h, attempt) refl
 
-  pub attempt-some : {r : Transition} → Nth c (e .transition) r → attempt allowed c n s e ≡ unless (allowed (e .time)) 15 n (judgedStep c n r s (e .time))
+  pub attempt-some : {r : Transition} → Nth c (e .transition) r
+      → attempt allowed c n s e ≡ unless (allowed (e .time)) 15 n (judgedStep c n r s (e .time))
   unfolding attempt
   attempt-some m = rw (m .there, attempt) refl
 

@@ -2,6 +2,7 @@
 use mathlib.Core.Bool.{Bool, true, false}
 use Prim.Native.Nat.{ℕ}
 
+-- what is asked for, or a refusal
 pub data Answer (A : Type 0) : Type 0 where
   result : A → Answer A
   refused : (number place : ℕ) → Answer A

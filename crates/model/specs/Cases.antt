@@ -17,6 +17,7 @@ use Rattle.model.specs.Player.{Arrival, played}
 unfoldable pub arrow : (s t : ℕ) → List ℕ → List Test → Transition
 arrow s t starts tests = record { source = s; target = t; event = 0; starts = starts; tests = tests }
 
+-- "tests j at least k" and its like
 unfoldable pub test : ℕ → Comparison → ℕ → Test
 test j x k = record { timer = j; comparison = x; constant = k }
 
@@ -24,6 +25,7 @@ test j x k = record { timer = j; comparison = x; constant = k }
 unfoldable pub drawn : (locations last timers : ℕ) → List Transition → Chart
 drawn n last m rs = record { locations = n; initial = 0; timers = m; accepting = last ∷ []; transitions = rs }
 
+-- chart A of the document
 unfoldable pub A : Chart
 A = drawn 7 6 3 (
     arrow 0 1 (0 ∷ []) []
@@ -35,6 +37,7 @@ A = drawn 7 6 3 (
     ∷ arrow 5 6 [] (test 2 Above 2 ∷ [])
     ∷ [])
 
+-- chart B
 unfoldable pub B : Chart
 B = drawn 4 3 2 (
     arrow 0 1 (0 ∷ []) []
@@ -42,6 +45,7 @@ B = drawn 4 3 2 (
     ∷ arrow 2 3 [] (test 1 AtLeast 1 ∷ [])
     ∷ [])
 
+-- chart C
 unfoldable pub C : Chart
 C = drawn 6 5 2 (
     arrow 0 1 (1 ∷ []) []
@@ -89,15 +93,18 @@ C′ = drawn 6 5 2 (
     ∷ arrow 4 5 [] (test 0 AtLeast 2 ∷ [])
     ∷ [])
 
+-- the self-loop rewritten: nothing is live, so nothing is started
 unfoldable pub selfLoop′ : Chart
 selfLoop′ = drawn 1 0 0 (arrow 0 0 [] [] ∷ [])
 
+-- what a case asks of a chart
 pub data Question : Type 0 where
   live-sets : Chart → Question
   numbers : Chart → Question
   rewrite : Chart → (K : ℕ) → Question
   play : Chart → (counts transitions times : List ℕ) → Question
 
+-- what the document answers
 pub data Reply : Type 0 where
   sets : List ℕ → Reply
   given : List (ℕ × ℕ) → (used floor : ℕ) → Reply
@@ -108,16 +115,19 @@ pub data Reply : Type 0 where
 unfoldable pub boardNumbers : List Placed → List (ℕ × ℕ)
 boardNumbers ps = reverse (map (λ g. (familyNumber (g .family), g .number)) ps)
 
+-- what the definitions answer
 unfoldable pub ask : Question → Reply
 ask (live-sets c) = sets (liveSets c)
 ask (numbers c) = let placed = board c in given (boardNumbers placed) (usedBy placed) (floor c)
 ask (rewrite c k) = rewriting-is (rewriting k c)
 ask (play c v is ts) = played-is (played c v is ts)
 
+-- a question with the reply that the document gives
 pub record Case : Type 0 where
   pub question : Question
   pub reply : Reply
 
+-- the same in short
 unfoldable pub case : Question → Reply → Case
 case q r = record { question = q; reply = r }
 

@@ -15,6 +15,7 @@ pub record Test : Type 0 where
   pub comparison : Comparison
   pub constant : ℕ
 
+-- from a location to a location, on an event: what it starts and what it tests
 pub record Transition : Type 0 where
   pub source : ℕ
   pub target : ℕ
@@ -22,6 +23,7 @@ pub record Transition : Type 0 where
   pub starts : List ℕ
   pub tests : List Test
 
+-- as it is drawn: accepting locations rise, and so do the starts of a transition (`Valid`)
 pub record Chart : Type 0 where
   pub locations : ℕ
   pub initial : ℕ

@@ -17,6 +17,7 @@ pub record Starts (c : Chart) (k : ℕ) (e : Step) : Type 0 where
   pub is-nth : Nth c (e .transition) transition
   pub starts-it : memb k (transition .starts) ≡ true
 
+-- some step of the list starts timer k
 abbrev pub StartedIn : Chart → ℕ → List Step → Type 0
 StartedIn c k [] = ⊥
 StartedIn c k (e ∷ es) = Starts c k e ⊎ StartedIn c k es
@@ -49,6 +50,7 @@ pub record SamePoints (c c′ : Chart) (v w : Counts) (taken : List Step) : Type
   pub run′ : Run c′ w taken left′
   pub waits : (d : ℕ) → SamePoint c c′ taken (waited d left) (waited d left′)
 
+-- the list is a run, whatever it leaves
 abbrev pub IsRun : Chart → Counts → List Step → Type 0
 IsRun c v es = (s : State) × Run c v es s
 

@@ -1,7 +1,7 @@
--- Families (document 01, "Live, born, family, board number"), over the pairs and the links that are handed in. Assumes nothing.
+-- Families (document 01, "Live, born, family, board number"), over any pairs and links. Assumes nothing.
 use mathlib.Core.Path.{_≡_}
 use mathlib.Core.Logic.{_⊎_}
-use mathlib.Core.Bool.{Bool, true, false}
+use mathlib.Core.Bool.{Bool, true, false, _&&_}
 use mathlib.Core.List.{List, [], _∷_, _++_, map}
 use Prim.Native.Nat.{ℕ, _+_, _*_, _^_, _≤_, _<_}
 use lib.Dec.{eqb}
@@ -26,6 +26,7 @@ pub record Pairs : Type 0 where
   pub sets : List ℕ
   pub links : List Link
 
+-- (q, j) is one of the pairs
 unfoldable pub isPair : Pairs → (q j : ℕ) → Bool
 isPair p q j = member (getD (p .sets) q 0) j
 
@@ -51,6 +52,7 @@ pub record WellFormedLink (p : Pairs) (l : Link) : Type 0 where
   pub pair-one : (j : ℕ) → member (l .timers) j ≡ true → isPair p (l .one) j ≡ true
   pub pair-other : (j : ℕ) → member (l .timers) j ≡ true → isPair p (l .other) j ≡ true
 
+-- all pairs and all links are in range
 pub record WellFormed (p : Pairs) : Type 0 where
   pub few-timers : p .timers ≤ 64
   pub location : (q j : ℕ) → isPair p q j ≡ true → q < p .locations
@@ -67,6 +69,7 @@ pub record Linked (p : Pairs) (j q s : ℕ) : Type 0 where
   pub holds : member (link .timers) j ≡ true
   pub ends : ((link .one ≡ q) × (link .other ≡ s)) ⊎ ((link .one ≡ s) × (link .other ≡ q))
 
+-- links lead from (q, j) over the locations of the list to (s, j)
 abbrev pub Chain : Pairs → ℕ → ℕ → List ℕ → ℕ → Type 0
 Chain p j q [] s = q ≡ s
 Chain p j q (x ∷ xs) s = Linked p j q x × Chain p j x xs s
@@ -83,6 +86,10 @@ pub record Family : Type 0 where
   pub timer : ℕ
   pub first : ℕ
   pub locations : List ℕ
+
+-- the pair (q, j) is of the family
+abbrev pub has : Family → (q j : ℕ) → Bool
+has f q j = eqb (f .timer) j && memb q (f .locations)
 
 -- its number: the smallest 64 times location plus timer among its pairs
 unfoldable pub familyNumber : Family → ℕ

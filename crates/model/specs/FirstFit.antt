@@ -29,6 +29,7 @@ unfoldable pub place : List Family → List Placed → List Placed
 place [] placed = placed
 place (f ∷ fs) placed = place fs (record { family = f; number = free (held f placed) } ∷ placed)
 
+-- all families placed
 unfoldable pub firstFit : Pairs → List Placed
 firstFit p = place (families p) []
 
@@ -41,10 +42,11 @@ unfoldable pub numberAt : List Placed → (q j : ℕ) → Option ℕ
 numberAt [] q j = none
 numberAt (g ∷ gs) q j = elim (eqb (g .family .timer) j && memb q (g .family .locations)) [ true ↦ some (g .number) | false ↦ numberAt gs q j ]
 
--- 20: all K numbers are held by earlier families that the next one meets
+-- all K numbers are in the list
 unfoldable pub allHeld : (K : ℕ) → List ℕ → Bool
 allHeld K l = eqb (lowest (λ k. not (memb k l)) K) K
 
+-- 20: all K numbers are held by earlier families that the next one meets
 unfoldable pub blocked : (K : ℕ) → List Placed → Bool
 blocked K [] = false
 blocked K (g ∷ earlier) = allHeld K (held (g .family) earlier) || blocked K earlier
@@ -54,12 +56,14 @@ unfoldable pub fullest : List ℕ → ℕ
 fullest [] = 0
 fullest (w ∷ ws) = max (ones w) (fullest ws)
 
+-- of a chart: its fullest live set
 unfoldable pub floor : Chart → ℕ
 floor c = fullest (liveSets c)
 
--- the board numbers of a chart, and how many timers they use
+-- the board numbers of a chart
 unfoldable pub board : Chart → List Placed
 board c = firstFit (livePairs c)
 
+-- how many board timers a chart uses
 unfoldable pub used : Chart → ℕ
 used c = usedBy (board c)

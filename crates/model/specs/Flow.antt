@@ -29,6 +29,7 @@ brings before e = joined (e .gain) (minus (getD before (e .from) 0) (e .cut))
 unfoldable pub made : Flow → List ℕ → ℕ → ℕ
 made f before q = foldl (λ w e. elim (eqb (e .into) q) [ true ↦ joined w (brings before e) | false ↦ w ]) (f .own q) (f .edges)
 
+-- one round: all sets anew
 unfoldable pub round : Flow → List ℕ → List ℕ
 round f before = upTo (made f before) (f .locations)
 
@@ -37,6 +38,7 @@ unfoldable pub roundsOf : Flow → ℕ → List ℕ
 roundsOf f zero = replicate (f .locations) 0
 roundsOf f (suc k) = round f (roundsOf f k)
 
+-- no set differs
 unfoldable pub sameSets : List ℕ → List ℕ → Bool
 sameSets [] [] = true
 sameSets [] (y ∷ ys) = false
@@ -47,9 +49,10 @@ sameSets (x ∷ xs) (y ∷ ys) = eqb x y && sameSets xs ys
 unfoldable pub changing : Flow → ℕ
 changing f = lowest (λ k. sameSets (roundsOf f k) (roundsOf f (suc k))) (64 * f .locations)
 
--- the sets that the last round leaves, and the number of rounds, the last one counted
+-- the sets that the last round leaves
 unfoldable pub settled : Flow → List ℕ
 settled f = roundsOf f (changing f)
 
+-- the number of rounds, the last one counted
 unfoldable pub rounds : Flow → ℕ
 rounds f = suc (changing f)

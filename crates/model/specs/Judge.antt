@@ -13,12 +13,13 @@ use Rattle.model.specs.Rewrite.{numbering, rewrittenBy}
 -- 9 at the lowest location that no path reaches; then 10 at the lowest transition with an unstarted test
 unfoldable pub judged : Chart → Answer Chart
 judged c =
-    let lost = firstUnreached c in
-    let early = firstUnstarted c in
-    unless (leb (c .locations) lost) 9 lost (
-    unless (leb (length (c .transitions)) early) 10 early (
+    let unreached = firstUnreached c in
+    let unstarted = firstUnstarted c in
+    unless (leb (c .locations) unreached) 9 unreached (
+    unless (leb (length (c .transitions)) unstarted) 10 unstarted (
     result c))
 
+-- a rewritten chart, and how many board timers it uses
 pub record Rewriting : Type 0 where
   pub used : ℕ
   pub chart : Chart
@@ -31,5 +32,6 @@ fitted K c =
     unless (not (blocked K placed)) 20 nowhere (
     result (record { used = usedBy placed; chart = rewrittenBy (numbering placed) c })))
 
+-- the judgement first, then the fitting
 unfoldable pub rewriting : (K : ℕ) → Chart → Answer Rewriting
 rewriting K c = then (judged c) (fitted K)

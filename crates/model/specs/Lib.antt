@@ -13,6 +13,7 @@ pub mod Player
 pub mod Cases
 pub mod Plan
 pub mod Equivalence
+pub mod Returned
 pub mod Places
 pub mod SharingRule
 pub mod PlayerTerms

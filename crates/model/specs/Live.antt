@@ -10,9 +10,11 @@ use Rattle.lists.specs.Lists.{lowest, firstOf}
 use Rattle.model.specs.Chart.{Test, Transition, Chart}
 use Rattle.model.specs.Flow.{Flow, settled}
 
+-- the timers that a transition starts
 unfoldable pub startsSet : Transition → ℕ
 startsSet r = setOf (r .starts)
 
+-- the timers that it tests
 unfoldable pub testsSet : Transition → ℕ
 testsSet r = setOf (map (λ (t : Test). t .timer) (r .tests))
 
@@ -60,9 +62,11 @@ unstartedSets c = settled (unstartedFlow c)
 unfoldable pub reachedSets : Chart → List ℕ
 reachedSets c = settled (reachedFlow c)
 
+-- j is in the live set of q
 unfoldable pub live : Chart → (q j : ℕ) → Bool
 live c q j = member (getD (liveSets c) q 0) j
 
+-- the set has no timer
 unfoldable pub isEmpty : ℕ → Bool
 isEmpty w = eqb w 0
 

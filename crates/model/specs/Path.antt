@@ -34,6 +34,15 @@ pub record Live (c : Chart) (q j : ℕ) : Type 0 where
   pub unstarted : StartsNowhere c j front
   pub read : ReadAt c end j
 
+-- a transition from q that does not start j, with j live at its target
+pub record LiveOnward (c : Chart) (q j : ℕ) : Type 0 where
+  pub number : ℕ
+  pub transition : Transition
+  pub is-nth : Nth c number transition
+  pub leaves : transition .source ≡ q
+  pub not-started : memb j (transition .starts) ≡ false
+  pub live : Live c (transition .target) j
+
 -- active on r: live at its target
 abbrev pub Active : Chart → Transition → ℕ → Type 0
 Active c r j = Live c (r .target) j

@@ -15,6 +15,7 @@ pub record LowestUnreached (c : Chart) (q : ℕ) : Type 0 where
   pub unreached : Reached c q → ⊥
   pub lower-reached : (p : ℕ) → p < q → Reached c p
 
+-- a path reaches every location
 abbrev pub AllReached : Chart → Type 0
 AllReached c = (q : ℕ) → q < c .locations → Reached c q
 

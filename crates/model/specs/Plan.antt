@@ -22,6 +22,7 @@ Numbered N q ts = (j : ℕ) → tested j ts ≡ true → (k : ℕ) × Has N q j 
 abbrev pub Together : Chart → (j k : ℕ) → Type 0
 Together c j k = (i : ℕ) (r : Transition) → Nth c i r → Reached c (r .source) → memb j (r .starts) ≡ memb k (r .starts)
 
+-- a plan: what a numbering has to keep
 pub record Plan (c : Chart) (N : Numbering) : Type 0 where
   -- no timer has a number at the initial location
   pub begins : (j k : ℕ) → Has N (c .initial) j k → ⊥

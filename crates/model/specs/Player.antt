@@ -17,6 +17,7 @@ pub record Arrival : Type 0 where
   pub time : ℕ
   pub accepting : Bool
 
+-- the arrival of a state
 unfoldable pub arrival : Chart → State → Answer Arrival
 arrival c s = result (record { location = s .location; time = s .time; accepting = accepts c (s .location) })
 
@@ -35,6 +36,7 @@ countsJudged c counts x =
     unless (eqb (length counts) (c .timers)) 12 nowhere (
     unless (leb (c .timers) first) 12 first x)
 
+-- the steps that two lists give, as long as the shorter
 unfoldable pub stepsOf : (transitions times : List ℕ) → List Step
 stepsOf [] ts = []
 stepsOf (i ∷ is) [] = []
@@ -47,5 +49,6 @@ playedOn counts is ts c =
     unless (eqb (length is) (length ts)) 13 nowhere (
     answerOf playerTime c (λ j. getD counts j 0) (stepsOf is ts)))
 
+-- the player on a chart: the judgement first
 unfoldable pub played : Chart → (counts transitions times : List ℕ) → Answer Arrival
 played c counts is ts = then (judged c) (playedOn counts is ts)

@@ -30,6 +30,7 @@ pub record LateStep (c : Chart) (v : Counts) (es : List Step) (n : ℕ) : Type 0
   pub too-late : TooLate c es n
   pub taken : IsRun c v (take n es)
 
+-- what the player answers to a step list
 pub record PlayerAnswer (c : Chart) (v : Counts) (es : List Step) : Type 0 where
   -- 15 at step n exactly where step n is late
   pub late : (n : ℕ) → (answerOf playerTime c v es ≡ refused 15 n) ↔ LateStep c v es n

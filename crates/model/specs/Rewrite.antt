@@ -13,6 +13,7 @@ pub record Numbering : Type 0 where
   pub number : (q j : ℕ) → Option ℕ
   pub used : ℕ
 
+-- the numbering that placed families give
 unfoldable pub numbering : List Placed → Numbering
 numbering ps = record { number = numberAt ps; used = usedBy ps }
 
@@ -21,6 +22,7 @@ unfoldable pub renamed : Test → Option ℕ → Option Test
 renamed t none = none
 renamed t (some k) = some (record { timer = k; comparison = t .comparison; constant = t .constant })
 
+-- the tests rewritten; one whose timer has no number is left out
 unfoldable pub newTests : Numbering → (q : ℕ) → List Test → List Test
 newTests N q ts = filterMap (λ t. renamed t (N .number q (t .timer))) ts
 
@@ -28,6 +30,7 @@ newTests N q ts = filterMap (λ t. renamed t (N .number q (t .timer))) ts
 unfoldable pub newStarts : Numbering → Transition → List ℕ
 newStarts N r = let born = filterMap (N .number (r .target)) (r .starts) in pick (λ k. memb k born) (N .used)
 
+-- a transition rewritten: its tests by the numbers at its source, its starts by those at its target
 unfoldable pub newTransition : Numbering → Transition → Transition
 newTransition N r = record {
   source = r .source;
@@ -37,6 +40,7 @@ newTransition N r = record {
   tests = newTests N (r .source) (r .tests);
 }
 
+-- the chart rewritten by any numbering
 unfoldable pub rewrittenBy : Numbering → Chart → Chart
 rewrittenBy N c = record {
   locations = c .locations;

@@ -23,15 +23,18 @@ grown d v = λ j. v j + d
 unfoldable pub restarted : List ℕ → Counts → Counts
 restarted l v = λ j. elim (memb j l) [ true ↦ 0 | false ↦ v j ]
 
+-- the counts meet every test
 unfoldable pub allMet : List Test → Counts → Bool
 allMet [] v = true
 allMet (t ∷ ts) v = met (t .comparison) (v (t .timer)) (t .constant) && allMet ts v
 
+-- where a run stands, when, and with which counts
 pub record State : Type 0 where
   pub location : ℕ
   pub time : ℕ
   pub counts : Counts
 
+-- a transition number and its time
 pub record Step : Type 0 where
   pub transition : ℕ
   pub time : ℕ
@@ -69,6 +72,7 @@ begin c v = record { location = c .initial; time = 0; counts = v }
 unfoldable pub outcome : (allowed : ℕ → Bool) → Chart → Counts → List Step → Answer State
 outcome allowed c v es = steps allowed c 0 (begin c v) es
 
+-- the times of a step list: all
 unfoldable pub everyTime : ℕ → Bool
 everyTime t = true
 
@@ -76,6 +80,7 @@ everyTime t = true
 abbrev pub largestTime : ℕ
 largestTime = 16777215
 
+-- the times of the player
 unfoldable pub playerTime : ℕ → Bool
 playerTime t = leb t largestTime
 
@@ -87,6 +92,7 @@ pub record Run (c : Chart) (v : Counts) (es : List Step) (s : State) : Type 0 wh
 unfoldable pub accepts : Chart → ℕ → Bool
 accepts c q = memb q (c .accepting)
 
+-- a run that ends in an accepting location
 pub record EndsAccepting (c : Chart) (v : Counts) (es : List Step) : Type 0 where
   pub state : State
   pub run : Run c v es state

@@ -5,10 +5,12 @@ use lib.ListN.{length}
 use Rattle.lists.specs.Rising.{Rising, All}
 use Rattle.model.specs.Chart.{Test, Transition, Chart}
 
+-- the timer is one of the chart's, the constant fits its bytes
 pub record ValidTest (W timers : ℕ) (t : Test) : Type 0 where
   pub timer : t .timer < timers
   pub constant : t .constant < 256 ^ W
 
+-- ends are locations, starts rise, at most 8 tests
 pub record ValidTransition (W locations timers : ℕ) (r : Transition) : Type 0 where
   pub source : r .source < locations
   pub target : r .target < locations
@@ -17,6 +19,7 @@ pub record ValidTransition (W locations timers : ℕ) (r : Transition) : Type 0 
   pub few-tests : length (r .tests) ≤ 8
   pub tests : All (ValidTest W timers) (r .tests)
 
+-- the limits of a chart
 pub record Valid (W : ℕ) (c : Chart) : Type 0 where
   pub some-location : 1 ≤ c .locations
   pub few-locations : c .locations ≤ 256

@@ -1,4 +1,5 @@
--- How many timers a set has, that a larger set has more, and the lowest timer that is not in it. Assumes nothing.
+-- How many timers a set has, that a larger set has more, and the lowest timer that is not in it. Hard: ones are counted from the lowest digit on,
+-- the members listed up to the last: a list of numbers that pass is taken apart at its front too. Assumes nothing.
 use mathlib.Core.Path.{_≡_, refl, sym, ap, ap₂, _∙_}
 use mathlib.Core.Logic.{_⊎_, inl, inr, ⊎-elim}
 use mathlib.Core.Bool.{Bool, true, false, not}
@@ -73,9 +74,12 @@ ones-members w h = ones-pick 64 w h
 pub ones-grow : (k a b : ℕ) → a < 2 ^ k → b < 2 ^ k → ((j : ℕ) → j < k → member a j ≡ true → member b j ≡ true) → (a ≡ b) ⊎ (ones a < ones b)
 ones-grow zero a b ha hb w = inl (omega arith)
 ones-grow (suc k) a b ha hb w =
-    let halves = ones-grow k (a / 2) (b / 2) (half-lt k a ha) (half-lt k b hb) (λ j l m. sym (member-suc b j) ∙ w (suc j) (omega arith) (member-suc a j ∙ m)) in
+    let halves = ones-grow k (a / 2) (b / 2) (half-lt k a ha) (half-lt k b hb) within in
     ⊎-elim (λ e. same e (lt-or-le (a % 2) (b % 2))) (λ l. inr (omega (arith, ones-step a, ones-step b, low))) halves
   where
+    within : (j : ℕ) → j < k → member (a / 2) j ≡ true → member (b / 2) j ≡ true
+    within j l m = sym (member-suc b j) ∙ w (suc j) (omega arith) (member-suc a j ∙ m)
+
     one-le : (x y : Bool) → (x ≡ true → y ≡ true) → one x ≤ one y
     one-le true y f = rw f (omega arith)
     one-le false y f = omega arith
@@ -92,9 +96,12 @@ ones-grow (suc k) a b ha hb w =
 pub trailing-lowest : (k w : ℕ) → trailingZeros k w ≡ lowest (member w) k
 unfolding trailingZeros lowest
 trailing-lowest zero w = refl
-trailing-lowest (suc k) w = go (w % 2) refl (omega arith) (trailing-lowest k (w / 2) ∙ lowest-same (member (w / 2)) (λ i. member w (suc i)) k (λ j l. sym (member-suc w j)))
+trailing-lowest (suc k) w =
+    let higher = lowest-same (member (w / 2)) (λ i. member w (suc i)) k (λ j l. sym (member-suc w j)) in
+    go (w % 2) refl (omega arith) (trailing-lowest k (w / 2) ∙ higher)
   where
-    go : (d : ℕ) → w % 2 ≡ d → d < 2 → trailingZeros k (w / 2) ≡ lowest (λ i. member w (suc i)) k → under d (trailingZeros k (w / 2)) ≡ lowest (member w) (suc k)
+    go : (d : ℕ) → w % 2 ≡ d → d < 2 → trailingZeros k (w / 2) ≡ lowest (λ i. member w (suc i)) k
+        → under d (trailingZeros k (w / 2)) ≡ lowest (member w) (suc k)
     go zero e l ih = rw (member-zero w ∙ ap (λ (x : ℕ). eqb x 1) e, lowest) (ap suc ih)
     go (suc zero) e l ih = rw (member-zero w ∙ ap (λ (x : ℕ). eqb x 1) e, lowest)
     go (suc (suc d)) e l ih = absurd (omega arith)

@@ -1,4 +1,5 @@
--- The binary digits of a word, lowest first, and what an operation makes of them. Assumes nothing.
+-- The binary digits of a word, lowest first, and what an operation makes of them. Hard: the complement, by halving the word and the width
+-- together; the other operations are one law over the four pairs of digits. Assumes nothing.
 use mathlib.Core.Path.{_≡_, refl, sym, ap, _∙_}
 use mathlib.Core.Bool.{Bool, true, false, _&&_, _||_, not, true≢false}
 use Prim.Native.Nat.{ℕ, zero, suc, _+_, _-_, _*_, _/_, _%_, _^_, _<_, min, max}
@@ -70,7 +71,8 @@ member-xor =
 -- the complement of a word of k digits
 pub member-not : (k w j : ℕ) → w < 2 ^ k → j < k → member ((2 ^ k - 1) - w) j ≡ not (member w j)
 member-not zero w j h l = absurd (omega arith)
-member-not (suc k) w zero h l = member-zero _ ∙ ap (λ (x : ℕ). eqb x 1) low ∙ flip (w % 2) (w % 2) (omega arith) (omega arith) ∙ ap not (sym (member-zero w))
+member-not (suc k) w zero h l =
+    member-zero _ ∙ ap (λ (x : ℕ). eqb x 1) low ∙ flip (w % 2) (w % 2) (omega arith) (omega arith) ∙ ap not (sym (member-zero w))
   where
     low : ((2 ^ suc k - 1) - w) % 2 ≡ 1 - w % 2
     low = omega (arith, pow-pos k, pow-suc 2 k)

@@ -1,4 +1,5 @@
--- The operations on sets as the machine makes them from shifts, masks and complements at a width of k. Assumes nothing.
+-- The operations on sets as the machine makes them from shifts, masks and complements at a width of k. Nothing is hard: each is a law of
+-- members. Assumes nothing.
 use mathlib.Core.Path.{_≡_, sym, ap, _∙_}
 use mathlib.Core.Bool.{Bool, _&&_}
 use Prim.Native.Nat.{ℕ, _-_, _*_, _/_, _%_, _^_, _<_}

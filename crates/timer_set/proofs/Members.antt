@@ -1,4 +1,5 @@
--- Which timers are in the sets that the operations make, and that a set is its members. Assumes nothing.
+-- Which timers are in the sets that the operations make, and that a set is its members. Hard: two words with the same members are equal, by
+-- induction over the width, digit and half. Assumes nothing.
 use mathlib.Core.Path.{_≡_, refl, sym, ap, _∙_}
 use mathlib.Core.Logic.{_⊎_, inl, inr}
 use mathlib.Core.Bool.{Bool, true, false, _&&_, _||_, not, or-false, or-assoc}
@@ -77,7 +78,8 @@ pub member-ext : (k a b : ℕ) → a < 2 ^ k → b < 2 ^ k → ((j : ℕ) → j 
 member-ext zero a b h l e = omega arith
 member-ext (suc k) a b h l e =
     let low : a % 2 ≡ b % 2 = same-digit _ _ (omega arith) (omega arith) (sym (member-zero a) ∙ e 0 (omega arith) ∙ member-zero b) in
-    let high : a / 2 ≡ b / 2 = member-ext k (a / 2) (b / 2) (half-lt k a h) (half-lt k b l) (λ j q. sym (member-suc a j) ∙ e (suc j) (omega arith) ∙ member-suc b j) in
+    let halves : (j : ℕ) → j < k → member (a / 2) j ≡ member (b / 2) j = λ j q. sym (member-suc a j) ∙ e (suc j) (omega arith) ∙ member-suc b j in
+    let high : a / 2 ≡ b / 2 = member-ext k (a / 2) (b / 2) (half-lt k a h) (half-lt k b l) halves in
     omega arith
 
 pub none-empty : (k w : ℕ) → w < 2 ^ k → ((j : ℕ) → j < k → member w j ≡ false) → w ≡ 0

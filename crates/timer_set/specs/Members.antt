@@ -23,10 +23,11 @@ common a b = bitAnd a b
 unfoldable pub minus : (a b : ℕ) → ℕ
 minus a b = bitXor a (bitAnd a b)
 
--- w with j, and w without it
+-- w with j
 unfoldable pub added : (w j : ℕ) → ℕ
 added w j = bitOr w (2 ^ j)
 
+-- w without j
 unfoldable pub removed : (w j : ℕ) → ℕ
 removed w j = minus w (2 ^ j)
 

@@ -1,0 +1,181 @@
+use mathlib.Core.Path.{_≡_}
+use native.Mathlib.Omega.{arith}
+use lib.ListN.{drop}
+use denote.Ref.{now}
+use borrow.Author.Needs.{needs}
+use Rattle.file_format.specs.Parse.{value, number, below}
+use Rattle.file_format.proofs.Parsed.{below-limit}
+use Rattle.fields.specs.Meaning.{fieldAs, endsAs}
+use Rattle.fields.specs.Parts.{readEnds, readStarts}
+use Rattle.fields.proofs.Answers.{told, turned}
+use Rattle.fields.proofs.Steps.{head-ends, head-count, head-starts, head-tests, head-length, head-most, head-whole}
+use Rattle.fields.proofs.record.head_at.Statement.{statement}
+use Rattle.fields.proofs.record.head_at.Tie as tie
+
+-- what each part is where its value was bound
+ends-at : (c : tie.After-known-told) → let a = c .before .before .before .before .before .args in let g = c .before .a .given .0 in
+    readEnds (a .locations) (a .place) (drop (a .at) (now (a .s)))
+    ≡ value (record { length = g .0; source = g .1 .0; target = g .1 .1 .0; event = g .1 .1 .1 .0 }) (drop (g .1 .1 .1 .1 .0) (now (a .s)))
+ends-at c = told (endsAs (now (c .before .before .before .before .before .args .s))) (c .before .a .given .1) (c .before .before .before .ends-at .ensures)
+
+count-at : (c : tie.After-known-told2) → let a = c .before .before .before .before .before .before .before .before .before .args in
+    below 1 65 4 (a .place) (drop (c .before .before .before .before .before .a .given .0 .1 .1 .1 .1 .0) (now (a .s))) ≡ value (c .before .b .given .0 .0) (drop (c .before .b .given .0 .1 .0) (now (a .s)))
+count-at c = told (fieldAs (now (c .before .before .before .before .before .before .before .before .before .args .s))) (c .before .b .given .1) (c .before .before .before .byte-below .ensures)
+
+starts-at : (c : tie.After-known-told3) → let a = c .before .before .before .before .before .before .before .before .before .before .before .before .before .args in
+    readStarts (a .timers) (a .place) (c .before .before .before .before .before .b .given .0 .0) (drop (c .before .before .before .before .before .b .given .0 .1 .0) (now (a .s))) ≡ value (c .before .d .given .0 .0) (drop (c .before .d .given .0 .1 .0) (now (a .s)))
+starts-at c = told (fieldAs (now (c .before .before .before .before .before .before .before .before .before .before .before .before .before .args .s))) (c .before .d .given .1) (c .before .before .before .starts-at .ensures)
+
+tests-at : (c : tie.After-known-told4) → let a = c .before .before .before .before .before .before .before .before .before .before .before .before .before .before .before .before .before .args in
+    number 1 (drop (c .before .before .before .before .before .d .given .0 .1 .0) (now (a .s))) ≡ value (c .before .e .given .0 .0) (drop (c .before .e .given .0 .1 .0) (now (a .s)))
+tests-at c = told (fieldAs (now (c .before .before .before .before .before .before .before .before .before .before .before .before .before .before .before .before .before .args .s))) (c .before .e .given .1) (c .before .before .before .byte-at .ensures .reads)
+
+ends-at-requires : tie.Need-ends-at-requires
+ends-at-requires c κs = search needs
+
+enum-known-a : tie.Need-enum-known-a
+enum-known-a c = search needs
+
+enum-told : tie.Need-enum-told
+enum-told c = search needs
+
+ends-refusal-requires : tie.Need-ends-refusal-requires
+ends-refusal-requires c κs = search needs
+
+returns : tie.Need-returns
+returns c =
+    let a = c .before .before .before .before .before .args in
+    rw (c .ends-refusal .ensures, c .before .enum-told .given .1)
+    (head-ends (a .locations) (a .timers) (a .place) _ (told (endsAs (now (a .s))) (c .before .enum-told .given .1) (c .before .before .before .ends-at .ensures)))
+
+byte-below-requires : tie.Need-byte-below-requires
+byte-below-requires c κs = search needs
+
+enum-known-b : tie.Need-enum-known-b
+enum-known-b c = search needs
+
+enum-told-2 : tie.Need-enum-told-2
+enum-told-2 c = search needs
+
+refusal-of-requires : tie.Need-refusal-of-requires
+refusal-of-requires c κs = search needs
+
+returns-2 : tie.Need-returns-2
+returns-2 c =
+    let c₁ = c .before .before .before .before in
+    let a = c₁ .before .before .before .before .before .args in
+    head-count (a .locations) (a .timers) (a .place) _ (ends-at c₁) (turned (now (a .s)) (c .before .enum-told2 .given .1) (c .refusal-of .ensures) (c .before .before .before .byte-below .ensures))
+
+starts-at-requires : tie.Need-starts-at-requires
+starts-at-requires c κs = search needs
+
+enum-known-d : tie.Need-enum-known-d
+enum-known-d c = search needs
+
+enum-told-3 : tie.Need-enum-told-3
+enum-told-3 c = search needs
+
+refusal-of-requires-2 : tie.Need-refusal-of-requires-2
+refusal-of-requires-2 c κs = search needs
+
+returns-3 : tie.Need-returns-3
+returns-3 c =
+    let c₂ = c .before .before .before .before in
+    let c₁ = c₂ .before .before .before .before in
+    let a = c₁ .before .before .before .before .before .args in
+    head-starts (a .locations) (a .timers) (a .place) _ (ends-at c₁) (count-at c₂) (turned (now (a .s)) (c .before .enum-told3 .given .1) (c .refusal-of2 .ensures) (c .before .before .before .starts-at .ensures))
+
+byte-at-requires : tie.Need-byte-at-requires
+byte-at-requires c κs = search needs
+
+enum-known-e : tie.Need-enum-known-e
+enum-known-e c = search needs
+
+enum-told-4 : tie.Need-enum-told-4
+enum-told-4 c = search needs
+
+refusal-of-requires-3 : tie.Need-refusal-of-requires-3
+refusal-of-requires-3 c κs = search needs
+
+returns-4 : tie.Need-returns-4
+returns-4 c =
+    let c₃ = c .before .before .before .before in
+    let c₂ = c₃ .before .before .before .before in
+    let c₁ = c₂ .before .before .before .before in
+    let a = c₁ .before .before .before .before .before .args in
+    head-tests (a .locations) (a .timers) (a .place) _ (ends-at c₁) (count-at c₂) (starts-at c₃) (turned (now (a .s)) (c .before .enum-told4 .given .1) (c .refusal-of3 .ensures) (c .before .before .before .byte-at .ensures .reads))
+
+cast-if1 : tie.Need-cast-if1
+cast-if1 c = search needs
+
+add-if1 : tie.Need-add-if1
+add-if1 c = record { fits = omega (arith, below-limit _ _ _ _ _ (count-at (c .before .before .before .before .before .before .before .before))) }
+
+mul-if1 : tie.Need-mul-if1
+mul-if1 c = record { fits = omega (arith, c .before .before .before .byte-at .ensures .small _ _ (c .before .e .given .1)) }
+
+add-if1-2 : tie.Need-add-if1-2
+add-if1-2 c = record { fits = omega (arith, below-limit _ _ _ _ _ (count-at (c .before .before .before .before .before .before .before .before)), c .before .before .before .byte-at .ensures .small _ _ (c .before .e .given .1)) }
+
+returns-5 : tie.Need-returns-5
+returns-5 c =
+    let c₄ = c .before in
+    let c₃ = c₄ .before .before .before .before in
+    let c₂ = c₃ .before .before .before .before in
+    let c₁ = c₂ .before .before .before .before in
+    let a = c₁ .before .before .before .before .before .args in
+    head-length (a .locations) (a .timers) (a .place) _ (ends-at c₁) (count-at c₂) (starts-at c₃) (tests-at c₄) (c .if1 .taken)
+
+returns-6 : tie.Need-returns-6
+returns-6 c =
+    let c₄ = c .before .before in
+    let c₃ = c₄ .before .before .before .before in
+    let c₂ = c₃ .before .before .before .before in
+    let c₁ = c₂ .before .before .before .before in
+    let a = c₁ .before .before .before .before .before .args in
+    head-most (a .locations) (a .timers) (a .place) _ (ends-at c₁) (count-at c₂) (starts-at c₃) (tests-at c₄) (c .before .if1 .left) (c .if2 .taken)
+
+cast-t32 : tie.Need-cast-t32
+cast-t32 c = search needs
+
+returns-7 : tie.Need-returns-7
+returns-7 c =
+    let c₄ = c .before .before in
+    let c₃ = c₄ .before .before .before .before in
+    let c₂ = c₃ .before .before .before .before in
+    let c₁ = c₂ .before .before .before .before in
+    let a = c₁ .before .before .before .before .before .args in
+    head-whole (a .locations) (a .timers) (a .place) _ (ends-at c₁) (count-at c₂) (starts-at c₃) (tests-at c₄) (c .before .if1 .left) (c .if2 .left)
+
+pub head-at-spec : {M : Type 1} → statement M
+head-at-spec =
+    tie.close
+    (tie.spec
+    ends-at-requires
+    enum-known-a
+    enum-told
+    ends-refusal-requires
+    returns
+    byte-below-requires
+    enum-known-b
+    enum-told-2
+    refusal-of-requires
+    returns-2
+    starts-at-requires
+    enum-known-d
+    enum-told-3
+    refusal-of-requires-2
+    returns-3
+    byte-at-requires
+    enum-known-e
+    enum-told-4
+    refusal-of-requires-3
+    returns-4
+    cast-if1
+    add-if1
+    mul-if1
+    add-if1-2
+    returns-5
+    returns-6
+    cast-t32
+    returns-7)

@@ -1,0 +1,68 @@
+// One test of a transition's record.
+ghost use mathlib.Core.Path.{_≡_};
+ghost use lib.ListN.{drop};
+ghost use Rattle.file_format.specs.Body.{readTest};
+ghost use Rattle.fields.specs.Meaning.{testAs, testRefusal};
+use comparison::Comparison;
+use comparison::Decoded;
+use crate::Field;
+use crate::byte_at;
+use crate::byte_below;
+use crate::pair_at;
+use crate::refusal_of;
+use refusal::Refusal;
+
+// One test, with the place after it.
+pub enum TestField {
+    Found {
+        timer: u8,
+        comparison: Comparison,
+        constant: u16,
+        next: usize,
+    },
+    Refused(Refusal),
+}
+
+pub fn test_refusal(a: TestField) -> Refusal
+    ensures { λ r. ⌜ r ≡ testRefusal a ⌝ }
+{
+    match a {
+        TestField::Refused(f) => f,
+        TestField::Found {
+            timer: _,
+            comparison: _,
+            constant: _,
+            next: _,
+        } => Refusal {
+            number: 0,
+            place: 0,
+        },
+    }
+}
+
+pub fn test_at(s: &[u8], at: usize, timers: u8, place: u64) -> TestField
+    ensures { λ r. ⌜ testAs (now (s .entry)) r ≡ readTest 2 timers place (drop at (now (s .entry))) ⌝ }
+{
+    let a = byte_below(s, at, timers as u64, 6, place);
+    let Field::Value(timer, at1) = a else {
+        return TestField::Refused(refusal_of(a));
+    };
+    let b = byte_at(s, at1);
+    let Field::Value(code, at2) = b else {
+        return TestField::Refused(refusal_of(b));
+    };
+    let d = comparison::decode(code as u8);
+    let Decoded::Known(comparison) = d else {
+        return TestField::Refused(Refusal { number: 8, place });
+    };
+    let e = pair_at(s, at2);
+    let Field::Value(constant, next) = e else {
+        return TestField::Refused(refusal_of(e));
+    };
+    TestField::Found {
+        timer: timer as u8,
+        comparison,
+        constant: constant as u16,
+        next,
+    }
+}

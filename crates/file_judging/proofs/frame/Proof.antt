@@ -1,0 +1,71 @@
+use denote.Ref.{now}
+use native.Mathlib.Omega.{arith}
+use Rattle.fields.specs.Meaning.{fieldAs}
+use Rattle.fields.proofs.Answers.{told}
+use Rattle.file_judging.proofs.FrameParts.{no-version, no-length, wrong-length, wrong-version, good-frame}
+use borrow.Author.Needs.{needs}
+use Rattle.file_judging.proofs.frame.Statement.{statement}
+use Rattle.file_judging.proofs.frame.Tie as tie
+
+byte-at-requires : tie.Need-byte-at-requires
+byte-at-requires c κs = search needs
+
+enum-known-a : tie.Need-enum-known-a
+enum-known-a c = search needs
+
+enum-told : tie.Need-enum-told
+enum-told c = search needs
+
+returns : tie.Need-returns
+returns c =
+    let s = now (c .before .before .before .before .args .s) in
+    no-version s (told (fieldAs s) (c .enum-told .given .1) (c .before .before .byte-at .ensures .reads))
+
+quad-at-requires : tie.Need-quad-at-requires
+quad-at-requires c κs = search needs
+
+enum-known-b : tie.Need-enum-known-b
+enum-known-b c = search needs
+
+enum-told-2 : tie.Need-enum-told-2
+enum-told-2 c = search needs
+
+returns-2 : tie.Need-returns-2
+returns-2 c =
+    let s = now (c .before .before .before .before .before .before .before .before .args .s) in
+    no-length s (told (fieldAs s) (c .before .before .before .before .a .given .1) (c .before .before .before .before .before .before .byte-at .ensures .reads)) (told (fieldAs s) (c .enum-told2 .given .1) (c .before .before .quad-at .ensures .reads))
+
+add-if1 : tie.Need-add-if1
+add-if1 c = omega (arith, c .before .before .before .quad-at .ensures .small _ _ (c .before .b .given .1))
+
+returns-3 : tie.Need-returns-3
+returns-3 c =
+    let s = now (c .before .before .before .before .before .before .before .before .before .before .args .s) in
+    wrong-length s (told (fieldAs s) (c .before .before .before .before .before .before .a .given .1) (c .before .before .before .before .before .before .before .before .byte-at .ensures .reads)) (told (fieldAs s) (c .before .before .b .given .1) (c .before .before .before .before .quad-at .ensures .reads)) (c .if1 .taken)
+
+returns-4 : tie.Need-returns-4
+returns-4 c =
+    let s = now (c .before .before .before .before .before .before .before .before .before .before .before .args .s) in
+    wrong-version s (told (fieldAs s) (c .before .before .before .before .before .before .before .a .given .1) (c .before .before .before .before .before .before .before .before .before .byte-at .ensures .reads)) (told (fieldAs s) (c .before .before .before .b .given .1) (c .before .before .before .before .before .quad-at .ensures .reads)) (c .before .if1 .left) (c .if2 .taken)
+
+returns-5 : tie.Need-returns-5
+returns-5 c =
+    let s = now (c .before .before .before .before .before .before .before .before .before .before .before .args .s) in
+    good-frame s (told (fieldAs s) (c .before .before .before .before .before .before .before .a .given .1) (c .before .before .before .before .before .before .before .before .before .byte-at .ensures .reads)) (told (fieldAs s) (c .before .before .before .b .given .1) (c .before .before .before .before .before .quad-at .ensures .reads)) (c .before .if1 .left) (c .if2 .left)
+
+pub frame-spec : {M : Type 1} → statement M
+frame-spec =
+    tie.close
+    (tie.spec
+    byte-at-requires
+    enum-known-a
+    enum-told
+    returns
+    quad-at-requires
+    enum-known-b
+    enum-told-2
+    returns-2
+    add-if1
+    returns-3
+    returns-4
+    returns-5)
