@@ -7,11 +7,11 @@ use Prim.Native.Nat.{ℕ, _≤_, _<_}
 use native.Mathlib.Omega.{arith}
 use lib.Dec.{leb}
 use lib.ListN.{length, replicate}
-use borrow.Author.Tests.{lt-ltb, le-ltb}
+use borrow.Author.Tests.{lt-ltb, le-ltb, lt-leb, le-leb}
 use Rattle.lists.proofs.Bools.{lt-or-le}
 use Rattle.timer_set.specs.Members.{everyTimer}
 use Rattle.lists.specs.Lists.{lowest}
-use Rattle.model.specs.Answer.{result, then, unless}
+use Rattle.model.specs.Answer.{result, refused, then, unless}
 use Rattle.model.specs.Chart.{Chart}
 use Rattle.model.specs.Valid.{Valid}
 use Rattle.model.specs.Flow.{settled}
@@ -19,6 +19,7 @@ use Rattle.model.specs.Live.{testedSets, reachedFlow, reachedSets, unstartedFlo
 use Rattle.model.specs.Judge.{judged}
 use Rattle.model.proofs.Settled.{length-settled}
 use Rattle.chart_lists.specs.Lists.{listsOf}
+use Rattle.chart_lists.specs.declared.Header.{Header}
 use Rattle.chart_lists.specs.Header.{headerOf}
 use Rattle.chart_lists.proofs.Holds.{sources-each}
 use Rattle.flow.specs.Edges.{flowOf}
@@ -28,6 +29,25 @@ use Rattle.judgement.specs.Tested.{testsAt}
 use Rattle.judgement.specs.Forward.{ownSets, forwardSets, SafeForward, firstEmpty, unreachedIn, judgedLists}
 use Rattle.judgement.proofs.Tested.{first-testing-is}
 use Rattle.judgement.proofs.Unreached.{unreached-by}
+
+-- the answer, from the two places
+module _ (m : Header) (sources targets starts tested : List ℕ) where
+  abbrev pub unstartedIn : List ℕ
+  unstartedIn = forwardSets (m .initial) (m .locations) sources targets starts
+
+  module _ {unreached : ℕ} (e : unreached ≡ unreachedIn (m .timers) (m .initial) sources targets unstartedIn) where
+    pub answer-9 : unreached < m .locations → refused 9 unreached ≡ judgedLists m sources targets starts tested
+    unfolding judgedLists
+    answer-9 h = rw (← e, lt-leb (m .locations) unreached h)
+
+    module _ (h : m .locations ≤ unreached) {unstarted : ℕ} (f : unstarted ≡ lowest (testsAt sources tested unstartedIn) (length sources)) where
+      pub answer-10 : unstarted < length sources → refused 10 unstarted ≡ judgedLists m sources targets starts tested
+      unfolding judgedLists
+      answer-10 g = rw (← e, le-leb (m .locations) unreached h, ← f, lt-leb (length sources) unstarted g)
+
+      pub answer-chart : length sources ≤ unstarted → result m ≡ judgedLists m sources targets starts tested
+      unfolding judgedLists
+      answer-chart g = rw (← e, le-leb (m .locations) unreached h, ← f, le-leb (length sources) unstarted g)
 
 -- the two ways to find the place of 9
 module _ {timers : ℕ} (initial : ℕ) (sources targets unstarted : List ℕ) where
