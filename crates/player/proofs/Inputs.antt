@@ -1,4 +1,4 @@
--- 12 and 13, and what is left when neither comes. Assumes nothing.
+-- 12 and 13, and what is left when neither comes. Nothing is hard: the code's tests are the definition's, in its order. Assumes nothing.
 use mathlib.Core.Path.{_≡_, refl, sym, ap, _∙_}
 use mathlib.Core.List.{List}
 use Prim.Native.Nat.{ℕ, _≤_, _<_}
@@ -13,7 +13,7 @@ use Rattle.model.specs.Chart.{Chart}
 use Rattle.model.specs.Run.{playerTime, largestTime}
 use Rattle.model.specs.Player.{Arrival, answerOf, tooLarge, countsJudged, stepsOf, playedOn}
 use Rattle.model.proofs.PlayerLaws.{counts-pass}
-use Rattle.steps.specs.Fronts.{Allowed}
+use Rattle.steps.specs.Counts.{Allowed}
 
 module _ (c : Chart) (counts is ts : List ℕ) where
   -- not one count for each timer
