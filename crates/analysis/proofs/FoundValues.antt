@@ -1,25 +1,23 @@
 -- What a call of the analysis that finds a chart leaves: in the list the live set of each location by paths, the rest untouched; floor and used as
 -- the document has them. Assumes nothing.
 use mathlib.Core.Path.{_≡_, sym, ap, _∙_}
-use mathlib.Core.Logic.{_↔_}
-use mathlib.Core.Bool.{true}
 use mathlib.Core.List.{List, _++_}
 use Prim.Native.Nat.{ℕ, _+_, _-_, _≤_, _<_}
 use native.Mathlib.Omega.{arith}
-use lib.Count.{ones}
 use lib.ListN.{length, getD, drop, List·getD-append}
 use lib.Seq.{getD-append-add, getD-drop}
-use Rattle.timer_set.specs.Members.{member}
 use Rattle.model.specs.Answer.{result}
 use Rattle.model.specs.Chart.{Chart}
-use Rattle.model.specs.Path.{Live}
 use Rattle.model.specs.Live.{liveSets}
 use Rattle.file_format.specs.Parse.{Bytes}
 use Rattle.file_format.proofs.File.{reads-valid}
-use Rattle.chart_lists.specs.Lists.{put}
-use Rattle.judgement.proofs.Corollaries.{Accepts, judged-result}
-use Rattle.analysis.specs.Analysing.{AnalysisValues, valuesOf, analysedIn, analyseAnswer, listAfter}
-use Rattle.analysis.proofs.Entry.{length-live, long-enough}
+use Rattle.chart_lists.specs.Lists.{put, overwritten}
+use Rattle.judgement.specs.Charts.{Accepts}
+use Rattle.judgement.proofs.Corollaries.{judged-result}
+use Rattle.analysis.specs.Analysing.{AnalysisValues, valuesOf, analysedIn, analyseAnswer}
+use Rattle.analysis.specs.Found.{FoundValues}
+use Rattle.families.proofs.ChartPairs.{live-each}
+use Rattle.analysis.proofs.Entry.{long-enough}
 use Rattle.analysis.proofs.Refusals.{analysis-result}
 use Rattle.analysis.proofs.Values.{word-live, floor-most, floor-reached, floor-used, used-none}
 
@@ -41,30 +39,20 @@ module _ (xs l : List ℕ) (q : ℕ) where
 
 -- ---- the call
 
-pub record FoundValues (bs before after : List ℕ) (f : AnalysisValues) : Type 0 where
-  pub chart : Chart
-  pub accepts : Accepts bs chart
-  pub words-are : (q j : ℕ) → q < chart .locations → (member (getD after q 0) j ≡ true) ↔ Live chart q j
-  pub beyond : (q : ℕ) → chart .locations ≤ q → getD after q 0 ≡ getD before q 0
-  pub floor-most : (q : ℕ) → q < chart .locations → ones (getD after q 0) ≤ f .floor
-  pub floor-reached : (q : ℕ) × (q < chart .locations) × (ones (getD after q 0) ≡ f .floor)
-  pub floor-used : f .floor ≤ f .used
-  pub used-none : (f .used ≡ 0) ↔ ((q j : ℕ) → Live chart q j → ⊥)
-
 module _ (bs before : List ℕ) (bytes : Bytes bs) where
   of-chart : (c : Chart) {f : AnalysisValues} → Accepts bs c → c .locations ≤ length before → f ≡ valuesOf c
-      → FoundValues bs before (listAfter (analysedIn (length before) bs) before) f
+      → FoundValues bs before (overwritten liveSets (analysedIn (length before) bs) before) f
   unfolding analysedIn valuesOf
   of-chart c a h e =
       let valid = reads-valid bs c bytes (a .reads) in
       let front : (q : ℕ) → q < c .locations → getD (put (liveSets c) before) q 0 ≡ getD (liveSets c) q 0 =
-      λ q h. in-front (liveSets c) before q (omega (arith, length-live c)) in
+      λ q h. in-front (liveSets c) before q (omega (arith, live-each c)) in
       let x = floor-reached valid in
       rw (judged-result bs bytes c .1 a, long-enough c (length before) h, e) record {
         chart = c;
         accepts = a;
         words-are = λ q j h. rw (front q h) (word-live valid q j);
-        beyond = λ q h. behind (liveSets c) before q (omega (arith, length-live c));
+        beyond = λ q h. behind (liveSets c) before q (omega (arith, live-each c));
         floor-most = λ q h. rw (front q h) (floor-most valid q);
         floor-reached = (x .0, x .1, rw (front (x .0) (x .1)) (x .2));
         floor-used = floor-used valid;
@@ -72,7 +60,7 @@ module _ (bs before : List ℕ) (bytes : Bytes bs) where
       }
 
   pub found-values : {f : AnalysisValues} → analyseAnswer (length before) bs ≡ result f
-      → FoundValues bs before (listAfter (analysedIn (length before) bs) before) f
+      → FoundValues bs before (overwritten liveSets (analysedIn (length before) bs) before) f
   found-values {f} e =
       let a = analysis-result (length before) bs bytes f .0 e in
       of-chart (a .chart) (a .accepts) (a .room-for) (a .values-are)

@@ -10,38 +10,27 @@ use Rattle.lists.proofs.Bools.{lt-or-le}
 use Rattle.model.specs.Answer.{Answer, result, refused, nowhere}
 use Rattle.model.specs.Chart.{Chart}
 use Rattle.model.proofs.Answers.{not-result, result-same, refused-same}
-use Rattle.model.proofs.Judgement.{LowestUnreached, LowestUnstarted}
+use Rattle.model.specs.Places.{LowestUnreached, LowestUnstarted}
 use Rattle.file_format.specs.File.{chartIn}
 use Rattle.judgement.specs.Judging.{judgedIn}
 use Rattle.judgement.specs.Refusals.{RefusalOfJudgement}
 use Rattle.judgement.specs.Refusals.RefusalOfJudgement.{of-file, of-unreached, of-unstarted}
-use Rattle.judgement.proofs.Corollaries.{HoldsChart, Accepts, judged-9, judged-10, judged-1-to-8, judged-result, refusals-of-judgedIn}
+use Rattle.judgement.specs.Charts.{HoldsChart, Accepts}
+use Rattle.judgement.proofs.Corollaries.{judged-9, judged-10, judged-1-to-8, judged-result, refusals-of-judgedIn}
 use Rattle.analysis.specs.Analysing.{AnalysisValues, valuesOf, analysedIn, analyseAnswer}
-use Rattle.analysis.specs.Refusals.{RefusalOfAnalysis}
+use Rattle.analysis.specs.Found.{Analysed}
+use Rattle.analysis.specs.Refusals.{RefusalOfAnalysis, TooShort}
 use Rattle.analysis.specs.Refusals.RefusalOfAnalysis.{of-judgement, of-short-list}
 use Rattle.analysis.proofs.Entry.{short, long-enough}
 
--- the file holds an accepted chart with more locations than there is room
-pub record TooShort (room : ℕ) (bs : List ℕ) : Type 0 where
-  pub chart : Chart
-  pub accepts : Accepts bs chart
-  pub more : room < chart .locations
-
--- the file holds an accepted chart, there is room, and these are its values
-pub record Analysed (room : ℕ) (bs : List ℕ) (f : AnalysisValues) : Type 0 where
-  pub chart : Chart
-  pub accepts : Accepts bs chart
-  pub room-for : chart .locations ≤ room
-  pub values-are : f ≡ valuesOf chart
-
 -- what the analysis can answer
-pub data AnalysisOf (room : ℕ) (bs : List ℕ) : Type 0 where
+data AnalysisOf (room : ℕ) (bs : List ℕ) : Type 0 where
   is-refused : (n p : ℕ) → judgedIn bs ≡ refused n p → analyseAnswer room bs ≡ refused n p → AnalysisOf room bs
   is-short : (c : Chart) → judgedIn bs ≡ result c → room < c .locations → analyseAnswer room bs ≡ refused 21 nowhere → AnalysisOf room bs
   is-found : (c : Chart) → judgedIn bs ≡ result c → c .locations ≤ room → analyseAnswer room bs ≡ result (valuesOf c) → AnalysisOf room bs
 
 module _ (room : ℕ) (bs : List ℕ) where
-  pub analysis-cases : AnalysisOf room bs
+  analysis-cases : AnalysisOf room bs
   unfolding analyseAnswer analysedIn
   analysis-cases = go (judgedIn bs) refl
     where

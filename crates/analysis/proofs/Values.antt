@@ -26,22 +26,22 @@ use Rattle.model.proofs.PairNumbers.{placed-family, apart, below}
 use Rattle.model.proofs.BoardPlan.{pair-live, live-pairs-formed, live-number}
 use Rattle.model.proofs.LivePaths.{live-shaped, live-iff}
 use Rattle.analysis.proofs.DifferentNumbers.{few-numbers}
-use Rattle.analysis.proofs.Entry.{length-live}
+use Rattle.families.proofs.ChartPairs.{live-each}
 
 -- ---- the fullest of sets
 
-pub fullest-most : (l : List ℕ) (q : ℕ) → ones (getD l q 0) ≤ fullest l
+fullest-most : (l : List ℕ) (q : ℕ) → ones (getD l q 0) ≤ fullest l
 unfolding fullest ones
 fullest-most [] q = omega arith
 fullest-most (w ∷ l) zero = omega arith
 fullest-most (w ∷ l) (suc q) = omega (arith, fullest-most l q)
 
-pub fullest-least : (n : ℕ) (l : List ℕ) → ((q : ℕ) → q < length l → ones (getD l q 0) ≤ n) → fullest l ≤ n
+fullest-least : (n : ℕ) (l : List ℕ) → ((q : ℕ) → q < length l → ones (getD l q 0) ≤ n) → fullest l ≤ n
 unfolding fullest
 fullest-least n [] h = omega arith
 fullest-least n (w ∷ l) h = omega (arith, h 0 (omega arith), fullest-least n l (λ q b. h (suc q) (omega arith)))
 
-pub fullest-reached : (l : List ℕ) → 1 ≤ length l → (q : ℕ) × (q < length l) × (ones (getD l q 0) ≡ fullest l)
+fullest-reached : (l : List ℕ) → 1 ≤ length l → (q : ℕ) × (q < length l) × (ones (getD l q 0) ≡ fullest l)
 unfolding fullest
 fullest-reached [] h = absurd (omega arith)
 fullest-reached (w ∷ []) h = (0, omega arith, omega arith)
@@ -97,8 +97,8 @@ module _ {W : ℕ} {c : Chart} (valid : Valid W c) where
   pub floor-reached : (q : ℕ) × (q < c .locations) × (ones (getD (liveSets c) q 0) ≡ floor c)
   unfolding floor
   floor-reached =
-      let x = fullest-reached (liveSets c) (omega (arith, length-live c, valid .some-location)) in
-      (x .0, omega (arith, x .1, length-live c), x .2)
+      let x = fullest-reached (liveSets c) (omega (arith, live-each c, valid .some-location)) in
+      (x .0, omega (arith, x .1, live-each c), x .2)
 
   pub used-none : (used c ≡ 0) ↔ ((q j : ℕ) → Live c q j → ⊥)
   unfolding used board

@@ -16,6 +16,10 @@ use Rattle.model.proofs.BoardPlan.{board-blocked}
 use Rattle.model.proofs.PlayerNumbers.{judged-is}
 use Rattle.file_format.specs.File.{chartIn}
 use Rattle.judgement.specs.Judging.{judgedIn}
+use Rattle.refusal.specs.Refused.{refusedAs}
+use Rattle.refusal.specs.declared.Refusal.{Refusal}
+use Rattle.numbering.specs.Limits.{LimitJudged}
+use Rattle.numbering.specs.declared.Limit.the-variants as limit
 use Rattle.listing.specs.Listing.{largestInput, accepted, listedChart, answerText, refusedText, textOf}
 
 module _ (K : ℕ) (c : Chart) where
@@ -34,8 +38,17 @@ module _ (K : ℕ) (c : Chart) where
         let e : blocked K (board c) ≡ false = is-no (blocked K (board c)) (λ t. omega (arith, board-blocked K c .0 t)) in
         rw (le-leb K 64 h, e)
 
+  -- the same as the code judges them
+  pub listed-refused : {u : ℕ} {f : Refusal} → LimitJudged K u (limit.Refused f) → u ≡ used c → listedChart K c ≡ refusedAs f
+  unfolding listedChart
+  listed-refused j e = rw (← j .answer c e)
+
+  pub listed-enough : {u : ℕ} → LimitJudged K u limit.Enough → u ≡ used c → listedChart K c ≡ result c
+  unfolding listedChart
+  listed-enough j e = rw (← j .answer c e)
+
 -- the judgement first, then 11 and 20
-pub accepted-is : (K : ℕ) (file : List ℕ) → accepted K file ≡ then (judgedIn file) (listedChart K)
+accepted-is : (K : ℕ) (file : List ℕ) → accepted K file ≡ then (judgedIn file) (listedChart K)
 unfolding accepted judgedIn rewriting listedChart
 accepted-is K file = go (chartIn file) refl
   where

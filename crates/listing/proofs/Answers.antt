@@ -9,17 +9,17 @@ use lib.ListN.{length}
 use borrow.Author.Tests.{le-leb, lt-leb, leb-true}
 use Rattle.model.specs.Answer.{result, refused, nowhere}
 use Rattle.model.proofs.Answers.{not-result, result-same}
-use Rattle.chart_lists.specs.Lists.{put}
-use Rattle.listing.specs.Listing.{textOf, listInto, listAnswer, bufferAfter}
+use Rattle.chart_lists.specs.Lists.{put, overwritten}
+use Rattle.listing.specs.Listing.{textOf, listInto, listAnswer}
 
 module _ (input out : List ℕ) {n : ℕ} (e : n ≡ length (textOf input)) where
   pub list-short : length out < n
-      → (refused 21 nowhere ≡ listAnswer (length out) input) × (out ≡ bufferAfter (listInto (length out) input) out)
+      → (refused 21 nowhere ≡ listAnswer (length out) input) × (out ≡ overwritten (λ text. text) (listInto (length out) input) out)
   unfolding listAnswer listInto
   list-short h = let t = lt-leb (length (textOf input)) (length out) (omega arith) in (rw t, rw t)
 
   pub list-done : n ≤ length out → {after : List ℕ} → after ≡ put (textOf input) out
-      → (result n ≡ listAnswer (length out) input) × (after ≡ bufferAfter (listInto (length out) input) out)
+      → (result n ≡ listAnswer (length out) input) × (after ≡ overwritten (λ text. text) (listInto (length out) input) out)
   unfolding listAnswer listInto
   list-done h f = let t = le-leb (length (textOf input)) (length out) (omega arith) in (rw t (ap result e), rw t f)
 

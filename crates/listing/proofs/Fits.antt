@@ -12,7 +12,7 @@ use borrow.Author.Tests.{ltb-true, ltb-false}
 use Rattle.lists.specs.Lists.{gather}
 use Rattle.model.specs.Chart.{Chart}
 use Rattle.model.specs.Valid.{Valid}
-use Rattle.model.specs.FirstFit.{usedBy, floor, board, used}
+use Rattle.model.specs.FirstFit.{floor, board, used}
 use Rattle.model.specs.Rewrite.{Numbering, numbering}
 use Rattle.model.proofs.NumberAt.{number-below}
 use Rattle.listing.specs.Text.{decimalIn, decimal, atWord}

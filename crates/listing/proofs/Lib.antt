@@ -1,9 +1,7 @@
-pub mod Writes
 pub mod Decimal
 pub mod PutBytes
 pub mod Parts
 pub mod Cells
-pub mod Turns
 pub mod Fits
 pub mod ChartText
 pub mod Accepted
@@ -13,4 +11,3 @@ pub mod Outcomes
 pub mod Digits
 pub mod Refusals
 pub mod Example
-pub mod Copied

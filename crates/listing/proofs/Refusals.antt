@@ -9,10 +9,11 @@ use Rattle.file_format.specs.Parse.{Bytes}
 use Rattle.lists.proofs.Bools.{lt-or-le}
 use Rattle.model.specs.Answer.{refused, nowhere}
 use Rattle.model.specs.Chart.{Chart}
-use Rattle.model.proofs.Judgement.{LowestUnreached, LowestUnstarted}
+use Rattle.model.specs.Places.{LowestUnreached, LowestUnstarted}
 use Rattle.judgement.specs.Judging.{judgedIn}
 use Rattle.judgement.specs.Refusals.RefusalOfJudgement.{of-file, of-unreached, of-unstarted}
-use Rattle.judgement.proofs.Corollaries.{HoldsChart, judged-9, judged-10, refusals-of-judgedIn}
+use Rattle.judgement.specs.Charts.{HoldsChart}
+use Rattle.judgement.proofs.Corollaries.{judged-9, judged-10, refusals-of-judgedIn}
 use Rattle.listing.specs.Text.{refusedWord, usedWord}
 use Rattle.listing.specs.Listing.{largestInput, accepted, answerText, refusedText, firstLine, chartText, textOf}
 use Rattle.listing.specs.Refusals.{RefusalShown}
@@ -89,7 +90,8 @@ module _ (K : ℕ) (file : List ℕ) (bytes : Bytes file) where
 pub refusals-shown : (input : List ℕ) → Bytes input → (n p : ℕ) → n < 10 ^ 20 → p < 10 ^ 20
     → textOf input ≡ refusedText n p → RefusalShown n p
 refusals-shown [] b n p hn hp e =
-    let short : RefusalShown 1 nowhere = of-judgement (of-file (record { first-number = omega arith; last-number = omega arith; place = inl refl })) in
+    let short : RefusalShown 1 nowhere =
+    of-judgement (of-file (record { first-number = omega arith; last-number = omega arith; place = inl refl })) in
     same short n p hn hp (sym (text-1 [] (omega arith)) ∙ e)
 refusals-shown (K ∷ file) b n p hn hp e = go (lt-or-le largestInput (length (K ∷ file)))
   where

@@ -12,7 +12,6 @@ use Rattle.model.specs.FirstFit.{board, floor}
 use Rattle.model.specs.Rewrite.{Numbering, numbering}
 use Rattle.model.specs.Judge.{fitted, rewriting}
 use Rattle.file_format.specs.File.{chartIn}
-use Rattle.chart_lists.specs.Lists.{put}
 use Rattle.refusal.specs.Refused.{refusedAs}
 use Rattle.listing.specs.Text.{decimal, space, lineFeed, refusedWord, usedWord, floorWord, limitWord, atWord, greater}
 use Rattle.listing.specs.declared.Listed.{Listed}
@@ -75,11 +74,6 @@ listInto room input = let text = textOf input in unless (leb (length text) room)
 -- what is answered: the length of the text, or the refusal
 unfoldable pub listAnswer : (room : ℕ) → List ℕ → Answer ℕ
 listAnswer room input = then (listInto room input) (λ text. result (length text))
-
--- the lent buffer afterwards: the text over its front, or as it was
-abbrev pub bufferAfter : Answer (List ℕ) → List ℕ → List ℕ
-bufferAfter (result text) out = put text out
-bufferAfter (refused n p) out = out
 
 -- what an answer of the code means
 abbrev pub listedAs : Listed → Answer ℕ

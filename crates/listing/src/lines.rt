@@ -2,10 +2,13 @@
 ghost use mathlib.Core.List.{_++_};
 ghost use Prim.Native.Nat.{_+_, _*_, _≤_};
 ghost use lib.ListN.{length};
+ghost use Rattle.chart_lists.specs.Limits.{mostTimers};
+ghost use Rattle.allocation.specs.Cells.{mostCells};
 ghost use Rattle.listing.specs.Listing.{refusedText, firstLine, entryText};
 ghost use Rattle.listing.specs.PutBytes.{PutBytes};
 ghost use Rattle.listing.specs.Cells.{inCell, entriesIn, lineIn, linesIn};
 use crate::text::put_number;
+use allocation::NO_NUMBER;
 use chart_lists::Header;
 use refusal::Refusal;
 
@@ -36,7 +39,7 @@ fn put_entry(out: &mut [u8], j: u8, number: u16) -> usize
     requires { ⌜ length (entryText j (inCell number)) ≤ length (now out) ⌝ }
     ensures { λ r. ⌜ PutBytes (entryText j (inCell number)) (now (out .entry)) (now (out .exit)) r ⌝ }
 {
-    if number == 65535 {
+    if number == NO_NUMBER {
         return 0;
     }
     let at = put_number(out, b" ", j as u64);
@@ -60,7 +63,7 @@ fn put_entries(out: &mut [u8], cells: &[u16], base: usize, timers: u8) -> usize
 // The line of location q.
 fn put_line(out: &mut [u8], cells: &[u16], timers: u8, q: usize) -> usize
     requires { ⌜
-        (64 * q + timers ≤ length (now cells)) × (length (now cells) ≤ 16384) × (length (lineIn (now cells) timers q) ≤ length (now out)) ⌝ }
+        (64 * q + timers ≤ length (now cells)) × (length (now cells) ≤ mostCells) × (length (lineIn (now cells) timers q) ≤ length (now out)) ⌝ }
     ensures { λ r. ⌜ PutBytes (lineIn (now (cells .entry)) timers q) (now (out .entry)) (now (out .exit)) r ⌝ }
 {
     let at = put_number(out, b"at ", q as u64);
@@ -72,7 +75,7 @@ fn put_line(out: &mut [u8], cells: &[u16], timers: u8, q: usize) -> usize
 // The lines of the locations below n.
 fn put_lines(out: &mut [u8], cells: &[u16], timers: u8, n: usize) -> usize
     requires { ⌜
-        (64 * n ≤ length (now cells)) × (length (now cells) ≤ 16384) × (timers ≤ 64)
+        (64 * n ≤ length (now cells)) × (length (now cells) ≤ mostCells) × (timers ≤ mostTimers)
         × (length (linesIn (now cells) timers n) ≤ length (now out)) ⌝ }
     ensures { λ r. ⌜ PutBytes (linesIn (now (cells .entry)) timers n) (now (out .entry)) (now (out .exit)) r ⌝ }
 {
@@ -95,7 +98,7 @@ pub fn put_chart(
     cells: &[u16],
 ) -> usize
     requires { ⌜
-        (64 * header .locations ≤ length (now cells)) × (length (now cells) ≤ 16384) × (header .timers ≤ 64)
+        (64 * header .locations ≤ length (now cells)) × (length (now cells) ≤ mostCells) × (header .timers ≤ mostTimers)
         × (length (firstLine used floor limit ++ linesIn (now cells) (header .timers) (header .locations)) ≤ length (now out)) ⌝ }
     ensures { λ r. ⌜
         PutBytes (firstLine used floor limit ++ linesIn (now (cells .entry)) (header .timers) (header .locations))

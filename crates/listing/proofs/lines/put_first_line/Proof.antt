@@ -1,11 +1,9 @@
 -- `put_first_line`: the three numbers and the line feed, one after another. Assumes nothing.
-use mathlib.Core.List.{_++_}
 use Prim.Native.Nat.{_+_, _≤_}
 use native.Mathlib.Omega.{arith}
 use lib.ListN.{length}
 use denote.Ref.{now}
 use Rattle.listing.specs.Text.{decimal, usedWord, floorWord, limitWord}
-use Rattle.listing.specs.PutBytes.{PutBytes}
 use Rattle.listing.proofs.PutBytes.{bytes-next, bytes-more, bytes-as, bytes-long, bytes-below, bytes-within, bytes-room}
 use Rattle.listing.proofs.Parts.{first-parts, first-length}
 use borrow.Author.Needs.{needs}

@@ -1,7 +1,6 @@
 -- `put_refusal`: the number, the place and the line feed, one after another. Assumes nothing.
-use Prim.Native.Nat.{ℕ, _+_, _≤_}
+use Prim.Native.Nat.{_+_, _≤_}
 use native.Mathlib.Omega.{arith}
-use mathlib.Core.List.{_++_}
 use lib.ListN.{length}
 use denote.Ref.{now}
 use Rattle.listing.specs.Text.{decimal, refusedWord}

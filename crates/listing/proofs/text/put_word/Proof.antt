@@ -1,10 +1,10 @@
 -- `put_word`: after i turns the first i bytes of the word stand over the front. Assumes nothing.
 use mathlib.Core.Path.{_≡_, refl}
-use Prim.Native.Nat.{_-_, _≤_}
+use Prim.Native.Nat.{_-_}
 use native.Mathlib.Omega.{arith}
 use lib.ListN.{length}
 use borrow.Author.Needs.{needs}
-use Rattle.listing.proofs.Copied.{Copied, copied-none, copied-more, copied-all}
+use Rattle.chart_lists.proofs.Copied.{Copied, copied-none, copied-more, copied-all}
 use Rattle.listing.proofs.text.put_word.Statement.{statement}
 use Rattle.listing.proofs.text.put_word.Tie as tie
 
