@@ -130,7 +130,7 @@ module _ {c : Chart} {m : Header} (e : m ≡ headerOf c) {sources targets starts
   sets-in =
       let k = length (listsOf c .timers) in
       let z : listsOf c .timers ++ drop k timers ≡ timers =
-          ap (λ (y : List ℕ). y ++ drop k timers) (sym (h .timers .is)) ∙ take-append-drop k timers in
+      ap (λ (y : List ℕ). y ++ drop k timers) (sym (h .timers .is)) ∙ take-append-drop k timers in
       rw (counts-are, ← z) (sets-are (c .transitions) (drop k timers))
 
   module _ (before : List ℕ) {tested : List ℕ} (t : tested ≡ put (setsIn (take (m .transitions) test-counts) timers) before) where
