@@ -48,7 +48,9 @@ shared-slice-read-put-entry : tie.Need-shared-slice-read-put-entry Inv-loop μ-l
 shared-slice-read-put-entry c = search needs
 
 put-entry-requires : tie.Need-put-entry-requires Inv-loop μ-loop
-put-entry-requires c κs = mid-room _ _ _ (room (c .before .before))
+put-entry-requires c κs =
+    let t = c .before .before in
+    mid-room (t .before .loop .at) (t .before .loop .out) _ (room t)
 
 add-at : tie.Need-add-at Inv-loop μ-loop
 add-at c =

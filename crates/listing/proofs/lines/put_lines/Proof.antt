@@ -38,7 +38,8 @@ part-put-line-end c = search needs
 put-line-requires : tie.Need-put-line-requires Inv-loop μ-loop
 put-line-requires c κs =
     let s = c .before .before .before .before .before in
-    (omega (arith, s .pre .0, s .pre .2), s .pre .1, mid-room _ _ _ (room (c .before)))
+    let t = c .before in
+    (omega (arith, s .pre .0, s .pre .2), s .pre .1, mid-room (t .before .loop .at) (t .before .loop .out) _ (room t))
 
 add-at : tie.Need-add-at Inv-loop μ-loop
 add-at c =
