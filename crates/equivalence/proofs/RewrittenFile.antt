@@ -37,7 +37,7 @@ module _ (K : ℕ) where
       rw (le-leb (length (fileOf (x .chart))) largestFile fits) refl
   room-for c valid (refused n p) e = refl
 
-  room-enough : (bs : List ℕ) → Bytes bs → rewriteInto K largestFile bs ≡ then (chartIn bs) (rewriting K)
+  pub room-enough : (bs : List ℕ) → Bytes bs → rewriteInto K largestFile bs ≡ then (chartIn bs) (rewriting K)
   unfolding rewriteInto
   room-enough bs bytes = go (chartIn bs) refl
     where
@@ -52,7 +52,6 @@ unfolding boardAnswer
 claim-of K bs v w is ts r bytes d b = record {
   drawn = d;
   board = b;
-  room = room-enough K bs bytes;
   alike = λ c x reads e p q. b ∙ rw e (ap result (sym (first-fit-plays K largestFile bs bytes c reads x e v w is ts p q) ∙ sym d));
 }
 
