@@ -8,7 +8,7 @@ use Rattle.lists.proofs.Bools.{is-no}
 use Rattle.lists.proofs.Flatten.{gather-same, gather-more, gather-rows}
 use Rattle.model.specs.Family.{Pairs, isPair, Family, familyFrom, families, WellFormed}
 use Rattle.model.specs.FirstFit.{place, firstFit}
-use Rattle.allocation.specs.Numbering.{familiesTo}
+use Rattle.allocation.specs.Turns.{familiesTo}
 
 module _ {p : Pairs} (formed : WellFormed p) where
   all-families : familiesTo p (64 * p .locations) ≡ families p

@@ -9,7 +9,7 @@ use native.Mathlib.Decide.{ℕ-discrete}
 use native.Mathlib.Omega.{arith}
 use lib.ListN.{length}
 use Rattle.lists.proofs.Bools.{same-bool, is-no, or-cases, or-left, or-right, and-left, and-right, and-both}
-use Rattle.allocation.specs.Numbering.{anyBelow, inFamily, someIn, Within}
+use Rattle.allocation.specs.Rows.{anyBelow, inFamily, someIn, Within}
 
 pub below-in : (f : ℕ → Bool) (n k : ℕ) → k < n → f k ≡ true → anyBelow f n ≡ true
 unfolding anyBelow

@@ -1,4 +1,4 @@
--- The list of cells of placed families, how many numbers these use, and families placed one list after another. Assumes nothing.
+-- The list of cells of a numbering; of placed families, how many numbers these use, and families placed one list after another. Assumes nothing.
 use mathlib.Core.Path.{_≡_, refl, sym, ap, _∙_, subst}
 use mathlib.Core.Logic.{_⊎_, inl, inr}
 use mathlib.Core.Option.{Option, none, some}
@@ -12,8 +12,9 @@ use Rattle.lists.proofs.Bools.{lt-or-le}
 use Rattle.lists.proofs.Gather.{length-upTo, getD-upTo}
 use Rattle.model.specs.Family.{Family}
 use Rattle.model.specs.FirstFit.{Placed, held, free, place, usedBy, numberAt}
+use Rattle.model.specs.Rewrite.{Numbering, numbering}
 use Rattle.model.proofs.FirstFit.{free-least, held-out, used-above}
-use Rattle.allocation.specs.Cells.{noNumber, cell, cells}
+use Rattle.allocation.specs.Cells.{noNumber, cell, cellsOf}
 
 -- ---- cells
 
@@ -23,30 +24,31 @@ div64 s i h = omega arith
 mod64 : (s i : ℕ) → i < 64 → (64 * s + i) % 64 ≡ i
 mod64 s i h = omega arith
 
-module _ (ps : List Placed) (n : ℕ) where
-  pub cells-length : length (cells ps n) ≡ 64 * n
-  unfolding cells
+module _ (N : Numbering) (n : ℕ) where
+  pub cells-length : length (cellsOf N n) ≡ 64 * n
+  unfolding cellsOf
   cells-length = length-upTo _ (64 * n)
 
-  pub cells-at : (s i : ℕ) → s < n → i < 64 → getD (cells ps n) (64 * s + i) 0 ≡ cell (numberAt ps s i)
-  unfolding cells
+  pub cells-at : (s i : ℕ) → s < n → i < 64 → getD (cellsOf N n) (64 * s + i) 0 ≡ cell (N .number s i)
+  unfolding cellsOf
   cells-at s i h k = getD-upTo _ (64 * n) (64 * s + i) 0 (omega arith) ∙ rw (div64 s i k, mod64 s i k) refl
 
   -- a list with these cells
-  pub cells-is : (l : List ℕ) → length l ≡ 64 * n → ((s i : ℕ) → s < n → i < 64 → getD l (64 * s + i) 0 ≡ cell (numberAt ps s i)) → l ≡ cells ps n
-  cells-is l long at = ext-getD 0 l (cells ps n) (long ∙ sym cells-length)
+  pub cells-is : (l : List ℕ) → length l ≡ 64 * n → ((s i : ℕ) → s < n → i < 64 → getD l (64 * s + i) 0 ≡ cell (N .number s i))
+      → l ≡ cellsOf N n
+  cells-is l long at = ext-getD 0 l (cellsOf N n) (long ∙ sym cells-length)
       (λ x h.
       let e : 64 * (x / 64) + x % 64 ≡ x = omega arith in
-      subst (λ (y : ℕ). getD l y 0 ≡ getD (cells ps n) y 0) e
+      subst (λ (y : ℕ). getD l y 0 ≡ getD (cellsOf N n) y 0) e
       (at (x / 64) (x % 64) (omega arith) (omega arith) ∙ sym (cells-at (x / 64) (x % 64) (omega arith) (omega arith))))
 
-pub cell-some : (o : Option ℕ) (k : ℕ) → k < 65535 → cell o ≡ k → o ≡ some k
+pub cell-some : (o : Option ℕ) (k : ℕ) → k < noNumber → cell o ≡ k → o ≡ some k
 cell-some none k h e = absurd (omega arith)
 cell-some (some x) k h e = ap some e
 
-pub cells-none : (n : ℕ) (l : List ℕ) → length l ≡ 64 * n → ((x : ℕ) → x < 64 * n → getD l x 0 ≡ noNumber) → l ≡ cells [] n
-unfolding numberAt
-cells-none n l long clear = cells-is [] n l long (λ s i h k. clear (64 * s + i) (omega arith))
+pub cells-none : (n : ℕ) (l : List ℕ) → length l ≡ 64 * n → ((x : ℕ) → x < 64 * n → getD l x 0 ≡ noNumber) → l ≡ cellsOf (numbering []) n
+unfolding numbering numberAt
+cells-none n l long clear = cells-is (numbering []) n l long (λ s i h k. clear (64 * s + i) (omega arith))
 
 -- ---- how many numbers are used
 

@@ -8,36 +8,40 @@ use lib.ListN.{length, getD}
 use Rattle.lists.specs.Lists.{lowest}
 use Rattle.timer_set.specs.Members.{member}
 use Rattle.model.specs.Family.{Pairs, isPair, familyOf, WellFormed}
-use Rattle.allocation.specs.Numbering.{taken, given, Unnumbered, begins, NumberedTo, Begun}
+use Rattle.allocation.specs.Rows.{taken, given, Unnumbered, cellPlace}
+use Rattle.allocation.specs.Turns.{isRoot, NumberedTo, Roots}
+use Rattle.allocation.specs.Cells.{mostCells}
+use Rattle.chart_lists.specs.Limits.{mostLocations}
 use Rattle.allocation.proofs.Filling.{changed-other}
-use Rattle.allocation.proofs.Placing.{begins-pair, numbered-yes, numbered-no}
+use Rattle.allocation.proofs.Placing.{root-pair, numbered-yes, numbered-no}
 
 -- another timer's cells stay as they were
-pub unnumbered-kept : (sets : List ℕ) (j number : ℕ) (numbers after : List ℕ)
-    → ((s i : ℕ) → s < length sets → i < 64 → getD after (64 * s + i) 0 ≡ given sets j number numbers s i)
-    → (i : ℕ) → i < 64 → (j ≡ i → ⊥) → Unnumbered sets i numbers → Unnumbered sets i after
+pub unnumbered-kept : (sets : List ℕ) (j number : ℕ) (cells after : List ℕ)
+    → ((s i : ℕ) → s < length sets → i < 64 → getD after (64 * s + i) 0 ≡ given sets j number cells s i)
+    → (i : ℕ) → i < 64 → (j ≡ i → ⊥) → Unnumbered sets i cells → Unnumbered sets i after
 unfolding Unnumbered given
-unnumbered-kept sets j number numbers after gave i h n unnumbered s k e =
-    gave s i k h ∙ changed-other (λ s i. 64 * s + i) sets j j (λ _. number) numbers s i n ∙ unnumbered s k e
+unnumbered-kept sets j number cells after gave i h n unnumbered s k e =
+    gave s i k h ∙ changed-other cellPlace sets j j (λ _. number) cells s i n ∙ unnumbered s k e
 
 -- 64 q + j tells q and j
-pub begins-at : {p : Pairs} → WellFormed p → (q j : ℕ) → j < 64 → begins p (64 * q + j) ≡ true → (isPair p q j ≡ true) × (familyOf p q j .first ≡ q)
-begins-at {p} formed q j h e =
+pub root-at : {p : Pairs} → WellFormed p → (q j : ℕ) → j < 64 → isRoot p (64 * q + j) ≡ true → (isPair p q j ≡ true) × (familyOf p q j .first ≡ q)
+root-at {p} formed q j h e =
     let d : (64 * q + j) / 64 ≡ q = omega arith in
     let r : (64 * q + j) % 64 ≡ j = omega arith in
-    subst₂ (λ (a b : ℕ). (isPair p a b ≡ true) × (familyOf p a b .first ≡ a)) d r (begins-pair formed (64 * q + j) e)
+    subst₂ (λ (a b : ℕ). (isPair p a b ≡ true) × (familyOf p a b .first ≡ a)) d r (root-pair formed (64 * q + j) e)
 
-module _ {p : Pairs} {q begun : ℕ} {sets : List ℕ} (g : Begun p q begun sets) (j : ℕ) (h : j < 64) (numbers : List ℕ) (used : ℕ)
-    (so : NumberedTo p (64 * q + j) numbers used) where
-  pub turn-no : member begun j ≡ false → NumberedTo p (64 * q + (j + 1)) numbers used
-  turn-no e = subst (λ (x : ℕ). NumberedTo p x numbers used) (omega arith) (numbered-no (g .formed) (64 * q + j) numbers used so (sym (g .timers j h) ∙ e))
+module _ {p : Pairs} {q roots : ℕ} {sets : List ℕ} (g : Roots p q roots sets) (j : ℕ) (h : j < 64) (cells : List ℕ) (used : ℕ)
+    (so : NumberedTo p (64 * q + j) cells used) where
+  pub turn-no : member roots j ≡ false → NumberedTo p (64 * q + (j + 1)) cells used
+  turn-no e =
+      subst (λ (x : ℕ). NumberedTo p x cells used) (omega arith) (numbered-no (g .formed) (64 * q + j) cells used so (sym (g .timers j h) ∙ e))
 
-  pub turn-yes : member begun j ≡ true → length sets ≤ 256 → (number : ℕ) → number ≡ lowest (λ k. not (taken sets numbers j k)) 16384
+  pub turn-yes : member roots j ≡ true → length sets ≤ mostLocations → (number : ℕ) → number ≡ lowest (λ k. not (taken sets cells j k)) mostCells
       → (after : List ℕ) → length after ≡ 64 * length sets
-      → ((s i : ℕ) → s < length sets → i < 64 → getD after (64 * s + i) 0 ≡ given sets j number numbers s i)
+      → ((s i : ℕ) → s < length sets → i < 64 → getD after (64 * s + i) 0 ≡ given sets j number cells s i)
       → NumberedTo p (64 * q + (j + 1)) after (max used (number + 1))
   turn-yes e few number is after long gave =
-      let b : begins p (64 * q + j) ≡ true = sym (g .timers j h) ∙ e in
+      let b : isRoot p (64 * q + j) ≡ true = sym (g .timers j h) ∙ e in
       subst (λ (x : ℕ). NumberedTo p x after (max used (number + 1))) (omega arith)
-      (numbered-yes (g .formed) q j h (begins-at (g .formed) q j h b .0) sets (g .locations-are) (λ s. g .families j s e) numbers used so
+      (numbered-yes (g .formed) q j h (root-at (g .formed) q j h b .0) sets (g .locations-are) (λ s. g .families j s e) cells used so
       (omega (arith, g .here, g .locations-are)) number is after (omega (arith, long, g .locations-are)) gave b)

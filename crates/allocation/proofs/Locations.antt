@@ -15,12 +15,14 @@ use Rattle.timer_set.proofs.Members.{member-empty, member-joined, member-minus}
 use Rattle.model.specs.Family.{Pairs, isPair, Joined, Family, familyOf, WellFormed}
 use Rattle.model.proofs.Joined.{joined-refl, joined-sym, joined-pair}
 use Rattle.model.proofs.Families.{family-has, first-least, first-joined, family-same}
+use Rattle.model.specs.Rewrite.{numbering}
 use Rattle.families.specs.Propagation.{Propagated}
 use Rattle.allocation.specs.Cells.{cell}
-use Rattle.allocation.specs.Numbering.{inFamily, Lengths, WordsAgree, Within, Unnumbered, Ready, begins, NumberedTo, Begun, Described, PlacedTo}
+use Rattle.allocation.specs.Rows.{inFamily, Lengths, WordsAgree, Within, Unnumbered, Ready}
+use Rattle.allocation.specs.Turns.{isRoot, NumberedTo, Roots, Described, PlacedTo}
 use Rattle.allocation.proofs.CellList.{cells-at}
 use Rattle.allocation.proofs.Placing.{numbered-no, not-yet}
-use Rattle.allocation.proofs.InTurn.{begins-at}
+use Rattle.allocation.proofs.InTurn.{root-at}
 
 pub placed-none : {p : Pairs} {placed : List ℕ} → ((s : ℕ) → getD placed s 0 ≡ 0) → PlacedTo p 0 placed
 placed-none e = record {
@@ -29,65 +31,66 @@ placed-none e = record {
 }
 
 module _ {p : Pairs} {live ones others linked : List ℕ} (d : Described p live ones others linked) (q : ℕ) (here : q < length live) {placed : List ℕ}
-    (so : PlacedTo p q placed) (begun : ℕ) (is : begun ≡ minus (getD live q 0) (getD placed q 0)) where
+    (so : PlacedTo p q placed) (roots : ℕ) (is : roots ≡ minus (getD live q 0) (getD placed q 0)) where
   formed : WellFormed p
   formed = d .formed
 
-  member-begun : (j : ℕ) → member begun j ≡ (isPair p q j && not (member (getD placed q 0) j))
+  member-roots : (j : ℕ) → member roots j ≡ (isPair p q j && not (member (getD placed q 0) j))
   unfolding isPair
-  member-begun j = ap (λ (w : ℕ). member w j) is ∙ member-minus (getD live q 0) (getD placed q 0) j
+  member-roots j = ap (λ (w : ℕ). member w j) is ∙ member-minus (getD live q 0) (getD placed q 0) j
       ∙ ap (λ (l : List ℕ). member (getD l q 0) j && not (member (getD placed q 0) j)) (sym (d .sets-are))
 
   -- the timers that begin are those whose lowest location is q
-  begun-first : (j : ℕ) → member begun j ≡ true → (isPair p q j ≡ true) × (familyOf p q j .first ≡ q)
-  begun-first j m =
-      let both = sym (member-begun j) ∙ m in
+  root-first : (j : ℕ) → member roots j ≡ true → (isPair p q j ≡ true) × (familyOf p q j .first ≡ q)
+  root-first j m =
+      let both = sym (member-roots j) ∙ m in
       let pair = and-left (isPair p q j) _ both in
       let low : familyOf p q j .first ≤ q = first-least formed q j pair q (joined-refl q) in
       (pair, go pair low (not-true _ (and-right (isPair p q j) _ both)) (lt-or-le (familyOf p q j .first) q))
     where
-      go : isPair p q j ≡ true → familyOf p q j .first ≤ q → member (getD placed q 0) j ≡ false → (familyOf p q j .first < q) ⊎ (q ≤ familyOf p q j .first)
+      go : isPair p q j ≡ true → familyOf p q j .first ≤ q → member (getD placed q 0) j ≡ false
+          → (familyOf p q j .first < q) ⊎ (q ≤ familyOf p q j .first)
           → familyOf p q j .first ≡ q
       go pair low out (inl l) = absurd (not-both (so .has q j pair l) out)
       go pair low out (inr l) = omega arith
 
-  first-begun : (j : ℕ) → isPair p q j ≡ true → familyOf p q j .first ≡ q → member begun j ≡ true
-  first-begun j pair e = member-begun j ∙ and-both pair (ap not (is-no _ (λ m. omega (arith, e, so .only q j m .1))))
+  first-root : (j : ℕ) → isPair p q j ≡ true → familyOf p q j .first ≡ q → member roots j ≡ true
+  first-root j pair e = member-roots j ∙ and-both pair (ap not (is-no _ (λ m. omega (arith, e, so .only q j m .1))))
 
-  begun-few : (j : ℕ) → member begun j ≡ true → j < 64
-  begun-few j m = omega (arith, formed .timer q j (begun-first j m .0), formed .few-timers)
+  root-few : (j : ℕ) → member roots j ≡ true → j < 64
+  root-few j m = omega (arith, formed .timer q j (root-first j m .0), formed .few-timers)
 
-  begins-here : (j : ℕ) → j < 64 → isPair p q j ≡ true → familyOf p q j .first ≡ q → begins p (64 * q + j) ≡ true
-  unfolding begins
-  begins-here j h pair e =
+  root-here : (j : ℕ) → j < 64 → isPair p q j ≡ true → familyOf p q j .first ≡ q → isRoot p (64 * q + j) ≡ true
+  unfolding isRoot
+  root-here j h pair e =
       let d : (64 * q + j) / 64 ≡ q = omega arith in
       let r : (64 * q + j) % 64 ≡ j = omega arith in
       rw (d, r) (and-both pair (eq-eqb _ q e))
 
-  begins-same : (j : ℕ) → j < 64 → member begun j ≡ begins p (64 * q + j)
-  begins-same j h = same-bool _ _
-      (λ m. let b = begun-first j m in begins-here j h (b .0) (b .1))
-      (λ e. let b = begins-at formed q j h e in first-begun j (b .0) (b .1))
+  root-same : (j : ℕ) → j < 64 → member roots j ≡ isRoot p (64 * q + j)
+  root-same j h = same-bool _ _
+      (λ m. let b = root-first j m in root-here j h (b .0) (b .1))
+      (λ e. let b = root-at formed q j h e in first-root j (b .0) (b .1))
 
   -- the pairs of the families that begin here
-  first-here : (s j : ℕ) → isPair p s j ≡ true → familyOf p s j .first ≡ q → (member begun j ≡ true) × Joined p j q s
+  first-here : (s j : ℕ) → isPair p s j ≡ true → familyOf p s j .first ≡ q → (member roots j ≡ true) × Joined p j q s
   first-here s j pair e =
       let way : Joined p j s q = subst (λ (x : ℕ). Joined p j s x) e (first-joined formed s j pair) in
-      (first-begun j (joined-pair formed way pair) (ap (λ (f : Family). f .first) (sym (family-same formed pair way)) ∙ e), joined-sym way)
+      (first-root j (joined-pair formed way pair) (ap (λ (f : Family). f .first) (sym (family-same formed pair way)) ∙ e), joined-sym way)
 
   -- ---- none begins
 
-  module _ (empty : begun ≡ 0) where
-    no-begun : (j : ℕ) → member begun j ≡ false
-    no-begun j = ap (λ (w : ℕ). member w j) empty ∙ member-empty j
+  module _ (empty : roots ≡ 0) where
+    no-root : (j : ℕ) → member roots j ≡ false
+    no-root j = ap (λ (w : ℕ). member w j) empty ∙ member-empty j
 
-    pub numbered-skip : (numbers : List ℕ) (used : ℕ) → NumberedTo p (64 * q) numbers used → NumberedTo p (64 * (q + 1)) numbers used
-    numbered-skip numbers used n = subst (λ (x : ℕ). NumberedTo p x numbers used) (omega arith) (go 64 (omega arith))
+    pub numbered-skip : (cells : List ℕ) (used : ℕ) → NumberedTo p (64 * q) cells used → NumberedTo p (64 * (q + 1)) cells used
+    numbered-skip cells used n = subst (λ (x : ℕ). NumberedTo p x cells used) (omega arith) (go 64 (omega arith))
       where
-        go : (i : ℕ) → i ≤ 64 → NumberedTo p (64 * q + i) numbers used
-        go zero h = subst (λ (x : ℕ). NumberedTo p x numbers used) (omega arith) n
-        go (suc i) h = subst (λ (x : ℕ). NumberedTo p x numbers used) (omega arith)
-            (numbered-no formed (64 * q + i) numbers used (go i (omega arith)) (sym (begins-same i (omega arith)) ∙ no-begun i))
+        go : (i : ℕ) → i ≤ 64 → NumberedTo p (64 * q + i) cells used
+        go zero h = subst (λ (x : ℕ). NumberedTo p x cells used) (omega arith) n
+        go (suc i) h = subst (λ (x : ℕ). NumberedTo p x cells used) (omega arith)
+            (numbered-no formed (64 * q + i) cells used (go i (omega arith)) (sym (root-same i (omega arith)) ∙ no-root i))
 
     pub placed-skip : PlacedTo p (q + 1) placed
     placed-skip = record {
@@ -97,25 +100,25 @@ module _ {p : Pairs} {live ones others linked : List ℕ} (d : Described p live 
       where
         go : (s j : ℕ) → isPair p s j ≡ true → familyOf p s j .first < q + 1 → Dec (familyOf p s j .first ≡ q) → member (getD placed s 0) j ≡ true
         go s j pair l (no n) = so .has s j pair (omega arith)
-        go s j pair l (yes e) = absurd (not-both (first-here s j pair e .0) (no-begun j))
+        go s j pair l (yes e) = absurd (not-both (first-here s j pair e .0) (no-root j))
 
   -- ---- those that begin have propagated
 
-  module _ (sets : List ℕ) (long : length sets ≡ length live) (found : Propagated p q begun sets) where
-    pub begun-here : Begun p q begun sets
-    begun-here = record {
+  module _ (sets : List ℕ) (long : length sets ≡ length live) (found : Propagated p q roots sets) where
+    pub roots-here : Roots p q roots sets
+    roots-here = record {
       formed = formed;
       locations-are = d .locations-are ∙ sym long;
       here = omega (arith, d .locations-are);
-      timers = begins-same;
-      families = λ j s m. let pair = begun-first j m .0 in same-bool _ _
+      timers = root-same;
+      families = λ j s m. let pair = root-first j m .0 in same-bool _ _
           (λ t. family-has formed q j pair s .1 (found .from s j t .1))
           (λ t. found .has s j m (family-has formed q j pair s .0 t));
     }
 
-    begun-within : (end : ℕ) → end ≤ length sets → ((s : ℕ) → end ≤ s → getD sets s 0 ≡ 0) → (j : ℕ) → member begun j ≡ true → Within sets j q end
-    begun-within end inside rest j m = record {
-      low = λ s t. let b = begun-first j m in omega (arith, b .1, first-least formed q j (b .0) s (found .from s j t .1));
+    root-within : (end : ℕ) → end ≤ length sets → ((s : ℕ) → end ≤ s → getD sets s 0 ≡ 0) → (j : ℕ) → member roots j ≡ true → Within sets j q end
+    root-within end inside rest j m = record {
+      low = λ s t. let b = root-first j m in omega (arith, b .1, first-least formed q j (b .0) s (found .from s j t .1));
       high = high;
       ordered = let l = high q (found .has q j m (joined-refl q)) in omega arith;
       inside = inside;
@@ -128,21 +131,21 @@ module _ {p : Pairs} {live ones others linked : List ℕ} (d : Described p live 
             go (inl l) = l
             go (inr l) = absurd (not-both t (ap (λ (w : ℕ). member w j) (rest s l) ∙ member-empty j))
 
-    begun-unnumbered : (numbers : List ℕ) (used : ℕ) → NumberedTo p (64 * q) numbers used → (j : ℕ) → member begun j ≡ true → Unnumbered sets j numbers
-    unfolding Unnumbered
-    begun-unnumbered numbers used n j m s h t =
-        let few = begun-few j m in
-        let b = begun-first j m in
+    root-unnumbered : (cells : List ℕ) (used : ℕ) → NumberedTo p (64 * q) cells used → (j : ℕ) → member roots j ≡ true → Unnumbered sets j cells
+    unfolding Unnumbered numbering
+    root-unnumbered cells used n j m s h t =
+        let few = root-few j m in
+        let b = root-first j m in
         let r : (64 * q + j) % 64 ≡ j = omega arith in
         let v : (64 * q + j) / 64 ≡ q = omega arith in
         let in-it : memb s (familyOf p q j .locations) ≡ true = family-has formed q j (b .0) s .1 (found .from s j t .1) in
         ap (λ (l : List ℕ). getD l (64 * s + j) 0) (n .cells-are) ∙ cells-at _ (p .locations) s j (omega (arith, d .locations-are)) few
-        ∙ ap cell (rw r at (not-yet formed (64 * q) (64 * q + j) (omega arith) (begins-here j few (b .0) (b .1)) s (rw (v, r) in-it)))
+        ∙ ap cell (rw r at (not-yet formed (64 * q) (64 * q + j) (omega arith) (root-here j few (b .0) (b .1)) s (rw (v, r) in-it)))
 
-    pub begun-ready : (numbers held : List ℕ) (used end : ℕ) → NumberedTo p (64 * q) numbers used → Lengths sets numbers held
-        → WordsAgree numbers held (length sets) → (end ≤ length sets) × ((s : ℕ) → end ≤ s → getD sets s 0 ≡ 0) → Ready sets begun q end numbers held
-    begun-ready numbers held used end n lengths words-agree e =
-        record { lengths = lengths; words-agree = words-agree; within = begun-within end (e .0) (e .1); unnumbered = begun-unnumbered numbers used n }
+    pub roots-ready : (cells held : List ℕ) (used end : ℕ) → NumberedTo p (64 * q) cells used → Lengths sets cells held
+        → WordsAgree cells held (length sets) → (end ≤ length sets) × ((s : ℕ) → end ≤ s → getD sets s 0 ≡ 0) → Ready sets roots q end cells held
+    roots-ready cells held used end n lengths words-agree e =
+        record { lengths = lengths; words-agree = words-agree; within = root-within end (e .0) (e .1); unnumbered = root-unnumbered cells used n }
 
     pub placed-more : (after : List ℕ) → length after ≡ length live
         → ((s : ℕ) → s < length sets → getD after s 0 ≡ joined (getD placed s 0) (getD sets s 0)) → PlacedTo p (q + 1) after
@@ -167,10 +170,11 @@ module _ {p : Pairs} {live ones others linked : List ℕ} (d : Described p live 
             go (inl l) = l
             go (inr l) = absurd (not-both m (ap (λ (w : ℕ). member w j) (List·getD-eq-default after 0 {n = s} (omega arith)) ∙ member-empty j))
 
-        old : (s j : ℕ) → (member (getD placed s 0) j ≡ true) ⊎ (member (getD sets s 0) j ≡ true) → (isPair p s j ≡ true) × (familyOf p s j .first < q + 1)
+        old : (s j : ℕ) → (member (getD placed s 0) j ≡ true) ⊎ (member (getD sets s 0) j ≡ true)
+            → (isPair p s j ≡ true) × (familyOf p s j .first < q + 1)
         old s j (inl m) = let x = so .only s j m in (x .0, omega (arith, x .1))
         old s j (inr m) =
             let x = found .from s j m in
-            let b = begun-first j (x .0) in
+            let b = root-first j (x .0) in
             let same = ap (λ (f : Family). f .first) (family-same formed (b .0) (x .1)) in
             (joined-pair formed (x .1) (b .0), omega (arith, same, b .1))

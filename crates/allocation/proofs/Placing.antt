@@ -16,24 +16,26 @@ use Rattle.lists.proofs.Membership.{any-memb-in, any-memb-out}
 use Rattle.lists.proofs.Lowest.{lowest-is}
 use Rattle.model.specs.Family.{Pairs, isPair, Joined, Family, familyOf, familyFrom, meets, WellFormed}
 use Rattle.model.specs.FirstFit.{Placed, held, free, place, usedBy, numberAt}
+use Rattle.model.specs.Rewrite.{numbering}
 use Rattle.model.proofs.Joined.{joined-sym, joined-trans, joined-pair}
 use Rattle.model.proofs.Families.{family-timer, family-has, family-same}
 use Rattle.model.proofs.FirstFit.{free-not-held, free-least, held-in, held-out}
 use Rattle.model.proofs.NumberAt.{has, has-timer, has-location, has-pair, number-out}
-use Rattle.allocation.specs.Cells.{cell, cells, noNumber}
-use Rattle.allocation.specs.Numbering.{inFamily, inRow, taken, changed, given, begins, familiesTo, NumberedTo}
+use Rattle.allocation.specs.Cells.{cell, cellsOf, noNumber, mostCells}
+use Rattle.allocation.specs.Rows.{inFamily, inRow, taken, changed, given}
+use Rattle.allocation.specs.Turns.{isRoot, familiesTo, NumberedTo, placedBelow}
 use Rattle.allocation.proofs.Below.{below-in, below-out, some-in, some-out}
 use Rattle.allocation.proofs.CellList.{cells-at, cells-is, cells-none, cell-some, used-more, free-used, place-append}
 
-pub numbered-none : (p : Pairs) (numbers : List ℕ) → length numbers ≡ 64 * p .locations → ((x : ℕ) → x < 64 * p .locations → getD numbers x 0 ≡ noNumber)
-    → NumberedTo p 0 numbers 0
+pub numbered-none : (p : Pairs) (cells : List ℕ) → length cells ≡ 64 * p .locations → ((x : ℕ) → x < 64 * p .locations → getD cells x 0 ≡ noNumber)
+    → NumberedTo p 0 cells 0
 unfolding familiesTo gather place usedBy top
-numbered-none p numbers long clear = record { cells-are = cells-none (p .locations) numbers long clear; used-is = refl }
+numbered-none p cells long clear = record { cells-are = cells-none (p .locations) cells long clear; used-is = refl }
 
 module _ {p : Pairs} (formed : WellFormed p) where
   -- the families of the pairs below x, placed
   abbrev placedTo : ℕ → List Placed
-  placedTo x = place (familiesTo p x) []
+  placedTo x = placedBelow p x
 
   abbrev familyOn : ℕ → Family
   familyOn x = familyOf p (x / 64) (x % 64)
@@ -41,16 +43,16 @@ module _ {p : Pairs} (formed : WellFormed p) where
   abbrev next : ℕ → Placed
   next x = record { family = familyOn x; number = free (held (familyOn x) (placedTo x)) }
 
-  pub begins-pair : (x : ℕ) → begins p x ≡ true → (isPair p (x / 64) (x % 64) ≡ true) × (familyOn x .first ≡ x / 64)
-  unfolding begins
-  begins-pair x e = (and-left (isPair p (x / 64) (x % 64)) _ e, same-number (and-right (isPair p (x / 64) (x % 64)) _ e))
+  pub root-pair : (x : ℕ) → isRoot p x ≡ true → (isPair p (x / 64) (x % 64) ≡ true) × (familyOn x .first ≡ x / 64)
+  unfolding isRoot
+  root-pair x e = (and-left (isPair p (x / 64) (x % 64)) _ e, same-number (and-right (isPair p (x / 64) (x % 64)) _ e))
 
-  family-yes : (x : ℕ) → begins p x ≡ true → familyFrom p (x / 64) (x % 64) ≡ familyOn x ∷ []
+  family-yes : (x : ℕ) → isRoot p x ≡ true → familyFrom p (x / 64) (x % 64) ≡ familyOn x ∷ []
   unfolding familyFrom
-  family-yes x e = let b = begins-pair x e in rw (b .0, familyFrom) (rw (eq-eqb _ (x / 64) (b .1)) refl)
+  family-yes x e = let b = root-pair x e in rw (b .0, familyFrom) (rw (eq-eqb _ (x / 64) (b .1)) refl)
 
-  family-no : (x : ℕ) → begins p x ≡ false → familyFrom p (x / 64) (x % 64) ≡ []
-  unfolding familyFrom begins
+  family-no : (x : ℕ) → isRoot p x ≡ false → familyFrom p (x / 64) (x % 64) ≡ []
+  unfolding familyFrom isRoot
   family-no x e = go (isPair p (x / 64) (x % 64)) refl
     where
       go : (b : Bool) → isPair p (x / 64) (x % 64) ≡ b
@@ -58,22 +60,22 @@ module _ {p : Pairs} (formed : WellFormed p) where
       go true b = rw (is-no (eqb (familyOn x .first) (x / 64)) (λ h. not-both (and-both b h) e)) refl
       go false b = refl
 
-  step-yes : (x : ℕ) → begins p x ≡ true → placedTo (suc x) ≡ next x ∷ placedTo x
+  step-yes : (x : ℕ) → isRoot p x ≡ true → placedTo (suc x) ≡ next x ∷ placedTo x
   unfolding familiesTo gather place
   step-yes x e = place-append (familiesTo p x) (familyFrom p (x / 64) (x % 64)) [] ∙ rw (family-yes x e) refl
 
-  step-no : (x : ℕ) → begins p x ≡ false → placedTo (suc x) ≡ placedTo x
+  step-no : (x : ℕ) → isRoot p x ≡ false → placedTo (suc x) ≡ placedTo x
   unfolding familiesTo gather place
   step-no x e = place-append (familiesTo p x) (familyFrom p (x / 64) (x % 64)) [] ∙ rw (family-no x e) refl
 
   -- what every step keeps, all of them keep
-  steps : (P : ℕ → List Placed → Type 0) → P 0 (placedTo 0) → ((x : ℕ) → begins p x ≡ true → P x (placedTo x) → P (suc x) (next x ∷ placedTo x))
+  steps : (P : ℕ → List Placed → Type 0) → P 0 (placedTo 0) → ((x : ℕ) → isRoot p x ≡ true → P x (placedTo x) → P (suc x) (next x ∷ placedTo x))
       → ((x : ℕ) → P x (placedTo x) → P (suc x) (placedTo x))
       → (x : ℕ) → P x (placedTo x)
   steps P start yes′ no′ zero = start
-  steps P start yes′ no′ (suc x) = go (begins p x) refl (steps P start yes′ no′ x)
+  steps P start yes′ no′ (suc x) = go (isRoot p x) refl (steps P start yes′ no′ x)
     where
-      go : (b : Bool) → begins p x ≡ b → P x (placedTo x) → P (suc x) (placedTo (suc x))
+      go : (b : Bool) → isRoot p x ≡ b → P x (placedTo x) → P (suc x) (placedTo (suc x))
       go true e h = rw (step-yes x e) (yes′ x e h)
       go false e h = rw (step-no x e) (no′ x h)
 
@@ -92,7 +94,7 @@ module _ {p : Pairs} (formed : WellFormed p) where
   record Earlier (x : ℕ) (ps : List Placed) (g : Placed) : Type 0 where
     pub number : ℕ
     pub below : number < x
-    pub begun : begins p number ≡ true
+    pub root : isRoot p number ≡ true
     pub family : g .family ≡ familyOn number
     pub shown : (s : ℕ) → memb s (g .family .locations) ≡ true → numberAt ps s (g .family .timer) ≡ some (g .number)
 
@@ -100,26 +102,26 @@ module _ {p : Pairs} (formed : WellFormed p) where
   AllEarlier x ps = (i : ℕ) (g : Placed) → getElem? ps i ≡ some g → Earlier x ps g
 
   -- the locations of a family that begins at x are joined to its first
-  locations-joined : (x : ℕ) → begins p x ≡ true → (s : ℕ) → memb s (familyOn x .locations) ≡ true → Joined p (x % 64) (x / 64) s
-  locations-joined x e s m = family-has formed (x / 64) (x % 64) (begins-pair x e .0) s .0 m
+  locations-joined : (x : ℕ) → isRoot p x ≡ true → (s : ℕ) → memb s (familyOn x .locations) ≡ true → Joined p (x % 64) (x / 64) s
+  locations-joined x e s m = family-has formed (x / 64) (x % 64) (root-pair x e .0) s .0 m
 
   -- families that begin at different pairs have no common pair
-  apart : (x y : ℕ) → begins p x ≡ true → begins p y ≡ true → x % 64 ≡ y % 64 → (s : ℕ) → memb s (familyOn x .locations) ≡ true
+  apart : (x y : ℕ) → isRoot p x ≡ true → isRoot p y ≡ true → x % 64 ≡ y % 64 → (s : ℕ) → memb s (familyOn x .locations) ≡ true
       → memb s (familyOn y .locations) ≡ true → x / 64 ≡ y / 64
   apart x y bx by t s mx my =
       let a = locations-joined x bx s mx in
       let b : Joined p (x % 64) (y / 64) s = subst (λ (j : ℕ). Joined p j (y / 64) s) (sym t) (locations-joined y by s my) in
-      let same = family-same formed (begins-pair x bx .0) (joined-trans a (joined-sym b)) in
-      sym (begins-pair x bx .1) ∙ ap (λ (f : Family). f .first) (same ∙ ap (familyOf p (y / 64)) t) ∙ begins-pair y by .1
+      let same = family-same formed (root-pair x bx .0) (joined-trans a (joined-sym b)) in
+      sym (root-pair x bx .1) ∙ ap (λ (f : Family). f .first) (same ∙ ap (familyOf p (y / 64)) t) ∙ root-pair y by .1
 
   -- no earlier family has a pair of the next one
-  earlier-apart : (x : ℕ) → begins p x ≡ true → {ps : List Placed} {g : Placed} → Earlier x ps g → (s : ℕ) → memb s (g .family .locations) ≡ true
+  earlier-apart : (x : ℕ) → isRoot p x ≡ true → {ps : List Placed} {g : Placed} → Earlier x ps g → (s : ℕ) → memb s (g .family .locations) ≡ true
       → has (familyOn x) s (g .family .timer) ≡ false
   earlier-apart x e {ps} {g} y s m = is-no _ (λ h.
       let t : x % 64 ≡ y .number % 64 =
       sym (family-timer p (x / 64) (x % 64)) ∙ has-timer (familyOn x) s (g .family .timer) h ∙ ap (λ (f : Family). f .timer) (y .family)
       ∙ family-timer p (y .number / 64) (y .number % 64) in
-      let d = apart x (y .number) e (y .begun) t s (has-location (familyOn x) s (g .family .timer) h)
+      let d = apart x (y .number) e (y .root) t s (has-location (familyOn x) s (g .family .timer) h)
       (ap (λ (f : Family). memb s (f .locations)) (sym (y .family)) ∙ m) in
       omega (arith, y .below))
 
@@ -128,13 +130,13 @@ module _ {p : Pairs} (formed : WellFormed p) where
   all-earlier = steps AllEarlier (λ i g e. absurd (Option·none-ne-some _ e)) more (λ x h i g e. later x (h i g e))
     where
       later : (x : ℕ) {ps : List Placed} {g : Placed} → Earlier x ps g → Earlier (suc x) ps g
-      later x y = record { number = y .number; below = omega (arith, y .below); begun = y .begun; family = y .family; shown = y .shown }
+      later x y = record { number = y .number; below = omega (arith, y .below); root = y .root; family = y .family; shown = y .shown }
 
-      more : (x : ℕ) → begins p x ≡ true → AllEarlier x (placedTo x) → AllEarlier (suc x) (next x ∷ placedTo x)
+      more : (x : ℕ) → isRoot p x ≡ true → AllEarlier x (placedTo x) → AllEarlier (suc x) (next x ∷ placedTo x)
       more x b h zero g e = let same : next x ≡ g = Option·some-injective _ _ e in record {
         number = x;
         below = omega arith;
-        begun = b;
+        root = b;
         family = ap (λ (p : Placed). p .family) (sym same);
         shown = λ s m.
             rw (ap (λ (p : Placed). has (p .family) s (g .family .timer)) same ∙ has-pair (g .family) s (g .family .timer) refl m, numberAt)
@@ -143,13 +145,13 @@ module _ {p : Pairs} (formed : WellFormed p) where
       more x b h (suc i) g e = let y = h i g e in record {
         number = y .number;
         below = omega (arith, y .below);
-        begun = y .begun;
+        root = y .root;
         family = y .family;
         shown = λ s m. rw (earlier-apart x b y s m, numberAt) (y .shown s m);
       }
 
   -- a pair of a family that begins at or above x has no number yet
-  pub not-yet : (x y : ℕ) → x ≤ y → begins p y ≡ true → (s : ℕ) → memb s (familyOn y .locations) ≡ true → numberAt (placedTo x) s (y % 64) ≡ none
+  pub not-yet : (x y : ℕ) → x ≤ y → isRoot p y ≡ true → (s : ℕ) → memb s (familyOn y .locations) ≡ true → numberAt (placedTo x) s (y % 64) ≡ none
   not-yet x y h e s m = go (numberAt (placedTo x) s (y % 64)) refl
     where
       go : (o : Option ℕ) → numberAt (placedTo x) s (y % 64) ≡ o → o ≡ none
@@ -160,7 +162,7 @@ module _ {p : Pairs} (formed : WellFormed p) where
           let t : z .number % 64 ≡ y % 64 =
           sym (family-timer p (z .number / 64) (z .number % 64)) ∙ ap (λ (f : Family). f .timer) (sym (z .family))
           ∙ has-timer (n .placed .family) s (y % 64) (n .holds) in
-          let d = apart (z .number) y (z .begun) e t s
+          let d = apart (z .number) y (z .root) e t s
           (ap (λ (f : Family). memb s (f .locations)) (sym (z .family)) ∙ has-location (n .placed .family) s (y % 64) (n .holds)) m in
           absurd (omega (arith, z .below))
 
@@ -175,16 +177,17 @@ module _ {p : Pairs} (formed : WellFormed p) where
     inside s m = formed .location s j (joined-pair formed (family-has formed q j pair s .0 m) pair)
 
     -- the numbers in the rows of its locations are those held by the families that it meets
-    module _ (ps : List Placed) (x : ℕ) (early : AllEarlier x ps) (numbers : List ℕ) (are : numbers ≡ cells ps (p .locations)) (k : ℕ) (few : k < 65535) where
-      taken-held : taken sets numbers j k ≡ memb k (held family ps)
-      unfolding taken inRow meets
+    module _ (ps : List Placed) (x : ℕ) (early : AllEarlier x ps) (cells : List ℕ) (are : cells ≡ cellsOf (numbering ps) (p .locations)) (k : ℕ)
+        (few : k < noNumber) where
+      taken-held : taken sets cells j k ≡ memb k (held family ps)
+      unfolding taken inRow meets numbering
       taken-held = same-bool _ _ there back
         where
-          there : taken sets numbers j k ≡ true → memb k (held family ps) ≡ true
+          there : taken sets cells j k ≡ true → memb k (held family ps) ≡ true
           there h =
               let s = some-out sets j _ (length sets) h in
               let i = below-out _ 64 (s .3) in
-              let at = sym (cells-at ps (p .locations) (s .0) (i .0) (omega (arith, s .1, long)) (i .1))
+              let at = sym (cells-at (numbering ps) (p .locations) (s .0) (i .0) (omega (arith, s .1, long)) (i .1))
               ∙ ap (λ (l : List ℕ). getD l (64 * s .0 + i .0) 0) (sym are) ∙ same-number (i .2) in
               let n = number-out (s .0) (i .0) ps k (cell-some _ k few at) in
               subst (λ (y : ℕ). memb y (held family ps) ≡ true) (n .number)
@@ -192,17 +195,18 @@ module _ {p : Pairs} (formed : WellFormed p) where
               (any-memb-in (λ y. memb y (n .placed .family .locations)) (s .0) (family .locations) (sym (its (s .0)) ∙ s .2)
               (has-location (n .placed .family) (s .0) (i .0) (n .holds))))
 
-          back : memb k (held family ps) ≡ true → taken sets numbers j k ≡ true
+          back : memb k (held family ps) ≡ true → taken sets cells j k ≡ true
           back m =
               let b = held-out family k ps m in
               let g = b .holder in
               let s = any-memb-out (λ y. memb y (g .family .locations)) (family .locations) (b .met) in
               let h = inside (s .0) (s .1) in
               let y = early (b .place) g (b .is-nth) in
-              let t : g .family .timer < 64 = rw (ap (λ (f : Family). f .timer) (y .family) ∙ family-timer p (y .number / 64) (y .number % 64)) (omega arith) in
-              let e : getD numbers (64 * s .0 + g .family .timer) 0 ≡ k =
+              let t : g .family .timer < 64 =
+              rw (ap (λ (f : Family). f .timer) (y .family) ∙ family-timer p (y .number / 64) (y .number % 64)) (omega arith) in
+              let e : getD cells (64 * s .0 + g .family .timer) 0 ≡ k =
               ap (λ (l : List ℕ). getD l (64 * s .0 + g .family .timer) 0) are
-              ∙ cells-at ps (p .locations) (s .0) (g .family .timer) h t ∙ ap cell (y .shown (s .0) (s .2)) ∙ b .number in
+              ∙ cells-at (numbering ps) (p .locations) (s .0) (g .family .timer) h t ∙ ap cell (y .shown (s .0) (s .2)) ∙ b .number in
               some-in sets j _ (length sets) (s .0) (omega (arith, h, long)) (its (s .0) ∙ s .1) (below-in _ 64 (g .family .timer) t (eq-eqb _ k e))
 
     -- ---- a turn of the loop
@@ -213,42 +217,48 @@ module _ {p : Pairs} (formed : WellFormed p) where
     on : familyOn x ≡ family
     on = let d : x / 64 ≡ q = omega arith in let r : x % 64 ≡ j = omega arith in rw (d, r) refl
 
-    module _ (numbers : List ℕ) (used : ℕ) (so : NumberedTo p x numbers used) (few : x ≤ 16384) where
-      number-is : lowest (λ k. not (taken sets numbers j k)) 16384 ≡ next x .number
+    module _ (cells : List ℕ) (used : ℕ) (so : NumberedTo p x cells used) (few : x ≤ mostCells) where
+      number-is : lowest (λ k. not (taken sets cells j k)) mostCells ≡ next x .number
       number-is =
           let l = held family (placedTo x) in
-          let b : free l ≤ 16384 = omega (arith, free-used family (placedTo x), used-few x) in
-          lowest-is _ 16384 (free l) b (λ h. ap not (same (free l) (omega arith) ∙ free-not-held l)) (λ k h. ap not (same k (omega arith) ∙ free-least l k h))
+          let b : free l ≤ mostCells = omega (arith, free-used family (placedTo x), used-few x) in
+          lowest-is _ mostCells (free l) b (λ h. ap not (same (free l) (omega arith) ∙ free-not-held l))
+          (λ k h. ap not (same k (omega arith) ∙ free-least l k h))
           ∙ ap (λ (f : Family). free (held f (placedTo x))) (sym on)
         where
-          same : (k : ℕ) → k < 65535 → taken sets numbers j k ≡ memb k (held family (placedTo x))
-          same k h = taken-held (placedTo x) x (all-earlier x) numbers (so .cells-are) k h
+          same : (k : ℕ) → k < noNumber → taken sets cells j k ≡ memb k (held family (placedTo x))
+          same k h = taken-held (placedTo x) x (all-earlier x) cells (so .cells-are) k h
 
-      module _ (number : ℕ) (is : number ≡ lowest (λ k. not (taken sets numbers j k)) 16384) (after : List ℕ) (wide : length after ≡ 64 * p .locations)
-          (gave : (s i : ℕ) → s < length sets → i < 64 → getD after (64 * s + i) 0 ≡ given sets j number numbers s i) where
-        given-cells : after ≡ cells (next x ∷ placedTo x) (p .locations)
-        unfolding given changed numberAt
-        given-cells = cells-is (next x ∷ placedTo x) (p .locations) after wide (λ s i h k. gave s i (omega (arith, h, long)) k ∙ one s i h k)
+      module _ (number : ℕ) (is : number ≡ lowest (λ k. not (taken sets cells j k)) mostCells) (after : List ℕ)
+          (wide : length after ≡ 64 * p .locations)
+          (gave : (s i : ℕ) → s < length sets → i < 64 → getD after (64 * s + i) 0 ≡ given sets j number cells s i) where
+        given-cells : after ≡ cellsOf (numbering (next x ∷ placedTo x)) (p .locations)
+        unfolding given changed numbering numberAt
+        given-cells =
+            cells-is (numbering (next x ∷ placedTo x)) (p .locations) after wide (λ s i h k. gave s i (omega (arith, h, long)) k ∙ one s i h k)
           where
             pick-cell : (b : Bool) (s i : ℕ) → s < p .locations → i < 64
-                → elim b [ true ↦ number | false ↦ getD numbers (64 * s + i) 0 ] ≡ cell (elim b [ true ↦ some (next x .number) | false ↦ numberAt (placedTo x) s i ])
+                → elim b [ true ↦ number | false ↦ getD cells (64 * s + i) 0 ]
+                ≡ cell (elim b [ true ↦ some (next x .number) | false ↦ numberAt (placedTo x) s i ])
             pick-cell true s i h k = is ∙ number-is
-            pick-cell false s i h k = ap (λ (l : List ℕ). getD l (64 * s + i) 0) (so .cells-are) ∙ cells-at (placedTo x) (p .locations) s i h k
+            pick-cell false s i h k = ap (λ (l : List ℕ). getD l (64 * s + i) 0) (so .cells-are)
+                ∙ cells-at (numbering (placedTo x)) (p .locations) s i h k
 
             has-here : (s i : ℕ) → (eqb j i && inFamily sets j s) ≡ has (familyOn x) s i
             has-here s i = ap₂ (λ (t : ℕ) (b : Bool). eqb t i && b) (sym (family-timer p q j)) (its s) ∙ ap (λ (f : Family). has f s i) (sym on)
 
             one : (s i : ℕ) → s < p .locations → i < 64
-                → elim (eqb j i && inFamily sets j s) [ true ↦ number | false ↦ getD numbers (64 * s + i) 0 ] ≡ cell (numberAt (next x ∷ placedTo x) s i)
+                → elim (eqb j i && inFamily sets j s) [ true ↦ number | false ↦ getD cells (64 * s + i) 0 ]
+                ≡ cell (numberAt (next x ∷ placedTo x) s i)
             one s i h k =
                 pick-cell (eqb j i && inFamily sets j s) s i h k
                 ∙ ap (λ (b : Bool). cell (elim b [ true ↦ some (next x .number) | false ↦ numberAt (placedTo x) s i ])) (has-here s i)
 
-        pub numbered-yes : begins p x ≡ true → NumberedTo p (x + 1) after (max used (number + 1))
+        pub numbered-yes : isRoot p x ≡ true → NumberedTo p (x + 1) after (max used (number + 1))
         numbered-yes e = rw add-one (record {
           cells-are = rw (step-yes x e) given-cells;
           used-is = rw (step-yes x e, used-more) (omega (arith, so .used-is, is ∙ number-is));
         })
 
-  pub numbered-no : (x : ℕ) (numbers : List ℕ) (used : ℕ) → NumberedTo p x numbers used → begins p x ≡ false → NumberedTo p (x + 1) numbers used
-  numbered-no x numbers used so e = rw add-one (record { cells-are = rw (step-no x e) (so .cells-are); used-is = rw (step-no x e) (so .used-is) })
+  pub numbered-no : (x : ℕ) (cells : List ℕ) (used : ℕ) → NumberedTo p x cells used → isRoot p x ≡ false → NumberedTo p (x + 1) cells used
+  numbered-no x cells used so e = rw add-one (record { cells-are = rw (step-no x e) (so .cells-are); used-is = rw (step-no x e) (so .used-is) })

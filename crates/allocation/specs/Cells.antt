@@ -3,7 +3,15 @@ use mathlib.Core.Option.{Option, none, some}
 use mathlib.Core.List.{List}
 use Prim.Native.Nat.{ℕ, _*_, _/_, _%_}
 use Rattle.lists.specs.Lists.{upTo}
-use Rattle.model.specs.FirstFit.{Placed, numberAt}
+use Rattle.model.specs.Rewrite.{Numbering}
+
+-- a cell for each timer of each location: the most there are, and so the most numbers that families can need
+abbrev pub mostCells : ℕ
+mostCells = 16384
+
+-- the words of 64 numbers that these take
+abbrev pub mostWords : ℕ
+mostWords = 256
 
 -- the cell of a pair that has no number, which no number given reaches
 abbrev pub noNumber : ℕ
@@ -14,5 +22,5 @@ cell none = noNumber
 cell (some k) = k
 
 -- the cell of (q, j) is at 64 q + j
-unfoldable pub cells : List Placed → (locations : ℕ) → List ℕ
-cells ps n = upTo (λ i. cell (numberAt ps (i / 64) (i % 64))) (64 * n)
+unfoldable pub cellsOf : Numbering → (locations : ℕ) → List ℕ
+cellsOf N n = upTo (λ i. cell (N .number (i / 64) (i % 64))) (64 * n)

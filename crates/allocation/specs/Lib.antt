@@ -1,2 +1,3 @@
 pub mod Cells
-pub mod Numbering
+pub mod Rows
+pub mod Turns

@@ -4,3 +4,4 @@ pub mod Part
 pub mod Begins
 pub mod Holds
 pub mod Locations
+pub mod Fronts

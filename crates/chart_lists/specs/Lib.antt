@@ -5,3 +5,4 @@ pub mod Holds
 pub mod Lent
 pub mod Read
 pub mod Limits
+pub mod Partly

@@ -12,7 +12,7 @@ use borrow.Author.Tests.{eq-eqb, ne-eqb}
 use Rattle.timer_set.specs.Members.{everyTimer}
 use Rattle.lists.proofs.Zeros.{getD-zeros}
 use Rattle.lists.proofs.Nth.{getD-map, upTo-map}
-use Rattle.model.specs.Chart.{Transition, Chart}
+use Rattle.model.specs.Chart.{Chart}
 use Rattle.model.specs.Valid.{Valid}
 use Rattle.model.specs.Flow.{Edge}
 use Rattle.model.specs.Live.{startsSet, testsSet, testedSets, atInitial, liveFlow, unstartedFlow, reachedFlow}

@@ -1,66 +1,96 @@
--- The lists of a chart are what the rounds and the allocation ask for, and what these leave is the chart's. Assumes nothing.
+-- The fronts of a chart's lists are what the rounds and the allocation ask for, and what these leave is the chart's. Assumes nothing.
 use mathlib.Core.Path.{_≡_, sym, ap, _∙_}
-use mathlib.Core.List.{List}
+use mathlib.Core.List.{List, _++_}
 use Prim.Native.Nat.{ℕ, _≤_}
 use native.Mathlib.Omega.{arith}
 use lib.ListN.{length, take, replicate, length-replicate}
+use lib.Seq.{take-at}
 use Rattle.lists.proofs.Zeros.{take-zeros}
 use Rattle.model.specs.Chart.{Chart}
 use Rattle.model.specs.Flow.{settled}
-use Rattle.model.specs.Live.{liveFlow, liveSets}
+use Rattle.model.specs.Live.{testedSets, liveSets}
 use Rattle.model.specs.FirstFit.{firstFit, usedBy, board, used}
-use Rattle.model.proofs.Settled.{length-settled}
-use Rattle.flow.specs.Edges.{flowOf, Matching}
-use Rattle.flow.proofs.ChartFlows.{live-flow, live-matching}
-use Rattle.families.specs.Pairs.{pairsOf}
-use Rattle.allocation.specs.Cells.{cells}
-use Rattle.families.specs.Pairs.{Matching as Allocatable}
-use Rattle.families.proofs.ChartPairs.{chart-pairs, chart-matching}
-use Rattle.families.proofs.ChartPairs.{Listed as WithLive}
-use Rattle.numbering.specs.Numbered.{ListsFor, NumberedChart}
+use Rattle.model.specs.Rewrite.{numbering}
+use Rattle.chart_lists.specs.Limits.{mostLocations}
+use Rattle.chart_lists.specs.Header.{headerOf}
+use Rattle.chart_lists.specs.declared.Header.{Header}
+use Rattle.chart_lists.specs.Begins.{Begins}
+use Rattle.chart_lists.specs.Holds.{Holds}
+use Rattle.chart_lists.specs.Partly.{edgesOf}
+use Rattle.chart_lists.proofs.Fronts.{locations-are, timers-are, each-front, sources-front, targets-front, starts-front, begins-front}
+use Rattle.flow.specs.Edges.{flowOf, SafeEdges}
+use Rattle.flow.proofs.ChartFlows.{tested-each, live-flow, live-safe}
+use Rattle.families.specs.Pairs.{pairsOf, SafeTransitions}
+use Rattle.families.proofs.ChartPairs.{live-each, chart-pairs, chart-safe}
+use Rattle.allocation.specs.Cells.{cellsOf}
+use Rattle.numbering.specs.ChartNumbered.{ChartNumbered}
+use Rattle.numbering.specs.declared.Numbered.{Numbered}
 
-module _ {c : Chart} {sources targets starts tested : List ℕ} {timers locations : ℕ} (l : ListsFor c sources targets starts tested timers locations) where
-  few : locations ≤ 256
-  few = omega (arith, l .locations-are, l .valid .few-locations)
+-- the part of a list that is lent, the empty sets that are lent, and the part of the live sets that is looked at again
+abbrev part : Header → List ℕ → List ℕ
+part m l = take (m .transitions) l
 
-  -- the empty sets that are lent
-  pub own-sets : _≡_ {A = List ℕ} (take locations (replicate 256 0)) (replicate (c .locations) 0)
-  own-sets = take-zeros locations 256 few ∙ ap {B = List ℕ} (λ (n : ℕ). replicate n 0) (l .locations-are)
+abbrev own : Header → List ℕ
+own m = take (m .locations) (replicate mostLocations 0)
 
-  pub own-length : _≡_ (length {A = ℕ} (take locations (replicate 256 0))) locations
-  own-length = ap length own-sets ∙ length-replicate {A = ℕ} (c .locations) 0 ∙ sym (l .locations-are)
+abbrev seen : Header → (live rest : List ℕ) → List ℕ
+seen m live rest = take (m .locations) (live ++ rest)
 
-  pub settle-matching : Matching sources targets starts tested (take locations (replicate 256 0))
-  settle-matching = rw own-sets (live-matching (l .valid) (l .listed))
+module _ (c : Chart) {m : Header} (is : m ≡ headerOf c) {s t w u : List ℕ} (h : Holds c (edgesOf c s t w)) (b : Begins (testedSets c) u) where
+  pub few : m .locations ≤ mostLocations
+  few = omega (arith, locations-are c is, h .valid .few-locations)
 
-  module _ {live : List ℕ} (e : live ≡ settled (flowOf sources targets starts tested (take locations (replicate 256 0)))) where
-    pub live-are : live ≡ liveSets c
+  own-are : own m ≡ replicate (c .locations) 0
+  own-are = take-zeros (m .locations) mostLocations few ∙ ap {B = List ℕ} (λ (n : ℕ). replicate n 0) (locations-are c is)
+
+  pub own-length : length (own m) ≡ m .locations
+  own-length = ap length own-are ∙ length-replicate {A = ℕ} (c .locations) 0 ∙ sym (locations-are c is)
+
+  tested-front : part m u ≡ testedSets c
+  tested-front = each-front c is (tested-each c) b
+
+  pub settle-safe : SafeEdges (part m s) (part m t) (part m w) (part m u) (own m)
+  settle-safe =
+      rw (sources-front c is (h .sources), targets-front c is (h .targets), starts-front c is (h .starts), tested-front, own-are)
+      (live-safe (h .valid))
+
+  module _ {live : List ℕ} (made : live ≡ settled (flowOf (part m s) (part m t) (part m w) (part m u) (own m))) where
+    live-are : live ≡ liveSets c
     unfolding liveSets
-    live-are = e ∙ rw own-sets (ap settled (live-flow (l .valid) (l .listed)))
+    live-are =
+        made
+        ∙ rw (sources-front c is (h .sources), targets-front c is (h .targets), starts-front c is (h .starts), tested-front, own-are)
+        (ap settled (live-flow (h .valid)))
 
-    pub length-live : length live ≡ c .locations
-    unfolding liveSets liveFlow
-    length-live = ap length live-are ∙ length-settled (liveFlow c)
+    length-live : length live ≡ m .locations
+    length-live = ap length live-are ∙ live-each c ∙ sym (locations-are c is)
 
-    with-live : WithLive c sources targets starts live timers
-    with-live = record {
-      sources-are = l .listed .sources-are;
-      targets-are = l .listed .targets-are;
-      starts-are = l .listed .starts-are;
-      live-are = live-are;
-      timers-are = l .timers-are;
-    }
+    module _ (rest : List ℕ) where
+      seen-are : seen m live rest ≡ liveSets c
+      seen-are = take-at live rest (m .locations) length-live ∙ live-are
 
-    pub allocatable : Allocatable sources targets starts live timers
-    allocatable = chart-matching (l .valid) with-live
+      pub seen-length : length (seen m live rest) ≡ m .locations
+      seen-length = ap length seen-are ∙ live-each c ∙ sym (locations-are c is)
 
-    pub numbered : {numbers : List ℕ} {count : ℕ} → numbers ≡ cells (firstFit (pairsOf sources targets starts live timers)) (length live)
-        → count ≡ usedBy (firstFit (pairsOf sources targets starts live timers)) → NumberedChart c live numbers count
-    unfolding board used
-    numbered f g =
-        let p = chart-pairs (l .valid) with-live in
-        record {
-          live-are = live-are;
-          numbers-are = rw (p, length-live) at f;
-          used-is = rw p at g;
-        }
+      pub allocate-safe : SafeTransitions (part m s) (part m t) (part m w) (seen m live rest) (m .timers)
+      allocate-safe =
+          rw (sources-front c is (h .sources), targets-front c is (h .targets), starts-front c is (h .starts), seen-are, timers-are c is)
+          (chart-safe (h .valid))
+
+      placed-are : firstFit (pairsOf (part m s) (part m t) (part m w) (seen m live rest) (m .timers)) ≡ board c
+      unfolding board
+      placed-are =
+          rw (sources-front c is (h .sources), targets-front c is (h .targets), starts-front c is (h .starts), seen-are, timers-are c is)
+          (ap firstFit (chart-pairs c))
+
+      pub numbered : {cells : List ℕ} (beyond : List ℕ) {r : Numbered}
+          → cells
+          ≡ cellsOf (numbering (firstFit (pairsOf (part m s) (part m t) (part m w) (seen m live rest) (m .timers)))) (length (seen m live rest))
+          → r .used ≡ usedBy (firstFit (pairsOf (part m s) (part m t) (part m w) (seen m live rest) (m .timers)))
+          → ChartNumbered c (live ++ rest) (cells ++ beyond) r
+      unfolding used
+      numbered beyond f g = record {
+        live-are = begins-front rest live-are;
+        cells-are = begins-front beyond (rw (placed-are, seen-length ∙ locations-are c is) at f);
+        used-is = g ∙ ap usedBy placed-are;
+      }

@@ -1,26 +1,91 @@
-// The live sets and the board numbers of a chart, from its lists.
+// The live sets and the board numbers of a chart, from its lists, and the judgement of a board's limit.
 ghost use mathlib.Core.Path.{_≡_};
-ghost use Prim.Native.Nat.{_*_};
+ghost use Prim.Native.Nat.{_*_, _≤_};
 ghost use lib.ListN.{length};
 ghost use Rattle.model.specs.Chart.{Chart};
-ghost use Rattle.numbering.specs.Numbered.{ListsFor, OfChart, NumberedChart};
+ghost use Rattle.model.specs.Live.{testedSets};
+ghost use Rattle.model.specs.FirstFit.{fullest as FirstFit·fullest};
+ghost use Rattle.chart_lists.specs.Header.{headerOf};
+ghost use Rattle.chart_lists.specs.Begins.{Begins};
+ghost use Rattle.chart_lists.specs.Holds.{Holds};
+ghost use Rattle.chart_lists.specs.Partly.{edgesOf};
+ghost use Rattle.numbering.specs.ChartNumbered.{ChartNumbered};
+ghost use Rattle.numbering.specs.Limits.{LimitJudged};
+use chart_lists::Header;
+use refusal::Refusal;
+use timer_set::TimerSet;
 
-// The live set of each location, the board number of each pair (q, j) at 64 q + j, and how many numbers are used.
+// How many board numbers a chart uses.
+pub struct Numbered {
+    pub used: u32,
+}
+
+// Whether a board's timers are enough for a chart, or the refusal.
+pub enum Limit {
+    Enough,
+    Refused(Refusal),
+}
+
+// The live set of each location over the front of `live`, the board number of each pair (q, j) at 64 q + j over the front of `cells`, and how
+// many numbers are used.
 pub fn number_chart<'a>(
+    header: Header,
     sources: &'a [u16],
     targets: &'a [u16],
     starts: &'a [u64],
     tested: &'a [u64],
-    timers: u8,
     live: &mut [u64],
-    numbers: &mut [u16],
-) -> u32
-    requires { ⌜ OfChart (now sources) (now targets) (now starts) (now tested) timers (length (now live)) × (length (now numbers) ≡ 64 * length (now live)) ⌝ }
-    ensures { λ r. ⌜ ((c : Chart) → ListsFor c (now (sources .entry)) (now (targets .entry)) (now (starts .entry)) (now (tested .entry)) timers (length (now (live .entry)))
-        → NumberedChart c (now (live .exit)) (now (numbers .exit)) r) ⌝ }
+    cells: &mut [u16],
+) -> Numbered
+    requires { ⌜ ((c : Chart) × (header ≡ headerOf c) × Holds c (edgesOf c (now sources) (now targets) (now starts))
+        × Begins (testedSets c) (now tested)) × (header .locations ≤ length (now live)) × (64 * header .locations ≤ length (now cells)) ⌝ }
+    ensures { λ r. ⌜ ((c : Chart) → header ≡ headerOf c → Holds c (edgesOf c (now (sources .entry)) (now (targets .entry)) (now (starts .entry)))
+        → Begins (testedSets c) (now (tested .entry)) → ChartNumbered c (now (live .exit)) (now (cells .exit)) r) ⌝ }
 {
-    let own = [0u64; 256];
-    let n = live.len();
-    flow::settle(sources, targets, starts, tested, &own[..n], live);
-    allocation::allocate(sources, targets, starts, live, timers, numbers)
+    let m = header.locations as usize;
+    let n = header.transitions as usize;
+    let from = &sources[..n];
+    let to = &targets[..n];
+    let started = &starts[..n];
+    let own = [0u64; chart_lists::MOST_LOCATIONS];
+    flow::settle(from, to, started, &tested[..n], &own[..m], &mut live[..m]);
+    let used = allocation::allocate(
+        from,
+        to,
+        started,
+        &live[..m],
+        header.timers,
+        &mut cells[..64 * m],
+    );
+    Numbered { used }
+}
+
+// The count of ones in the fullest of the sets.
+pub fn fullest(sets: &[u64]) -> u32
+    ensures { λ r. ⌜ r ≡ FirstFit·fullest (now (sets .entry)) ⌝ }
+{
+    let n = sets.len();
+    let mut most: u32 = 0;
+    let mut q: usize = 0;
+    while q < n {
+        let count = TimerSet { bits: sets[q] }.count();
+        q += 1;
+        if most < count {
+            most = count;
+        }
+    }
+    most
+}
+
+// 11 for a board of more than 64 timers, then 20 where a chart uses more numbers than the board has timers.
+pub fn judge_limit(k: u32, used: u32) -> Limit
+    ensures { λ r. ⌜ LimitJudged k used r ⌝ }
+{
+    if k > 64 {
+        return Limit::Refused(refusal::LIMIT_TOO_LARGE);
+    }
+    if used > k {
+        return Limit::Refused(refusal::BOARD_TOO_SMALL);
+    }
+    Limit::Enough
 }

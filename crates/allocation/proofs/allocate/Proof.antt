@@ -8,20 +8,32 @@ use lib.ListN.{length, take}
 use lib.Seq.{length-take-le}
 use Rattle.model.specs.Family.{Pairs}
 use Rattle.model.specs.FirstFit.{Placed, usedBy}
+use Rattle.model.specs.Rewrite.{numbering}
 use Rattle.families.specs.Pairs.{pairsOf}
 use Rattle.families.proofs.CodePairs.{formed}
-use Rattle.allocation.specs.Cells.{cells}
-use Rattle.allocation.specs.Numbering.{Described}
+use Rattle.allocation.specs.Cells.{cellsOf}
+use Rattle.allocation.specs.Turns.{Described}
+use Rattle.chart_lists.specs.Limits.{mostTransitions}
 use Rattle.allocation.proofs.AllFamilies.{all-placed}
 use Rattle.allocation.proofs.Cleared.{front-length, fresh}
 use Rattle.allocation.proofs.allocate.Statement.{statement}
 use Rattle.allocation.proofs.allocate.Tie as tie
 
+-- the call that a place is of, and the links that were found
 abbrev start : tie.After-find-links → tie.Start
 start c = c .before .before .before .before .before .before .before .before .before
 
+abbrev links : tie.After-clear → tie.After-find-links
+links c = c .before .before .before .before .before
+
+abbrev shared : tie.After-linked3 → tie.After-clear
+shared c = c .before .before .before .before .before
+
+abbrev lent : tie.After-held → tie.After-clear
+lent c = shared (c .before .before .before .before)
+
 -- how many links have timers
-count-few : (c : tie.After-find-links) → c .find-links .result ≤ 512
+count-few : (c : tie.After-find-links) → c .find-links .result ≤ mostTransitions
 count-few c = omega (arith, c .find-links .ensures .0, start c .pre .0 .few-transitions)
 
 abbrev pairs : tie.After-find-links → Pairs
@@ -52,44 +64,50 @@ array-share-prefix-ones : tie.Need-array-share-prefix-ones
 array-share-prefix-ones c = search needs
 
 slice-aggregate-number-locations : tie.Need-slice-aggregate-number-locations
-slice-aggregate-number-locations c = let x = c .before .before .before .before .before .before .before .before in let f = x .find-links in
+slice-aggregate-number-locations c =
+    let x = links (c .before .before .before) in
+    let f = x .find-links in
     sym (length-take-le (f .result) (f .last .1 .1 .1 .1 .1 .0) (omega (arith, count-few x, f .kept .1 .1 .1 .1 .1 .0)))
 
 array-share-prefix-others : tie.Need-array-share-prefix-others
 array-share-prefix-others c = search needs
 
 slice-aggregate-number-locations-2 : tie.Need-slice-aggregate-number-locations-2
-slice-aggregate-number-locations-2 c = let x = c .before .before .before .before .before .before .before .before .before in let f = x .find-links in
+slice-aggregate-number-locations-2 c =
+    let x = links (c .before .before .before .before) in
+    let f = x .find-links in
     sym (length-take-le (f .result) (f .last .1 .1 .1 .1 .1 .1 .0) (omega (arith, count-few x, f .kept .1 .1 .1 .1 .1 .1 .0)))
 
 array-share-prefix-linked : tie.Need-array-share-prefix-linked
 array-share-prefix-linked c = search needs
 
 slice-aggregate-number-locations-3 : tie.Need-slice-aggregate-number-locations-3
-slice-aggregate-number-locations-3 c = let x = c .before .before .before .before .before .before .before .before .before .before in let f = x .find-links in
+slice-aggregate-number-locations-3 c =
+    let x = links (shared c) in
+    let f = x .find-links in
     sym (length-take-le (f .result) (f .last .1 .1 .1 .1 .1 .1 .1 .0) (omega (arith, count-few x, f .kept .1 .1 .1 .1 .1 .1 .1 .0)))
 
 array-borrow-prefix-sets : tie.Need-array-borrow-prefix-sets
 array-borrow-prefix-sets c = search needs
 
 slice-aggregate-number-locations-4 : tie.Need-slice-aggregate-number-locations-4
-slice-aggregate-number-locations-4 c = let s = c .before .before .before .before .before .before .before .before .before .before .before .before .before .before .before .before .before .before .before .before in sym (front-length _ (s .pre .0 .few-locations))
+slice-aggregate-number-locations-4 c = sym (front-length _ (start (links (shared (c .before))) .pre .0 .few-locations))
 
 array-borrow-prefix-placed : tie.Need-array-borrow-prefix-placed
 array-borrow-prefix-placed c = search needs
 
 slice-aggregate-number-locations-5 : tie.Need-slice-aggregate-number-locations-5
-slice-aggregate-number-locations-5 c = let s = c .before .before .before .before .before .before .before .before .before .before .before .before .before .before .before .before .before .before .before .before .before in sym (front-length _ (s .pre .0 .few-locations))
+slice-aggregate-number-locations-5 c = sym (front-length _ (start (links (shared (c .before .before))) .pre .0 .few-locations))
 
 slice-aggregate-number-locations-6 : tie.Need-slice-aggregate-number-locations-6
 slice-aggregate-number-locations-6 c = search needs
 
 number-locations-requires : tie.Need-number-locations-requires
 number-locations-requires c κs =
-    let x = c .before .before .before .before .before .before .before .before .before .before .before .before .before .before in
-    let s = start x in
-    let k = c .before .before .before .before .before .before .before .before .before .clear in (
-      record { pairs = pairs x; are = described x },
+    let k = lent c .clear in
+    let x = links (lent c) in
+    let s = start x in (
+      (pairs x, described x),
       x .find-links .ensures .1 .1,
       fresh (s .args .live .now) (k .last .0) (s .pre .0 .few-locations) (k .kept .0 ∙ s .pre .1) (λ y h. k .ensures y (omega (arith, s .pre .1))),
     )
@@ -100,10 +118,11 @@ same-length c = search needs
 returns : tie.Need-returns
 unfolding pairsOf
 returns c =
-    let x = c .before .before .before .before .before .before .before .before .before .before .before .before .before .before .before .before .before .before .before .before in
-    let n = c .before .before .before .before .before .number-locations .ensures (pairs x) (described x) in
+    let r = c .before .before .before .before .before in
+    let x = links (lent (r .before)) in
+    let n = r .number-locations .ensures (pairs x) (described x) in
     let e = all-placed (formed (start x .pre .0)) in (
-      n .cells-are ∙ ap (λ (ps : List Placed). cells ps (length (start x .args .live .now))) e,
+      n .cells-are ∙ ap (λ (ps : List Placed). cellsOf (numbering ps) (length (start x .args .live .now))) e,
       n .used-is ∙ ap usedBy e,
     )
 

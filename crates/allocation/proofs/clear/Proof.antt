@@ -5,24 +5,25 @@ use Prim.Native.Nat.{ℕ, _-_, _≤_, _<_}
 use native.Mathlib.Omega.{arith}
 use lib.ListN.{length, getD, length-set}
 use Rattle.lists.proofs.Nth.{filled-more}
+use Rattle.allocation.specs.Cells.{noNumber}
 use Rattle.allocation.proofs.clear.Statement.{statement}
 use Rattle.allocation.proofs.clear.Tie as tie
 
 abbrev Inv-loop : tie.InvT-loop
-Inv-loop numbers₀ x₀ numbers x =
-    (x ≤ length numbers) × (length numbers ≡ length numbers₀) × ((k : ℕ) → k < x → getD numbers k 0 ≡ 65535)
+Inv-loop cells₀ x₀ cells x =
+    (x ≤ length cells) × (length cells ≡ length cells₀) × ((k : ℕ) → k < x → getD cells k 0 ≡ noNumber)
 
 abbrev μ-loop : tie.MeasureT-loop
-μ-loop numbers₀ x₀ numbers x = length numbers₀ - x
+μ-loop cells₀ x₀ cells x = length cells₀ - x
 
 loop-holds : tie.Need-loop-holds Inv-loop μ-loop
 loop-holds c = (omega arith, refl, λ k h. absurd (omega arith))
 
-mul-numbers : tie.Need-mul-numbers Inv-loop μ-loop
-mul-numbers c = search needs
+mul-cells : tie.Need-mul-cells Inv-loop μ-loop
+mul-cells c = search needs
 
-slice-write-numbers : tie.Need-slice-write-numbers Inv-loop μ-loop
-slice-write-numbers c = search needs
+slice-write-cells : tie.Need-slice-write-cells Inv-loop μ-loop
+slice-write-cells c = search needs
 
 add-x : tie.Need-add-x Inv-loop μ-loop
 add-x c = search needs
@@ -35,7 +36,7 @@ loop-again c =
     let l = c .before .loop in (
       simp length-set (omega arith),
       simp length-set (l .inv .1),
-      filled-more (λ k. 65535) (l .numbers) (l .x) (c .loop-test .taken) (l .inv .2),
+      filled-more (λ k. noNumber) (l .cells) (l .x) (c .loop-test .taken) (l .inv .2),
     )
 
 same-length : tie.Need-same-length Inv-loop μ-loop
@@ -51,8 +52,8 @@ clear-spec =
     Inv-loop
     μ-loop
     loop-holds
-    mul-numbers
-    slice-write-numbers
+    mul-cells
+    slice-write-cells
     add-x
     loop-less
     loop-again

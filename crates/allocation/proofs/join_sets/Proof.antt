@@ -52,7 +52,8 @@ loop-again : tie.Need-loop-again Inv-loop μ-loop
 loop-again c =
     let l = c .before .before .before .before .loop in let a = c .before .before .before .before .before .before .before .args in
     let new : ℕ → ℕ = λ q. joined (getD (a .all .now) q 0) (getD (a .sets .now) q 0) in
-    let e : c .join .result .bits ≡ new (l .s) = c .join .ensures ∙ ap (λ (w : ℕ). joined w (getD (a .sets .now) (l .s) 0)) (l .inv .4 (l .s) (omega arith)) in (
+    let e : c .join .result .bits ≡ new (l .s) =
+    c .join .ensures ∙ ap (λ (w : ℕ). joined w (getD (a .sets .now) (l .s) 0)) (l .inv .4 (l .s) (omega arith)) in (
       omega arith,
       simp length-set (l .inv .1),
       l .inv .2,

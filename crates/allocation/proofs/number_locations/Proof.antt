@@ -2,30 +2,31 @@
 use borrow.Author.Needs.{needs}
 use mathlib.Core.Path.{_≡_, sym, _∙_, subst}
 use mathlib.Core.List.{List}
-use Prim.Native.Nat.{ℕ, _*_, _-_, _≤_}
+use Prim.Native.Nat.{ℕ, _*_, _-_, _≤_, _<_}
 use native.Mathlib.Omega.{arith}
 use lib.ListN.{length}
 use Rattle.lists.proofs.Bools.{same-number, not-false}
 use Rattle.model.specs.Family.{Pairs}
 use Rattle.families.specs.Propagation.{Ends, Propagated}
-use Rattle.allocation.specs.Numbering.{WordsAgree, NumberedTo, Described, SomePairs, PlacedTo}
+use Rattle.allocation.specs.Rows.{Lengths, WordsAgree, heldLength}
+use Rattle.allocation.specs.Turns.{NumberedTo, Described, PlacedTo}
 use Rattle.allocation.proofs.Placing.{numbered-none}
 use Rattle.allocation.proofs.Words.{words-none}
-use Rattle.allocation.proofs.Locations.{placed-none, numbered-skip, placed-skip, begun-here, begun-ready, placed-more}
+use Rattle.allocation.proofs.Locations.{placed-none, numbered-skip, placed-skip, roots-here, roots-ready, placed-more}
 use Rattle.allocation.proofs.number_locations.Statement.{statement}
 use Rattle.allocation.proofs.number_locations.Tie as tie
 
 abbrev Inv-loop : tie.InvT-loop
-Inv-loop ones others linked live sets₀ placed₀ numbers₀ held₀ n used₀ q₀ sets placed numbers held used q =
-    (q ≤ length live) × SomePairs live ones others linked × Ends (length live) ones others linked
-    × ((length sets ≡ length live) × (length placed ≡ length live) × (length numbers ≡ 64 * length live) × (length held ≡ 2048))
-    × WordsAgree numbers held (length live)
-    × ((p : Pairs) → Described p live ones others linked → NumberedTo p (64 * q) numbers used × PlacedTo p q placed)
+Inv-loop ones others linked live sets₀ placed₀ cells₀ held₀ n used₀ q₀ sets placed cells held used q =
+    (q ≤ length live) × ((p : Pairs) × Described p live ones others linked) × Ends (length live) ones others linked
+    × ((length sets ≡ length live) × (length placed ≡ length live) × (length cells ≡ 64 * length live) × (length held ≡ heldLength))
+    × WordsAgree cells held (length live)
+    × ((p : Pairs) → Described p live ones others linked → NumberedTo p (64 * q) cells used × PlacedTo p q placed)
 
 abbrev μ-loop : tie.MeasureT-loop
-μ-loop ones others linked live sets₀ placed₀ numbers₀ held₀ n used₀ q₀ sets placed numbers held used q = length live - q
+μ-loop ones others linked live sets₀ placed₀ cells₀ held₀ n used₀ q₀ sets placed cells held used q = length live - q
 
--- the sets that have propagated, from what begins at the location at hand
+-- the sets that have propagated, from what begins at the location at hand: the turn, and the call, that they are of
 abbrev turn : tie.After-propagate Inv-loop μ-loop → tie.At-loop Inv-loop μ-loop
 turn c = c .before .before .before .before .before .before .before .before
 
@@ -35,18 +36,25 @@ start c = c .before .before .before .before .before .before .before .before .bef
 abbrev found : tie.After-propagate Inv-loop μ-loop → List ℕ
 found c = c .propagate .last .1 .1 .1 .1 .1 .0
 
-abbrev begun : tie.After-propagate Inv-loop μ-loop → ℕ
-begun c = c .before .before .before .before .minus .result .bits
+abbrev roots : tie.After-propagate Inv-loop μ-loop → ℕ
+roots c = c .before .before .before .before .minus .result .bits
 
 found-long : (c : tie.After-propagate Inv-loop μ-loop) → length (found c) ≡ length (start (turn c) .args .live .now)
 found-long c = c .propagate .kept .1 .1 .1 .1 .1 .0 ∙ turn c .loop .inv .3 .0
+
+inside : (c : tie.After-propagate Inv-loop μ-loop) → turn c .loop .q < length (start (turn c) .args .live .now)
+inside c = c .before .before .before .before .before .before .before .loop-test .taken
 
 -- what is known of it for the pairs p
 abbrev Of : tie.After-propagate Inv-loop μ-loop → Pairs → Type 0
 Of c p = let a = start (turn c) .args in Described p (a .live .now) (a .ones .now) (a .others .now) (a .linked .now)
 
-propagated-of : (c : tie.After-propagate Inv-loop μ-loop) (p : Pairs) → Of c p → Propagated p (turn c .loop .q) (begun c) (found c)
+propagated-of : (c : tie.After-propagate Inv-loop μ-loop) (p : Pairs) → Of c p → Propagated p (turn c .loop .q) (roots c) (found c)
 propagated-of c p d = c .propagate .ensures p (d .formed) (d .locations-are ∙ sym (turn c .loop .inv .3 .0)) (d .links-are)
+
+-- the families of the turn are placed
+abbrev propagated : tie.After-place-roots Inv-loop μ-loop → tie.After-propagate Inv-loop μ-loop
+propagated c = c .before .before .before .before .before .before .before .before
 
 loop-holds : tie.Need-loop-holds Inv-loop μ-loop
 loop-holds c =
@@ -55,9 +63,11 @@ loop-holds c =
       omega arith,
       s .pre .0,
       s .pre .1,
-      (f .sets-long, f .placed-long, f .numbers-long, f .held-long),
+      (f .sets-long, f .placed-long, f .cells-long, f .held-long),
       words-none _ _ _ (f .none-held) (f .none-numbered),
-      λ p d. (numbered-none p _ (omega (arith, f .numbers-long, d .locations-are)) (λ x h. f .none-numbered x (omega (arith, d .locations-are))), placed-none (f .none-placed)),
+      λ p d.
+          let clear = numbered-none p (s .args .cells .now) (omega (arith, f .cells-long, d .locations-are)) in
+          (clear (λ x h. f .none-numbered x (omega (arith, d .locations-are))), placed-none (f .none-placed)),
     )
 
 mul-t18 : tie.Need-mul-t18 Inv-loop μ-loop
@@ -82,22 +92,30 @@ is-empty-requires : tie.Need-is-empty-requires Inv-loop μ-loop
 is-empty-requires c κs = search needs
 
 propagate-requires : tie.Need-propagate-requires Inv-loop μ-loop
-propagate-requires c κs = let l = c .before .before .before .before .before .before .before .loop in let a = c .before .before .before .before .before .before .before .before .before .before .before .before .before .before .before .before .args in
+propagate-requires c κs =
+    let at = c .before .before .before .before .before .before .before in
+    let l = at .loop in
+    let a = start at .args in
     (subst (λ (n : ℕ). Ends n (a .ones .now) (a .others .now) (a .linked .now)) (sym (l .inv .3 .0)) (l .inv .2), omega (arith, l .inv .3 .0))
 
 end-of-requires : tie.Need-end-of-requires Inv-loop μ-loop
 end-of-requires c κs = search needs
 
-place-begun-requires : tie.Need-place-begun-requires Inv-loop μ-loop
-place-begun-requires c κs =
+place-roots-requires : tie.Need-place-roots-requires Inv-loop μ-loop
+place-roots-requires c κs =
     let x = c .before .before .before .before .before .before .before in
     let l = turn x .loop in
     let some = l .inv .1 in
-    let n = l .inv .5 (some .pairs) (some .are) in
-    begun-ready (some .are) (l .q) (omega arith) (n .1) (begun x) (x .before .before .before .before .minus .ensures) (found x) (found-long x) (propagated-of x (some .pairs) (some .are))
-    (l .numbers) (l .held) (l .used) (c .before .before .before .end-of .result) (n .0)
-    (record { few-locations = omega (arith, found-long x, l .inv .2 .few-locations); numbers-long = omega (arith, found-long x, l .inv .3 .2); held-long = l .inv .3 .3 })
-    (subst (WordsAgree (l .numbers) (l .held)) (sym (found-long x)) (l .inv .4)) (c .before .before .before .end-of .ensures)
+    let n = l .inv .5 (some .0) (some .1) in
+    let m = x .before .before .before .before .minus .ensures in
+    let lengths : Lengths (found x) (l .cells) (l .held) = record {
+      few-locations = omega (arith, found-long x, l .inv .2 .few-locations);
+      cells-long = omega (arith, found-long x, l .inv .3 .2);
+      held-long = l .inv .3 .3;
+    } in
+    roots-ready (some .1) (l .q) (omega arith) (n .1) (roots x) m (found x) (found-long x) (propagated-of x (some .0) (some .1))
+    (l .cells) (l .held) (l .used) (c .before .before .before .end-of .result) (n .0) lengths
+    (subst (WordsAgree (l .cells) (l .held)) (sym (found-long x)) (l .inv .4)) (c .before .before .before .end-of .ensures)
 
 join-sets-requires : tie.Need-join-sets-requires Inv-loop μ-loop
 join-sets-requires c κs = search needs
@@ -107,10 +125,12 @@ loop-less c = search needs
 
 loop-again : tie.Need-loop-again Inv-loop μ-loop
 loop-again c =
-    let x = c .before .before .before .before .before .before .before .before .before .before .before .before .before .before .before .before .before in
+    let y = c .before .before .before .before .before .before .before .before .before in
+    let x = propagated y in
     let l = turn x .loop in
-    let f = c .before .before .before .before .before .before .before .before .before .place-begun in
+    let f = y .place-roots in
     let j = c .before .before .join-sets in
+    let h = inside x in
     let wide = j .kept .1 .0 ∙ l .inv .3 .1 in (
       omega arith,
       l .inv .1,
@@ -121,8 +141,8 @@ loop-again c =
           let s = propagated-of x p d in
           let m = x .before .before .before .before .minus .ensures in (
             subst (λ (y : ℕ). NumberedTo p y (f .last .1 .1 .1 .1 .0) (f .result)) (omega arith)
-                (f .ensures .1 p (l .q) (begun-here d (l .q) (omega arith) (n .1) (begun x) m (found x) (found-long x) s) (n .0)),
-            placed-more d (l .q) (omega arith) (n .1) (begun x) m (found x) (found-long x) s (j .last .1 .0) wide (j .ensures),
+                (f .ensures .1 p (l .q) (roots-here d (l .q) h (n .1) (roots x) m (found x) (found-long x) s) (n .0)),
+            placed-more d (l .q) h (n .1) (roots x) m (found x) (found-long x) s (j .last .1 .0) wide (j .ensures),
           ),
     )
 
@@ -132,15 +152,16 @@ loop-less-2 c = search needs
 loop-again-2 : tie.Need-loop-again-2 Inv-loop μ-loop
 loop-again-2 c =
     let l = c .before .before .before .before .before .before .loop in
-    let e : c .before .before .minus .result .bits ≡ 0 = same-number (sym (c .before .is-empty .ensures) ∙ not-false _ (c .if1 .left)) in (
+    let m = c .before .before .minus in
+    let e : m .result .bits ≡ 0 = same-number (sym (c .before .is-empty .ensures) ∙ not-false _ (c .if1 .left)) in (
       omega arith,
       l .inv .1,
       l .inv .2,
       l .inv .3,
       l .inv .4,
       λ p d. let n = l .inv .5 p d in (
-        numbered-skip d (l .q) (omega arith) (n .1) (c .before .before .minus .result .bits) (c .before .before .minus .ensures) e (l .numbers) (l .used) (n .0),
-        placed-skip d (l .q) (omega arith) (n .1) (c .before .before .minus .result .bits) (c .before .before .minus .ensures) e,
+        numbered-skip d (l .q) (omega arith) (n .1) (m .result .bits) (m .ensures) e (l .cells) (l .used) (n .0),
+        placed-skip d (l .q) (omega arith) (n .1) (m .result .bits) (m .ensures) e,
       ),
     )
 
@@ -157,8 +178,10 @@ same-length-4 : tie.Need-same-length-4 Inv-loop μ-loop
 same-length-4 c = search needs
 
 returns : tie.Need-returns Inv-loop μ-loop
-returns c = let l = c .before .loop in let a = c .before .before .before .before .before .before .before .before .before .before .args in let e : l .q ≡ length (a .live .now) = omega arith in
-    λ p d. subst (λ (x : ℕ). NumberedTo p (64 * x) (l .numbers) (l .used)) e (l .inv .5 p d .0)
+returns c =
+    let l = c .before .loop in
+    let e : l .q ≡ length (start (c .before) .args .live .now) = omega arith in
+    λ p d. subst (λ (x : ℕ). NumberedTo p (64 * x) (l .cells) (l .used)) e (l .inv .5 p d .0)
 
 pub number-locations-spec : {M : Type 1} → statement M
 number-locations-spec =
@@ -176,7 +199,7 @@ number-locations-spec =
     is-empty-requires
     propagate-requires
     end-of-requires
-    place-begun-requires
+    place-roots-requires
     join-sets-requires
     loop-less
     loop-again

@@ -1,26 +1,92 @@
--- `number_chart` meets its contract: the rounds leave the live sets, and first fit over them the numbers. Assumes nothing.
+-- `number_chart` meets its contract: the rounds leave the live sets, and first fit over them the numbers. What is hard is only that both are lent
+-- the fronts of longer lists. Assumes nothing.
 use mathlib.Core.Path.{sym, ap, _∙_}
 use Prim.Native.Nat.{ℕ, _*_}
-use Rattle.numbering.proofs.Settling.{own-length, settle-matching, length-live, allocatable, numbered}
 use borrow.Author.Needs.{needs}
+use lib.Seq.{length-take-le}
+use Rattle.chart_lists.proofs.Holds.{sources-each, targets-each, starts-each}
+use Rattle.chart_lists.proofs.Fronts.{each-part}
+use Rattle.flow.proofs.ChartFlows.{tested-each}
+use Rattle.numbering.proofs.Settling.{few, own-length, settle-safe, seen-length, allocate-safe, numbered}
 use Rattle.numbering.proofs.number_chart.Statement.{statement}
 use Rattle.numbering.proofs.number_chart.Tie as tie
 
-array-share-prefix-own : tie.Need-array-share-prefix-own
-array-share-prefix-own c = search needs
+-- the call that a place is of
+abbrev known : tie.After-struct-known2 → tie.Start
+known c = c .before .before .before .before .before .before .before .before
+
+abbrev shared : tie.After-started → tie.Start
+shared c = known (c .before .before .before)
+
+abbrev settled : tie.After-settle → tie.Start
+settled c = shared (c .before .before .before .before)
+
+abbrev lent : tie.After-allocate-arg2 → tie.After-settle
+lent c = c .before .before .before .before
+
+cast-m : tie.Need-cast-m
+cast-m c = search needs
+
+cast-n : tie.Need-cast-n
+cast-n c = search needs
+
+slice-aggregate-from : tie.Need-slice-aggregate-from
+slice-aggregate-from c = let p = known (c .before) .pre .0 in sym (each-part (p .0) (p .1) (sources-each (p .0)) (p .2 .sources))
+
+slice-aggregate-to : tie.Need-slice-aggregate-to
+slice-aggregate-to c = let p = known (c .before .before) .pre .0 in sym (each-part (p .0) (p .1) (targets-each (p .0)) (p .2 .targets))
+
+slice-aggregate-started : tie.Need-slice-aggregate-started
+slice-aggregate-started c = let p = shared c .pre .0 in sym (each-part (p .0) (p .1) (starts-each (p .0)) (p .2 .starts))
 
 slice-aggregate-settle : tie.Need-slice-aggregate-settle
-slice-aggregate-settle c = sym (own-length (c .before .before .before .before .before .before .before .pre .0 .lists))
+slice-aggregate-settle c = let p = shared (c .before) .pre .0 in sym (each-part (p .0) (p .1) (tested-each (p .0)) (p .3))
+
+array-share-prefix-own : tie.Need-array-share-prefix-own
+array-share-prefix-own c = let p = shared (c .before) .pre .0 in few (p .0) (p .1) (p .2) (p .3)
+
+slice-aggregate-settle-2 : tie.Need-slice-aggregate-settle-2
+slice-aggregate-settle-2 c = let p = shared (c .before .before) .pre .0 in sym (own-length (p .0) (p .1) (p .2) (p .3))
+
+slice-relend-prefix-settle : tie.Need-slice-relend-prefix-settle
+slice-relend-prefix-settle c = search needs
+
+slice-aggregate-settle-3 : tie.Need-slice-aggregate-settle-3
+slice-aggregate-settle-3 c = sym (length-take-le _ _ (shared (c .before .before .before) .pre .1))
 
 settle-requires : tie.Need-settle-requires
-settle-requires c κs = let l = c .before .before .before .before .before .before .before .before .pre .0 .lists in (settle-matching l, sym (own-length l))
+settle-requires c κs =
+    let p = shared (c .before .before .before) .pre in
+    let x = p .0 in
+    (settle-safe (x .0) (x .1) (x .2) (x .3), length-take-le _ _ (p .1) ∙ sym (own-length (x .0) (x .1) (x .2) (x .3)))
+
+slice-reshare-prefix-allocate : tie.Need-slice-reshare-prefix-allocate
+slice-reshare-prefix-allocate c = search needs
+
+slice-aggregate-allocate : tie.Need-slice-aggregate-allocate
+slice-aggregate-allocate c =
+    let r = c .before .before .before in
+    let p = settled r .pre .0 in
+    sym (seen-length (p .0) (p .1) (p .2) (p .3) (r .settle .ensures .0) _)
+
+mul-allocate : tie.Need-mul-allocate
+mul-allocate c = search needs
+
+slice-relend-prefix-allocate : tie.Need-slice-relend-prefix-allocate
+slice-relend-prefix-allocate c = search needs
+
+slice-aggregate-allocate-2 : tie.Need-slice-aggregate-allocate-2
+slice-aggregate-allocate-2 c = sym (length-take-le _ _ (settled (lent c) .pre .2))
 
 allocate-requires : tie.Need-allocate-requires
 allocate-requires c κs =
-    let p = c .before .before .before .before .before .before .before .before .before .before .before .before .before .pre in
-    let l = p .0 .lists in
-    let e = c .before .before .before .before .settle .ensures .0 in
-    (allocatable l e, p .1 ∙ ap (λ (n : ℕ). 64 * n) (l .locations-are ∙ sym (length-live l e)))
+    let r = lent c in
+    let p = settled r .pre in
+    let x = p .0 in
+    let e = r .settle .ensures .0 in (
+      allocate-safe (x .0) (x .1) (x .2) (x .3) e _,
+      length-take-le _ _ (p .2) ∙ ap (λ (n : ℕ). 64 * n) (sym (seen-length (x .0) (x .1) (x .2) (x .3) e _)),
+    )
 
 same-length : tie.Need-same-length
 same-length c = search needs
@@ -29,15 +95,31 @@ same-length-2 : tie.Need-same-length-2
 same-length-2 c = search needs
 
 returns : tie.Need-returns
-returns c chart l = let x = c .before .before .allocate in numbered l (c .before .before .before .before .before .before .before .settle .ensures .0) (x .ensures .0) (x .ensures .1)
+returns c chart is holds tested =
+    let a = c .before .before in
+    let r = lent (a .before) in
+    numbered chart is holds tested (r .settle .ensures .0) _ _ (a .allocate .ensures .0) (a .allocate .ensures .1)
 
 pub number-chart-spec : {M : Type 1} → statement M
 number-chart-spec =
     tie.close
     (tie.spec
-    array-share-prefix-own
+    cast-m
+    cast-n
+    slice-aggregate-from
+    slice-aggregate-to
+    slice-aggregate-started
     slice-aggregate-settle
+    array-share-prefix-own
+    slice-aggregate-settle-2
+    slice-relend-prefix-settle
+    slice-aggregate-settle-3
     settle-requires
+    slice-reshare-prefix-allocate
+    slice-aggregate-allocate
+    mul-allocate
+    slice-relend-prefix-allocate
+    slice-aggregate-allocate-2
     allocate-requires
     same-length
     same-length-2

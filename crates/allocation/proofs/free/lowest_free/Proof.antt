@@ -5,22 +5,23 @@ use mathlib.Core.Bool.{Bool, true}
 use Prim.Native.Nat.{ℕ, _*_, _-_, _≤_, _<_}
 use native.Mathlib.Omega.{arith}
 use lib.ListN.{length}
-use Rattle.allocation.specs.Numbering.{Lengths, WordsAgree, Within, taken}
+use Rattle.allocation.specs.Rows.{Lengths, WordsAgree, Within, taken}
+use Rattle.allocation.specs.Cells.{mostWords}
 use Rattle.allocation.proofs.Rows.{word-found, word-full, all-full}
-use Rattle.allocation.proofs.lowest_free.Statement.{statement}
-use Rattle.allocation.proofs.lowest_free.Tie as tie
+use Rattle.allocation.proofs.free.lowest_free.Statement.{statement}
+use Rattle.allocation.proofs.free.lowest_free.Tie as tie
 
 abbrev Inv-loop : tie.InvT-loop
-Inv-loop sets numbers held from end j w₀ w =
-    (w ≤ 256) × (Lengths sets numbers held × WordsAgree numbers held (length sets) × Within sets j from end)
-    × ((k : ℕ) → k < 64 * w → taken sets numbers j k ≡ true)
+Inv-loop sets cells held from end j w₀ w =
+    (w ≤ mostWords) × (Lengths sets cells held × WordsAgree cells held (length sets) × Within sets j from end)
+    × ((k : ℕ) → k < 64 * w → taken sets cells j k ≡ true)
 
 abbrev μ-loop : tie.MeasureT-loop
-μ-loop sets numbers held from end j w₀ w = 256 - w
+μ-loop sets cells held from end j w₀ w = mostWords - w
 
 -- the numbers in the rows of the family
 abbrev rows : tie.At-loop Inv-loop μ-loop → ℕ → Bool
-rows l k = let a = l .before .before .before .before .args in taken (a .sets .now) (a .numbers .now) (a .j) k
+rows l k = let a = l .before .before .before .before .args in taken (a .sets .now) (a .cells .now) (a .j) k
 
 loop-holds : tie.Need-loop-holds Inv-loop μ-loop
 loop-holds c = (omega arith, c .before .before .before .pre, λ k h. absurd (omega arith))
@@ -47,7 +48,8 @@ returns c =
     let t = c .before .before .taken-word in
     let e = c .before .lowest-missing .ensures in
     rw e
-    (word-found (rows at) (t .result .bits) (l .w) (t .ensures) (l .inv .2) (omega (arith, e, c .if1 .taken)) (omega (arith, c .before .before .before .loop-test .taken)))
+    (word-found (rows at) (t .result .bits) (l .w) (t .ensures) (l .inv .2) (omega (arith, e, c .if1 .taken))
+    (omega (arith, c .before .before .before .loop-test .taken)))
 
 add-w : tie.Need-add-w Inv-loop μ-loop
 add-w c = search needs

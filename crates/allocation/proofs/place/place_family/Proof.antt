@@ -2,8 +2,15 @@
 use borrow.Author.Needs.{needs}
 use native.Mathlib.Omega.{arith}
 use Rattle.allocation.proofs.Words.{words-past, words-held}
-use Rattle.allocation.proofs.place_family.Statement.{statement}
-use Rattle.allocation.proofs.place_family.Tie as tie
+use Rattle.allocation.proofs.place.place_family.Statement.{statement}
+use Rattle.allocation.proofs.place.place_family.Tie as tie
+
+-- the call that a place is of, and the number that was found
+abbrev start : tie.After-lowest-free → tie.Start
+start c = c .before .before .before .before .before .before
+
+abbrev found : tie.After-give → tie.After-lowest-free
+found c = c .before .before
 
 lowest-free-requires : tie.Need-lowest-free-requires
 lowest-free-requires c κs = search needs
@@ -28,12 +35,15 @@ same-length-2 c = search needs
 
 returns : tie.Need-returns
 returns c =
-    let s = c .before .before .before .before .before .before .before .before .before .before .before .before .before .before .before in
-    let a = s .args in
-    let f = c .before .before .before .before .before .before .before .before .before .lowest-free in
-    let g = c .before .before .before .before .before .before .before .give in
     let h = c .before .before .hold in
-    (f .ensures, (g .ensures, words-held (a .sets .now) (a .j) (f .result) (s .pre .0) (a .numbers .now) (g .last .1 .1 .1 .1 .1 .0) (s .pre .4) (g .ensures) (a .held .now) (s .pre .2) (c .before .before .before .before .if1 .taken) (h .last .1 .1 .1 .1 .1 .1 .0) (h .ensures)))
+    let small = c .before .before .before .before .if1 .taken in
+    let y = c .before .before .before .before .before .before .before in
+    let s = start (found y) in
+    let a = s .args in
+    let f = found y .lowest-free in
+    let g = y .give in
+    let after = words-held (a .sets .now) (a .j) (f .result) (s .pre .0) (a .cells .now) (g .last .1 .1 .1 .1 .1 .0) (s .pre .4) (g .ensures) in
+    (f .ensures, (g .ensures, after (a .held .now) (s .pre .2) small (h .last .1 .1 .1 .1 .1 .1 .0) (h .ensures)))
 
 same-length-3 : tie.Need-same-length-3
 same-length-3 c = search needs
@@ -43,11 +53,13 @@ same-length-4 c = search needs
 
 returns-2 : tie.Need-returns-2
 returns-2 c =
-    let s = c .before .before .before .before .before .before .before .before .before .before .before in
+    let y = c .before .before .before in
+    let s = start (found y) in
     let a = s .args in
-    let f = c .before .before .before .before .before .lowest-free in
-    let g = c .before .before .before .give in
-    (f .ensures, (g .ensures, words-past (a .sets .now) (a .j) (f .result) (s .pre .0) (a .numbers .now) (g .last .1 .1 .1 .1 .1 .0) (s .pre .4) (g .ensures) (a .held .now) (s .pre .2) (omega (arith, c .if1 .left))))
+    let f = found y .lowest-free in
+    let g = y .give in
+    let after = words-past (a .sets .now) (a .j) (f .result) (s .pre .0) (a .cells .now) (g .last .1 .1 .1 .1 .1 .0) (s .pre .4) (g .ensures) in
+    (f .ensures, (g .ensures, after (a .held .now) (s .pre .2) (omega (arith, c .if1 .left))))
 
 pub place-family-spec : {M : Type 1} → statement M
 place-family-spec =

@@ -9,8 +9,8 @@ use lib.ListN.{length, getD, drop}
 use lib.Seq.{drop-cons, drop-length}
 use Rattle.model.specs.FirstFit.{fullest}
 use borrow.Author.Needs.{needs}
-use Rattle.analysis.proofs.fullest.Statement.{statement}
-use Rattle.analysis.proofs.fullest.Tie as tie
+use Rattle.numbering.proofs.fullest.Statement.{statement}
+use Rattle.numbering.proofs.fullest.Tie as tie
 
 -- one set more, and no set more
 next : (sets : List ℕ) (q : ℕ) → q < length sets → fullest (drop q sets) ≡ max (ones (getD sets q 0)) (fullest (drop (q + 1) sets))
@@ -46,9 +46,12 @@ loop-less : tie.Need-loop-less Inv-loop μ-loop
 loop-less c = search needs
 
 -- the set that was counted is the next one
-counted : (c : tie.After-count Inv-loop μ-loop) → let l = c .before .before .before .loop in let sets = c .before .before .before .before .before .args .sets .now in
-    fullest (drop (l .q) sets) ≡ max (c .count .result) (fullest (drop (l .q + 1) sets))
-counted c = rw (c .count .ensures) (next (c .before .before .before .before .before .args .sets .now) (c .before .before .before .loop .q) (omega arith))
+abbrev sets : tie.At-loop Inv-loop μ-loop → List ℕ
+sets l = l .before .before .args .sets .now
+
+counted : (c : tie.After-count Inv-loop μ-loop) → let l = c .before .before .before in
+    fullest (drop (l .loop .q) (sets l)) ≡ max (c .count .result) (fullest (drop (l .loop .q + 1) (sets l)))
+counted c = let l = c .before .before .before in rw (c .count .ensures) (next (sets l) (l .loop .q) (omega arith))
 
 loop-again : tie.Need-loop-again Inv-loop μ-loop
 loop-again c = let l = c .before .before .before .before .loop in (omega arith, refl, omega (arith, l .inv .2, counted (c .before)))
@@ -60,7 +63,7 @@ loop-again-2 : tie.Need-loop-again-2 Inv-loop μ-loop
 loop-again-2 c = let l = c .before .before .before .before .loop in (omega arith, refl, omega (arith, l .inv .2, counted (c .before)))
 
 returns : tie.Need-returns Inv-loop μ-loop
-returns c = let l = c .before .loop in omega (arith, l .inv .2, none (c .before .before .before .args .sets .now) {q = l .q} (omega arith))
+returns c = let l = c .before .loop in omega (arith, l .inv .2, none (sets (c .before)) {q = l .q} (omega arith))
 
 pub fullest-spec : {M : Type 1} → statement M
 fullest-spec =

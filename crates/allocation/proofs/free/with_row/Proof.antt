@@ -6,18 +6,19 @@ use Prim.Native.Nat.{ℕ, _+_, _*_, _-_, _≤_, _<_}
 use native.Mathlib.Omega.{arith}
 use lib.ListN.{length}
 use Rattle.timer_set.specs.Members.{member}
-use Rattle.allocation.specs.Numbering.{inRow}
+use Rattle.allocation.specs.Rows.{inRow}
+use Rattle.chart_lists.specs.Limits.{mostLocations}
 use Rattle.allocation.proofs.Rows.{row-none, row-yes, row-no}
-use Rattle.allocation.proofs.with_row.Statement.{statement}
-use Rattle.allocation.proofs.with_row.Tie as tie
+use Rattle.allocation.proofs.free.with_row.Statement.{statement}
+use Rattle.allocation.proofs.free.with_row.Tie as tie
 
 abbrev Inv-loop : tie.InvT-loop
-Inv-loop numbers s w found₀ i₀ found i =
-    (i ≤ 64) × (s < 256) × (64 * s + 64 ≤ length numbers)
-    × ((x : ℕ) → x < 64 → member (found .bits) x ≡ (member (found₀ .bits) x || inRow numbers s (64 * w + x) i))
+Inv-loop cells s w found₀ i₀ found i =
+    (i ≤ 64) × (s < mostLocations) × (64 * s + 64 ≤ length cells)
+    × ((x : ℕ) → x < 64 → member (found .bits) x ≡ (member (found₀ .bits) x || inRow cells s (64 * w + x) i))
 
 abbrev μ-loop : tie.MeasureT-loop
-μ-loop numbers s w found₀ i₀ found i = 64 - i
+μ-loop cells s w found₀ i₀ found i = 64 - i
 
 loop-holds : tie.Need-loop-holds Inv-loop μ-loop
 loop-holds c =
@@ -25,7 +26,7 @@ loop-holds c =
       omega arith,
       c .before .pre .0,
       c .before .pre .1,
-      λ x h. row-none (a .numbers .now) (a .s) (a .w) (member (a .set .bits) x) x,
+      λ x h. row-none (a .cells .now) (a .s) (a .w) (member (a .set .bits) x) x,
     )
 
 mul-number : tie.Need-mul-number Inv-loop μ-loop
@@ -60,7 +61,7 @@ loop-again c =
       l .inv .1,
       l .inv .2,
       λ x h. rw (c .with .ensures)
-          (row-yes (a .numbers .now) (a .s) (a .w) (l .found .bits) (a .set .bits) (l .i) x h (l .inv .3 x h) (c .before .if1 .taken)),
+          (row-yes (a .cells .now) (a .s) (a .w) (l .found .bits) (a .set .bits) (l .i) x h (l .inv .3 x h) (c .before .if1 .taken)),
     )
 
 loop-less-2 : tie.Need-loop-less-2 Inv-loop μ-loop
@@ -73,7 +74,7 @@ loop-again-2 c =
       omega arith,
       l .inv .1,
       l .inv .2,
-      λ x h. row-no (a .numbers .now) (a .s) (a .w) (l .found .bits) (a .set .bits) (l .i) x h (l .inv .3 x h) (c .if1 .left),
+      λ x h. row-no (a .cells .now) (a .s) (a .w) (l .found .bits) (a .set .bits) (l .i) x h (l .inv .3 x h) (c .if1 .left),
     )
 
 returns : tie.Need-returns Inv-loop μ-loop

@@ -3,8 +3,8 @@ use borrow.Author.Needs.{needs}
 use mathlib.Core.Path.{_∙_}
 use native.Mathlib.Omega.{arith}
 use Rattle.allocation.proofs.Words.{words-taken}
-use Rattle.allocation.proofs.taken_word.Statement.{statement}
-use Rattle.allocation.proofs.taken_word.Tie as tie
+use Rattle.allocation.proofs.free.taken_word.Statement.{statement}
+use Rattle.allocation.proofs.free.taken_word.Tie as tie
 
 held-word-requires : tie.Need-held-word-requires
 held-word-requires c κs = search needs
@@ -14,7 +14,7 @@ row-word-requires c κs = search needs
 
 returns : tie.Need-returns
 returns c = let s = c .before .before .before .before .before in let a = s .args in
-    λ x h. c .held-word .ensures x ∙ words-taken (a .sets .now) (a .numbers .now) (a .held .now) (s .pre .1) (a .j) (a .w) x (omega arith) h
+    λ x h. c .held-word .ensures x ∙ words-taken (a .sets .now) (a .cells .now) (a .held .now) (s .pre .1) (a .j) (a .w) x (omega arith) h
 
 returns-2 : tie.Need-returns-2
 returns-2 c = search needs

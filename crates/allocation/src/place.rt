@@ -1,0 +1,115 @@
+// Gives families their numbers: in the rows of cells of their locations, and in the words of held numbers.
+ghost use mathlib.Core.Path.{_≡_};
+ghost use mathlib.Core.Bool.{not};
+ghost use Prim.Native.Nat.{ℕ, _+_, _*_, _≤_, _<_, max};
+ghost use lib.ListN.{length, getD};
+ghost use Rattle.lists.specs.Lists.{lowest};
+ghost use Rattle.model.specs.Family.{Pairs};
+ghost use Rattle.chart_lists.specs.Limits.{mostLocations};
+ghost use Rattle.allocation.specs.Cells.{mostCells};
+ghost use Rattle.allocation.specs.Rows.{heldWords, heldLength};
+ghost use Rattle.allocation.specs.Rows.{Lengths, WordsAgree, Within, Unnumbered, Ready, taken, given, holding};
+ghost use Rattle.allocation.specs.Turns.{NumberedTo, Roots};
+use crate::free::lowest_free;
+use timer_set::TimerSet;
+
+fn larger(x: u32, y: u32) -> u32
+    ensures { λ r. ⌜ r ≡ max x y ⌝ }
+{
+    if x < y { y } else { x }
+}
+
+// Gives the number to each pair of the family.
+fn give(sets: &[u64], from: usize, end: usize, j: u8, number: u16, cells: &mut [u16])
+    requires { ⌜ (j < 64) × (length (now sets) ≤ mostLocations) × (length (now cells) ≡ 64 * length (now sets)) × Within (now sets) j from end ⌝ }
+    ensures { λ _. ⌜ ((s i : ℕ) → s < length (now (sets .entry)) → i < 64
+        → getD (now (cells .exit)) (64 * s + i) 0 ≡ given (now (sets .entry)) j number (now (cells .entry)) s i) ⌝ }
+{
+    let mut s = from;
+    while s < end {
+        let here = s;
+        let family = TimerSet { bits: sets[s] };
+        s += 1;
+        if family.has(j) {
+            cells[64 * here + j as usize] = number;
+        }
+    }
+}
+
+// Adds x to word w of the numbers held at each location of the family.
+fn hold(sets: &[u64], from: usize, end: usize, j: u8, w: usize, x: u8, held: &mut [u64])
+    requires { ⌜ (w < heldWords) × (x < 64) × (length (now sets) ≤ mostLocations) × (length (now held) ≡ heldLength)
+        × Within (now sets) j from end ⌝ }
+    ensures { λ _. ⌜ ((s v : ℕ) → s < length (now (sets .entry)) → v < heldWords
+        → getD (now (held .exit)) (mostLocations * v + s) 0 ≡ holding (now (sets .entry)) j w x (now (held .entry)) s v) ⌝ }
+{
+    let mut s = from;
+    while s < end {
+        let family = TimerSet { bits: sets[s] };
+        let at = chart_lists::MOST_LOCATIONS * w + s;
+        s += 1;
+        if family.has(j) {
+            held[at] = TimerSet { bits: held[at] }.with(x).bits;
+        }
+    }
+}
+
+// Gives the family of timer j the smallest number that its locations do not hold.
+fn place_family(
+    sets: &[u64],
+    from: usize,
+    end: usize,
+    j: u8,
+    cells: &mut [u16],
+    held: &mut [u64],
+) -> u16
+    requires { ⌜ (j < 64) × Lengths (now sets) (now cells) (now held) × WordsAgree (now cells) (now held) (length (now sets))
+        × Within (now sets) j from end × Unnumbered (now sets) j (now cells) ⌝ }
+    ensures number { λ r. ⌜ r ≡ lowest (λ k. not (taken (now (sets .entry)) (now (cells .entry)) j k)) mostCells ⌝ }
+    ensures cells { λ r. ⌜ ((s i : ℕ) → s < length (now (sets .entry)) → i < 64
+        → getD (now (cells .exit)) (64 * s + i) 0 ≡ given (now (sets .entry)) j r (now (cells .entry)) s i) ⌝ }
+    ensures held { λ _. ⌜ WordsAgree (now (cells .exit)) (now (held .exit)) (length (now (sets .entry))) ⌝ }
+{
+    let number = lowest_free(sets, cells, held, from, end, j);
+    give(sets, from, end, j, number, cells);
+    if number < crate::HELD_NUMBERS {
+        hold(
+            sets,
+            from,
+            end,
+            j,
+            (number / 64) as usize,
+            (number % 64) as u8,
+            held,
+        );
+    }
+    number
+}
+
+// Places the families of the set's timers, rising. How many numbers are used by then.
+pub fn place_roots(
+    sets: &[u64],
+    roots: TimerSet,
+    from: usize,
+    end: usize,
+    cells: &mut [u16],
+    held: &mut [u64],
+    used: u32,
+) -> u32
+    requires { ⌜ Ready (now sets) (roots .bits) from end (now cells) (now held) ⌝ }
+    ensures held { λ _. ⌜ WordsAgree (now (cells .exit)) (now (held .exit)) (length (now (sets .entry))) ⌝ }
+    ensures numbered { λ r. ⌜ ((p : Pairs) (q : ℕ) → Roots p q (roots .bits) (now (sets .entry))
+        → NumberedTo p (64 * q) (now (cells .entry)) used → NumberedTo p (64 * q + 64) (now (cells .exit)) r) ⌝ }
+{
+    let mut most = used;
+    let mut j: u8 = 0;
+    while j < 64 {
+        let here = j;
+        j += 1;
+        if roots.has(here) {
+            let number = place_family(sets, from, end, here, cells, held);
+            most = larger(most, number as u32 + 1);
+        }
+    }
+    most
+}
