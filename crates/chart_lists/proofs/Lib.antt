@@ -5,3 +5,6 @@ pub mod Begins
 pub mod Holds
 pub mod Locations
 pub mod Fronts
+pub mod Fields
+pub mod PutLoop
+pub mod Overwritten

@@ -1,5 +1,5 @@
 -- What a call that is lent a stretch of a list does to the whole. Assumes nothing.
-use mathlib.Core.Path.{_≡_, ap, _∙_}
+use mathlib.Core.Path.{_≡_}
 use mathlib.Core.List.{List, [], _++_, append-assoc, append-nil}
 use Prim.Native.Nat.{ℕ, _+_, _-_, _≤_}
 use native.Mathlib.Nat.{le-of-eq}
@@ -26,21 +26,6 @@ put-after xs ys l = rw (take-append-seam, drop-append-seam, drop-drop, append-as
 pub put-part : (xs ys l out last : List ℕ) (a : ℕ) → a ≡ length xs → out ≡ put xs l → last ≡ put ys (midOf a (length out - a) out)
     → putMid a (length out - a) out last ≡ put (xs ++ ys) l
 put-part xs ys l out last a ea eo el = rw (mid-back, el, mid-all, ea, eo) (put-after xs ys l)
-
--- fields that are written one after another: xs is over the front of l
-pub record Laid (xs l out : List ℕ) : Type 0 where
-  pub is : out ≡ put xs l
-
-pub laid-first : {xs l out : List ℕ} → out ≡ put xs l → Laid xs l out
-laid-first e = record { is = e }
-
-pub laid-next : {xs l out : List ℕ} {last : List ℕ} → Laid xs l out → (a : ℕ) (ys : List ℕ) → a ≡ length xs
-    → last ≡ put ys (midOf a (length out - a) out)
-    → Laid (xs ++ ys) l (putMid a (length out - a) out last)
-laid-next {xs} {l} {out} {last} h a ys e f = record { is = put-part xs ys l out last a e (h .is) f }
-
-pub laid-done : {xs l out : List ℕ} (zs : List ℕ) → Laid xs l out → xs ≡ zs → out ≡ put zs l
-laid-done {xs} {l} zs h e = h .is ∙ ap (λ (ys : List ℕ). put ys l) e
 
 -- room for n from a on
 pub mid-room : (a : ℕ) (l : List ℕ) (n : ℕ) → a + n ≤ length l → n ≤ length (midOf a (length l - a) l)

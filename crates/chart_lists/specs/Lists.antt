@@ -5,6 +5,7 @@ use Prim.Native.Nat.{ℕ}
 use lib.Dec.{leb}
 use lib.ListN.{length, drop}
 use Rattle.comparison.specs.Comparison.{codeOf}
+use Rattle.model.specs.Answer.{Answer, result, refused}
 use Rattle.model.specs.Chart.{Test, Transition, Chart}
 use Rattle.model.specs.Live.{startsSet}
 
@@ -42,6 +43,11 @@ listsOf c = record {
 -- xs over the front of l; what is beyond stays
 unfoldable pub put : List ℕ → List ℕ → List ℕ
 put xs l = xs ++ drop (length xs) l
+
+-- a lent list after a call that answers x: the bytes of the result over its front, or as it was where x is a refusal
+abbrev pub overwritten : {A : Type 0} → (bytes : A → List ℕ) → (x : Answer A) → List ℕ → List ℕ
+overwritten bytes (result a) l = put (bytes a) l
+overwritten bytes (refused n p) l = l
 
 -- each of the lists over the front of the lent one
 unfoldable pub putLists : Lists → Lists → Lists

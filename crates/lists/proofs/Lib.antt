@@ -8,3 +8,4 @@ pub mod Nth
 pub mod Flatten
 pub mod Sums
 pub mod Zeros
+pub mod Growing

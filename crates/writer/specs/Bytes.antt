@@ -1,23 +1,27 @@
--- The bytes that the code writes, by the entries of the lists. That they are those of the chart handed over is shown in proofs/.
--- Assumes nothing.
+-- The bytes that the code writes, by the entries of the lists. That they are those of the chart that the lists describe is shown in
+-- proofs/FileBytes. Assumes nothing.
 use mathlib.Core.Path.{_≡_}
-use mathlib.Core.List.{List, [], _++_}
+use mathlib.Core.List.{List, _++_}
 use Prim.Native.Nat.{ℕ, _+_, _≤_}
 use lib.ListN.{length, getD}
 use Rattle.lists.specs.Lists.{gather}
 use Rattle.timer_set.specs.Members.{members}
-use Rattle.model.specs.Answer.{Answer, result, refused}
+use Rattle.model.specs.Answer.{Answer, result}
 use Rattle.model.specs.Chart.{Transition, Chart}
 use Rattle.file_format.specs.Parse.{digits, writeAll}
 use Rattle.file_format.specs.Body.{recordLength, writeTransition}
 use Rattle.file_format.specs.File.{fileOf}
 use Rattle.chart_lists.specs.Lists.{Lists}
 use Rattle.chart_lists.specs.declared.Header.{Header}
-use Rattle.writer.specs.Handing.{chartFrom}
+use Rattle.list_judging.specs.FromLists.{chartFrom}
 
 -- the first n numbers of a list, in w bytes each
 unfoldable pub numberBytes : (w : ℕ) → List ℕ → (n : ℕ) → List ℕ
 numberBytes w l n = gather (λ i. digits w (getD l i 0)) n
+
+-- two numbers in two bytes each and one in one byte: the ends and the event of a record, or what stands first in the header
+unfoldable pub tripleBytes : (a b d : ℕ) → List ℕ
+tripleBytes a b d = digits 2 a ++ (digits 2 b ++ digits 1 d)
 
 -- a test
 unfoldable pub testBytes : (timer code constant : ℕ) → List ℕ
@@ -33,7 +37,8 @@ testsBytes l k g = gather (λ t. testAt l (k + t)) g
 
 -- the first eight bytes of a record
 unfoldable pub headBytes : (size source target event s : ℕ) → List ℕ
-headBytes size source target event s = digits 2 size ++ (digits 2 source ++ (digits 2 target ++ (digits 1 event ++ digits 1 s)))
+headBytes size source target event s =
+    digits 2 size ++ (digits 2 source ++ (digits 2 target ++ (digits 1 event ++ digits 1 s)))
 
 -- the record of a transition that starts the timers of w and has g tests from place k on
 unfoldable pub recordBytes : (source target event w : ℕ) → Lists → (k g : ℕ) → List ℕ
@@ -57,17 +62,12 @@ pub record Room {A : Type 0} (w : A → List ℕ) (x : Answer A) (room : ℕ) : 
   pub is : x ≡ result item
   pub fits : length (w item) ≤ room
 
--- the bytes of a result
-abbrev pub bytesOf : {A : Type 0} → (A → List ℕ) → Answer A → List ℕ
-bytesOf w (result a) = w a
-bytesOf w (refused n p) = []
-
--- the records of the transitions that are handed over
+-- the records of transitions
 unfoldable pub records : List Transition → List ℕ
 records rs = writeAll (writeTransition 2) rs
 
--- what the writer of the file asks: the chart was judged, n is the length of its file, and there is room for it
-pub record Judged (m : Header) (l : Lists) (n room : ℕ) : Type 0 where
+-- what the writer of the file asks: the lists describe a chart, n is the length of its file, and there is room for it
+pub record Writable (m : Header) (l : Lists) (n room : ℕ) : Type 0 where
   pub chart : Chart
   pub is : chartFrom m l ≡ result chart
   pub size : n ≡ length (fileOf chart)

@@ -1,6 +1,3 @@
-pub mod Handing
-pub mod Parts
-pub mod Meaning
+pub mod Writing
 pub mod Bytes
-pub mod Begins
 pub mod Refusals

@@ -1,9 +1,10 @@
+-- `put_front` meets its contract: its fields stand one after another. Assumes nothing.
 use mathlib.Core.List.{append-assoc}
 use lib.ListN.{length-append}
 use borrow.Author.Needs.{needs}
 use Rattle.file_format.proofs.Lengths.{length-digits}
-use Rattle.writer.specs.Bytes.{frontBytes}
-use Rattle.chart_lists.proofs.Part.{laid-first, laid-next, laid-done}
+use Rattle.chart_lists.proofs.Fields.{fields-first, fields-next, fields-done}
+use Rattle.writer.specs.Bytes.{tripleBytes, frontBytes}
 use Rattle.writer.proofs.put_front.Statement.{statement}
 use Rattle.writer.proofs.put_front.Tie as tie
 
@@ -22,6 +23,18 @@ part-put-quad-end c = search needs
 put-quad-requires : tie.Need-put-quad-requires
 put-quad-requires c κs = search needs
 
+sub-put-triple : tie.Need-sub-put-triple
+sub-put-triple c = search needs
+
+part-put-triple-start : tie.Need-part-put-triple-start
+part-put-triple-start c = search needs
+
+part-put-triple-end : tie.Need-part-put-triple-end
+part-put-triple-end c = search needs
+
+put-triple-requires : tie.Need-put-triple-requires
+put-triple-requires c κs = search needs
+
 sub-put-pair : tie.Need-sub-put-pair
 sub-put-pair c = search needs
 
@@ -34,48 +47,21 @@ part-put-pair-end c = search needs
 put-pair-requires : tie.Need-put-pair-requires
 put-pair-requires c κs = search needs
 
-sub-put-pair-2 : tie.Need-sub-put-pair-2
-sub-put-pair-2 c = search needs
-
-part-put-pair-start-2 : tie.Need-part-put-pair-start-2
-part-put-pair-start-2 c = search needs
-
-part-put-pair-end-2 : tie.Need-part-put-pair-end-2
-part-put-pair-end-2 c = search needs
-
-put-pair-requires-2 : tie.Need-put-pair-requires-2
-put-pair-requires-2 c κs = search needs
-
-sub-put-byte : tie.Need-sub-put-byte
-sub-put-byte c = search needs
-
-part-put-byte-start : tie.Need-part-put-byte-start
-part-put-byte-start c = search needs
-
-part-put-byte-end : tie.Need-part-put-byte-end
-part-put-byte-end c = search needs
-
-put-byte-requires-2 : tie.Need-put-byte-requires-2
-put-byte-requires-2 c κs = search needs
-
-sub-put-pair-3 : tie.Need-sub-put-pair-3
-sub-put-pair-3 c = search needs
-
-part-put-pair-start-3 : tie.Need-part-put-pair-start-3
-part-put-pair-start-3 c = search needs
-
-part-put-pair-end-3 : tie.Need-part-put-pair-end-3
-part-put-pair-end-3 c = search needs
-
-put-pair-requires-3 : tie.Need-put-pair-requires-3
-put-pair-requires-3 c κs = search needs
-
 same-length : tie.Need-same-length
 same-length c = search needs
 
 returns : tie.Need-returns
-unfolding frontBytes
-returns c = laid-done _ (laid-next (laid-next (laid-next (laid-next (laid-next (laid-first (c .before .before .before .before .before .before .before .before .before .before .before .before .before .before .before .before .before .before .before .before .before .before .put-byte .ensures)) 1 _ (simp (length-append, length-digits)) (c .before .before .before .before .before .before .before .before .before .before .before .before .before .before .before .before .before .before .put-quad .ensures)) 5 _ (simp (length-append, length-digits)) (c .before .before .before .before .before .before .before .before .before .before .before .before .before .before .put-pair .ensures)) 7 _ (simp (length-append, length-digits)) (c .before .before .before .before .before .before .before .before .before .before .put-pair2 .ensures)) 9 _ (simp (length-append, length-digits)) (c .before .before .before .before .before .before .put-byte2 .ensures)) 10 _ (simp (length-append, length-digits)) (c .before .before .put-pair3 .ensures)) (simp append-assoc)
+unfolding tripleBytes frontBytes
+returns c =
+    let accepting = c .before .before in
+    let numbers = accepting .before .before .before .before in
+    let size = numbers .before .before .before .before in
+    let version = size .before .before .before .before in
+    let a = fields-first (version .put-byte .ensures) in
+    let b = fields-next a 1 _ (simp (length-append, length-digits)) (size .put-quad .ensures) in
+    let d = fields-next b 5 _ (simp (length-append, length-digits)) (numbers .put-triple .ensures) in
+    let e = fields-next d 10 _ (simp (length-append, length-digits)) (accepting .put-pair .ensures) in
+    fields-done _ e (simp append-assoc)
 
 pub put-front-spec : {M : Type 1} → statement M
 put-front-spec =
@@ -86,21 +72,13 @@ put-front-spec =
     part-put-quad-start
     part-put-quad-end
     put-quad-requires
+    sub-put-triple
+    part-put-triple-start
+    part-put-triple-end
+    put-triple-requires
     sub-put-pair
     part-put-pair-start
     part-put-pair-end
     put-pair-requires
-    sub-put-pair-2
-    part-put-pair-start-2
-    part-put-pair-end-2
-    put-pair-requires-2
-    sub-put-byte
-    part-put-byte-start
-    part-put-byte-end
-    put-byte-requires-2
-    sub-put-pair-3
-    part-put-pair-start-3
-    part-put-pair-end-3
-    put-pair-requires-3
     same-length
     returns)

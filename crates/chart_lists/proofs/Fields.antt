@@ -1,0 +1,22 @@
+-- Fields that a function puts into a lent list one after another, each into its own stretch behind the last. Assumes nothing.
+use mathlib.Core.Path.{_≡_, ap, _∙_}
+use mathlib.Core.List.{List, _++_}
+use Prim.Native.Nat.{ℕ, _-_}
+use lib.ListN.{length}
+use borrow.Rule.Slice.PartMut.{midOf, putMid}
+use Rattle.chart_lists.specs.Lists.{put}
+use Rattle.chart_lists.proofs.Part.{put-part}
+
+-- the fields xs stand over the front of l, which has become out
+pub record Fields (xs l out : List ℕ) : Type 0 where
+  pub is : out ≡ put xs l
+
+pub fields-first : {xs l out : List ℕ} → out ≡ put xs l → Fields xs l out
+fields-first e = record { is = e }
+
+pub fields-next : {xs l out last : List ℕ} → Fields xs l out → (a : ℕ) (ys : List ℕ) → a ≡ length xs → last ≡ put ys (midOf a (length out - a) out)
+    → Fields (xs ++ ys) l (putMid a (length out - a) out last)
+fields-next {xs} {l} {out} {last} h a ys e f = record { is = put-part xs ys l out last a e (h .is) f }
+
+pub fields-done : {xs l out : List ℕ} (zs : List ℕ) → Fields xs l out → xs ≡ zs → out ≡ put zs l
+fields-done {xs} {l} zs h e = h .is ∙ ap (λ (ys : List ℕ). put ys l) e

@@ -1,0 +1,13 @@
+pub mod Answers
+pub mod Items
+pub mod ListEntries
+pub mod Parts
+pub mod Judging
+pub mod TransitionOf
+pub mod Turns
+pub mod ChartOf
+pub mod Beginnings
+pub mod Starts
+pub mod FromValid
+pub mod FromHolds
+pub mod ValidFrom

@@ -1,0 +1,5 @@
+pub mod FromLists
+pub mod Parts
+pub mod Meaning
+pub mod Lent
+pub mod Typed

@@ -1,0 +1,16 @@
+-- Lists whose entries have the widths that the code gives them. Assumes nothing.
+use Prim.Native.Nat.{_<_, _^_}
+use Rattle.lists.specs.Rising.{All}
+use Rattle.chart_lists.specs.Lists.{Lists}
+
+-- bytes, pairs of bytes and words
+pub record Typed (l : Lists) : Type 0 where
+  pub accepting : All (λ x. x < 65536) (l .accepting)
+  pub sources : All (λ x. x < 65536) (l .sources)
+  pub targets : All (λ x. x < 65536) (l .targets)
+  pub events : All (λ x. x < 256) (l .events)
+  pub starts : All (λ x. x < 2 ^ 64) (l .starts)
+  pub test-counts : All (λ x. x < 256) (l .test-counts)
+  pub timers : All (λ x. x < 256) (l .timers)
+  pub codes : All (λ x. x < 256) (l .codes)
+  pub constants : All (λ x. x < 65536) (l .constants)

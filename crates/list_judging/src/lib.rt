@@ -1,0 +1,161 @@
+// Judges a chart that stands in lists (docs/LISTS.md), all of it and in the order of the file's fields.
+ghost use mathlib.Core.Path.{_≡_};
+ghost use Rattle.chart_lists.specs.Lent.{atEntry};
+ghost use Rattle.list_judging.specs.Parts.{checkHeader, checkAccepting, checkTransitions, checkChart};
+ghost use Rattle.list_judging.specs.Meaning.{judgedAs, entryAs};
+ghost use Rattle.list_judging.specs.Lent.{transitionsAtEntry};
+
+mod entries;
+mod transition;
+
+use crate::entries::Entry;
+use crate::entries::below;
+use crate::entries::pair_at;
+use crate::entries::refusal_of;
+use crate::transition::Record;
+use crate::transition::judge_transition;
+use crate::transition::record_refusal;
+use chart_lists::Header;
+use refusal::Refusal;
+
+// A chart that was judged: the length of its file, or the refusal of its first field that fails.
+pub enum Judged {
+    File(usize),
+    Refused(Refusal),
+}
+
+// The numbers of locations and timers, and the initial location.
+fn judge_header(header: Header) -> Entry
+    ensures { λ r. ⌜ entryAs r ≡ checkHeader header ⌝ }
+{
+    if header.locations as usize > chart_lists::MOST_LOCATIONS {
+        return Entry::Refused(refusal::WRONG_COUNT);
+    }
+    if header.locations < 1 {
+        return Entry::Refused(refusal::WRONG_COUNT);
+    }
+    if header.initial >= header.locations {
+        return Entry::Refused(refusal::NO_SUCH_LOCATION);
+    }
+    if header.timers as usize > chart_lists::MOST_TIMERS {
+        return Entry::Refused(refusal::WRONG_COUNT);
+    }
+    Entry::Value(0)
+}
+
+// n accepting locations, strictly rising and below the number of locations.
+fn judge_accepting(accepting: &[u16], locations: u16, n: u16) -> Entry
+    ensures { λ r. ⌜ entryAs r ≡ checkAccepting locations (now (accepting .entry)) n ⌝ }
+{
+    let mut lowest: u64 = 0;
+    let mut k: u16 = 0;
+    while k < n {
+        let a = below(
+            pair_at(accepting, k as usize),
+            locations as u64,
+            5,
+            refusal::NOWHERE,
+        );
+        let Entry::Value(x) = a else {
+            return a;
+        };
+        if x < lowest {
+            return Entry::Refused(refusal::NOT_RISING);
+        }
+        lowest = x + 1;
+        k += 1;
+    }
+    Entry::Value(k as u64)
+}
+
+// All transitions: how many bytes their records have.
+fn judge_transitions(
+    header: Header,
+    sources: &[u16],
+    targets: &[u16],
+    events: &[u8],
+    starts: &[u64],
+    test_counts: &[u8],
+    timers: &[u8],
+    codes: &[u8],
+    constants: &[u16],
+) -> Entry
+    ensures { λ r. ⌜ entryAs r
+        ≡ checkTransitions (transitionsAtEntry sources targets events starts «test_counts» timers codes constants)
+        (header .locations) (header .timers) (header .transitions) ⌝ }
+{
+    let n = header.transitions as usize;
+    let mut bytes: u64 = 0;
+    let mut k: usize = 0;
+    let mut i: usize = 0;
+    while i < n {
+        let a = judge_transition(
+            header,
+            sources,
+            targets,
+            events,
+            starts,
+            test_counts,
+            timers,
+            codes,
+            constants,
+            i,
+            k,
+        );
+        let Record::Found {
+            starts: s,
+            tests: g,
+        } = a
+        else {
+            return Entry::Refused(record_refusal(a));
+        };
+        bytes += 9 + s + 4 * g;
+        k += g as usize;
+        i += 1;
+    }
+    Entry::Value(bytes)
+}
+
+// All of the chart: the length of its file.
+pub fn judge(
+    header: Header,
+    accepting: &[u16],
+    sources: &[u16],
+    targets: &[u16],
+    events: &[u8],
+    starts: &[u64],
+    test_counts: &[u8],
+    timers: &[u8],
+    codes: &[u8],
+    constants: &[u16],
+) -> Judged
+    ensures { λ r. ⌜ judgedAs r
+        ≡ checkChart header (atEntry accepting sources targets events starts «test_counts» timers codes constants) ⌝ }
+{
+    let a = judge_header(header);
+    let Entry::Value(_) = a else {
+        return Judged::Refused(refusal_of(a));
+    };
+    let b = judge_accepting(accepting, header.locations, header.accepting);
+    let Entry::Value(n) = b else {
+        return Judged::Refused(refusal_of(b));
+    };
+    if header.transitions as usize > chart_lists::MOST_TRANSITIONS {
+        return Judged::Refused(refusal::WRONG_COUNT);
+    }
+    let d = judge_transitions(
+        header,
+        sources,
+        targets,
+        events,
+        starts,
+        test_counts,
+        timers,
+        codes,
+        constants,
+    );
+    let Entry::Value(bytes) = d else {
+        return Judged::Refused(refusal_of(d));
+    };
+    Judged::File(14 + 2 * (n as usize) + bytes as usize)
+}

@@ -1,0 +1,151 @@
+-- `write_record` meets its contract: head, started timers, number of tests and tests one after another. What is hard is where each begins: that
+-- depends on the number of started timers. Assumes nothing.
+use mathlib.Core.Path.{_≡_, sym, _∙_}
+use Prim.Native.Nat.{ℕ, _≤_}
+use native.Mathlib.Omega.{arith}
+use lib.ListN.{length}
+use borrow.Author.Needs.{needs}
+use Rattle.timer_set.specs.Members.{members}
+use Rattle.timer_set.proofs.Counts.{ones-members}
+use Rattle.chart_lists.proofs.Fields.{fields-first, fields-next, fields-done}
+use Rattle.writer.proofs.FieldBytes.{length-head, length-front, length-counted, record-parts}
+use Rattle.list_judging.proofs.Turns.{members-few}
+use Rattle.writer.proofs.records.write_record.Statement.{statement}
+use Rattle.writer.proofs.records.write_record.Tie as tie
+
+count-requires : tie.Need-count-requires
+count-requires c κs = search needs
+
+-- s is how many timers the set w has
+record Counted (w s : ℕ) : Type 0 where
+  is : s ≡ length (members w)
+  few : s ≤ 64
+
+counted : (c : tie.After-count) → Counted (c .before .before .before .before .before .args .set .bits) (c .count .result)
+counted c =
+    let w = c .before .before .before .before .before .args .set .bits in
+    let e = c .count .ensures ∙ ones-members w (search needs) in
+    record { is = e; few = rw e (members-few w) }
+
+-- the same from behind the started timers and from behind the number of tests
+counted-3 : (c : tie.After-slice-known3) → let n = c .before .before .before .before .before .before .before .before in
+    Counted (n .before .before .before .before .before .args .set .bits) (n .count .result)
+counted-3 c = counted (c .before .before .before .before .before .before .before .before)
+
+abbrev timers-put : tie.After-slice-known4 → tie.After-slice-known3
+timers-put c = c .before .before .before .before
+
+add-put-head : tie.Need-add-put-head
+add-put-head c = let s = counted (c .before) in omega arith
+
+mul-put-head : tie.Need-mul-put-head
+mul-put-head c = search needs
+
+add-put-head-2 : tie.Need-add-put-head-2
+add-put-head-2 c = let s = counted (c .before) in omega arith
+
+cast-put-head : tie.Need-cast-put-head
+cast-put-head c = let s = counted (c .before) in omega arith
+
+cast-put-head-2 : tie.Need-cast-put-head-2
+cast-put-head-2 c = let s = counted (c .before) in omega arith
+
+put-head-requires : tie.Need-put-head-requires
+put-head-requires c κs = search needs
+
+sub-put-starts : tie.Need-sub-put-starts
+sub-put-starts c = search needs
+
+part-put-starts-start : tie.Need-part-put-starts-start
+part-put-starts-start c = search needs
+
+part-put-starts-end : tie.Need-part-put-starts-end
+part-put-starts-end c = search needs
+
+put-starts-requires : tie.Need-put-starts-requires
+put-starts-requires c κs = search needs
+
+cast-at : tie.Need-cast-at
+cast-at c = search needs
+
+add-at : tie.Need-add-at
+add-at c = search needs
+
+sub-put-byte : tie.Need-sub-put-byte
+sub-put-byte c = let s = counted-3 c in omega arith
+
+part-put-byte-start : tie.Need-part-put-byte-start
+part-put-byte-start c = let s = counted-3 c in omega arith
+
+part-put-byte-end : tie.Need-part-put-byte-end
+part-put-byte-end c = search needs
+
+put-byte-requires : tie.Need-put-byte-requires
+put-byte-requires c κs = let s = counted-3 (c .before) in omega arith
+
+add-after : tie.Need-add-after
+add-after c = search needs
+
+sub-put-tests : tie.Need-sub-put-tests
+sub-put-tests c = let s = counted-3 (timers-put c) in omega arith
+
+part-put-tests-start : tie.Need-part-put-tests-start
+part-put-tests-start c = let s = counted-3 (timers-put c) in omega arith
+
+part-put-tests-end : tie.Need-part-put-tests-end
+part-put-tests-end c = search needs
+
+put-tests-requires : tie.Need-put-tests-requires
+put-tests-requires c κs = let s = counted-3 (timers-put (c .before)) in omega arith
+
+mul-result : tie.Need-mul-result
+mul-result c = search needs
+
+add-result : tie.Need-add-result
+add-result c = search needs
+
+same-length : tie.Need-same-length
+same-length c = search needs
+
+returns : tie.Need-returns
+returns c =
+    let tests = c .before .before in
+    let number = tests .before .before .before .before in
+    let timers = number .before .before .before .before in
+    let head = timers .before .before .before .before in
+    let s = counted-3 (number .before .before) .is in
+    let a = fields-next (fields-first (head .put-head .ensures)) 8 _ (sym (length-head _ _ _ _ _)) (timers .put-starts .ensures) in
+    let b = fields-next a _ _ (length-front _ _ _ _ _ _ s) (number .put-byte .ensures) in
+    let d = fields-next b _ _ (length-counted _ _ _ _ _ _ s) (tests .put-tests .ensures) in
+    (omega (arith, s), fields-done _ d (record-parts _ _ _ _ _ _ s _ _))
+
+pub write-record-spec : {M : Type 1} → statement M
+write-record-spec =
+    tie.close
+    (tie.spec
+    count-requires
+    add-put-head
+    mul-put-head
+    add-put-head-2
+    cast-put-head
+    cast-put-head-2
+    put-head-requires
+    sub-put-starts
+    part-put-starts-start
+    part-put-starts-end
+    put-starts-requires
+    cast-at
+    add-at
+    sub-put-byte
+    part-put-byte-start
+    part-put-byte-end
+    put-byte-requires
+    add-after
+    sub-put-tests
+    part-put-tests-start
+    part-put-tests-end
+    put-tests-requires
+    mul-result
+    add-result
+    same-length
+    returns)
