@@ -1,131 +1,65 @@
 -- What the judgement of a file leaves is what the steps are taken by, and a refusal of it is the player's. Assumes nothing.
-use mathlib.Core.Path.{_≡_, refl, sym, ap, ap₂, _∙_}
-use mathlib.Core.List.{List, map}
-use Prim.Native.Nat.{ℕ, _≤_}
-use native.Mathlib.Omega.{arith}
-use lib.ListN.{length, take, replicate, length-map}
-use Rattle.file_format.specs.Parse.{Bytes}
-use Rattle.lists.proofs.Gather.{rising-length}
+use mathlib.Core.Path.{_≡_, refl, sym, _∙_}
+use mathlib.Core.List.{List}
+use Prim.Native.Nat.{ℕ}
 use Rattle.model.specs.Answer.{Answer, result, refused, then}
-use Rattle.model.specs.Chart.{Test, Transition, Chart}
+use Rattle.model.specs.Chart.{Chart}
 use Rattle.model.specs.Judge.{judged}
-use Rattle.model.specs.Valid.{Valid}
-use Rattle.model.specs.Player.{Arrival, playedOn}
-use Rattle.model.proofs.Answers.{not-result, result-same, refused-same}
-use Rattle.model.proofs.PlayerNumbers.{judged-is, played-judged, played-refused}
+use Rattle.model.specs.Player.{Arrival, played, playedOn}
+use Rattle.file_format.specs.Parse.{Bytes}
 use Rattle.file_format.specs.File.{chartIn}
 use Rattle.file_format.proofs.File.{reads-valid}
-use Rattle.file_format.proofs.Answers.{result-refused}
-use Rattle.chart_lists.specs.Lists.{Lists, lists, listsOf, putLists, allTests, put}
+use Rattle.chart_lists.specs.Lists.{Lists, listsOf, putLists}
+use Rattle.chart_lists.specs.Holds.{Holds}
 use Rattle.chart_lists.specs.declared.Header.{Header}
-use Rattle.refusal.specs.declared.Refusal.{Refusal}
-use Rattle.chart_lists.specs.Header.{headerOf}
-use Rattle.refusal.specs.Refused.{refusedAs}
-use Rattle.chart_lists.specs.declared.Read.{Read}
-use Rattle.chart_lists.specs.declared.Read.the-variants as read
-use Rattle.chart_lists.specs.Read.{readAs}
+use Rattle.chart_lists.proofs.Begins.{begins-self}
+use Rattle.chart_lists.proofs.Holds.{holds-put}
 use Rattle.reader.specs.Reading.{listsAfter}
 use Rattle.judgement.specs.Judging.{judgedIn, judgedHeader, largest}
-use Rattle.judgement.proofs.Largest.{all-tests}
-use Rattle.judgement.proofs.Fronts.{front}
-use Rattle.player.specs.Playing.{playAnswer, readRefusal}
-use Rattle.player.specs.Lent.{Lent}
-
--- the file's chart, judged, with its numbers
-pub record Accepted (bs : List ℕ) (m : Header) : Type 0 where
-  pub chart : Chart
-  pub reads : chartIn bs ≡ result chart
-  pub passes : judged chart ≡ result chart
-  pub numbers-are : m ≡ headerOf chart
-
-pub accepted : (bs : List ℕ) (m : Header) → result m ≡ judgedHeader bs → Accepted bs m
-unfolding judgedHeader judgedIn
-accepted bs m e = go (chartIn bs) refl
-  where
-    of : (c : Chart) → chartIn bs ≡ result c → (y : Answer Chart) → judged c ≡ y → result m ≡ then y (λ d. result (headerOf d)) → Accepted bs m
-    of c p (result d) q f =
-        let r = judged-is c q in
-        let same : d ≡ c = result-same (sym q ∙ r) in
-        record { chart = c; reads = p; passes = r; numbers-are = result-same f ∙ ap headerOf same }
-    of c p (refused n i) q f = absurd (result-refused refl f)
-
-    go : (x : Answer Chart) → chartIn bs ≡ x → Accepted bs m
-    go (result c) p = of c p (judged c) refl (rw p at e)
-    go (refused n i) p = let z : result m ≡ refused n i = rw p at e in absurd (result-refused refl z)
-
--- ---- an answer of the judgement
-
-module _ (bs : List ℕ) (r : Read) (e : readAs r ≡ judgedHeader bs) where
-  pub read-accepted : (m : Header) → r ≡ read.Chart m → Accepted bs m
-  read-accepted m f = accepted bs m (ap readAs (sym f) ∙ e)
-
-  pub read-refused : (g f : Refusal) → r ≡ read.Refused g → f ≡ readRefusal r → refused (f .number) (f .place) ≡ judgedHeader bs
-  read-refused g f h k = ap refusedAs (k ∙ ap readRefusal h) ∙ ap readAs (sym h) ∙ e
-
--- ---- the lists
-
-module _ (bs : List ℕ) (bytes : Bytes bs) {m : Header} (h : Accepted bs m) {a s t e w g j x k : List ℕ}
-    (left : lists a s t e w g j x k ≡ listsAfter (chartIn bs) largest) where
-  abbrev ts : List Transition
-  ts = h .chart .transitions
-
-  laid-out : lists a s t e w g j x k ≡ putLists (listsOf (h .chart)) largest
-  laid-out = rw (h .reads) at left
-
-  valid : Valid 2 (h .chart)
-  valid = reads-valid bs (h .chart) bytes (h .reads)
-
-  number : length ts ≡ m .transitions
-  unfolding headerOf
-  number = sym (ap (λ (y : Header). y .transitions) (h .numbers-are))
-
-  few : m .transitions ≤ 512
-  few = omega (arith, number, valid .few-transitions)
-
-  -- a list with an entry for each transition, and one with an entry for each test
-  each : (f : Transition → ℕ) {l : List ℕ} → l ≡ put (map f ts) (replicate 512 0) → take (m .transitions) l ≡ map f ts
-  each f p = front (map f ts) 512 (length-map ts f ∙ number) few p
-
-  test : (f : Test → ℕ) {l : List ℕ} → l ≡ put (map f (allTests ts)) (replicate 4096 0) → take (length (allTests ts)) l ≡ map f (allTests ts)
-  test f p = front (map f (allTests ts)) 4096 (length-map (allTests ts) f) (all-tests valid) p
-
-  few-accepting : length (h .chart .accepting) ≤ 256
-  few-accepting = omega (arith, rising-length (h .chart .locations) 0 (h .chart .accepting) (valid .accepting) (omega arith), valid .few-locations)
-
-  pub lent : Lent (h .chart) m a s t w g j x k
-  unfolding putLists listsOf largest
-  lent = record {
-    numbers-are = h .numbers-are;
-    accepting-are = front (h .chart .accepting) 256 refl few-accepting (ap (λ (y : Lists). y .accepting) laid-out);
-    fronts = record {
-      W = 2;
-      valid = valid;
-      transitions-are = number;
-      sources-are = each _ (ap (λ (y : Lists). y .sources) laid-out);
-      targets-are = each _ (ap (λ (y : Lists). y .targets) laid-out);
-      starts-are = each _ (ap (λ (y : Lists). y .starts) laid-out);
-      tests-are = each _ (ap (λ (y : Lists). y .counts) laid-out);
-      timers-are = test _ (ap (λ (y : Lists). y .timers) laid-out);
-      codes-are = test _ (ap (λ (y : Lists). y .codes) laid-out);
-      constants-are = test _ (ap (λ (y : Lists). y .constants) laid-out);
-    };
-  }
+use Rattle.judgement.proofs.Handed.{JudgedChart, judged-refused}
+use Rattle.player.specs.Playing.{playAnswer, playLists}
 
 -- ---- the answer
 
 module _ (bs counts is ts : List ℕ) where
-  pub accepted-answer : {m : Header} (h : Accepted bs m) {y : Answer Arrival} → y ≡ playedOn counts is ts (h .chart) → y ≡ playAnswer bs counts is ts
-  unfolding playAnswer
-  accepted-answer h f = f ∙ sym (rw (h .reads) (played-judged (h .chart) counts is ts (h .passes)))
+  -- the judgement of the file, then 12, 13 and the steps
+  pub play-is : playAnswer bs counts is ts ≡ then (judgedIn bs) (playedOn counts is ts)
+  unfolding playAnswer judgedIn played
+  play-is = go (chartIn bs)
+    where
+      go : (x : Answer Chart) → then x (λ c. played c counts is ts) ≡ then (then x judged) (playedOn counts is ts)
+      go (result c) = refl
+      go (refused n p) = refl
+
+  pub accepted-answer : {h : Header} (j : JudgedChart bs h) {y : Answer Arrival} → y ≡ playedOn counts is ts (j .chart)
+      → y ≡ playAnswer bs counts is ts
+  unfolding judgedIn
+  accepted-answer j e = e ∙ sym (play-is ∙ rw (j .reads, j .accepted) refl)
 
   pub refused-answer : {n p : ℕ} → refused n p ≡ judgedHeader bs → refused n p ≡ playAnswer bs counts is ts
-  unfolding playAnswer judgedHeader judgedIn
-  refused-answer {n} {p} e = go (chartIn bs) refl
-    where
-      of : (c : Chart) (x : Answer Chart) → judged c ≡ x → refused n p ≡ then x (λ d. result (headerOf d)) → judged c ≡ refused n p
-      of c (result d) q z = absurd (not-result z)
-      of c (refused k i) q z = let y = refused-same z in q ∙ sym (ap₂ refused (y .0) (y .1))
+  refused-answer e = sym (play-is ∙ rw (judged-refused bs e) refl)
 
-      go : (x : Answer Chart) → chartIn bs ≡ x → refused n p ≡ playAnswer bs counts is ts
-      go (result c) q = let z : refused n p ≡ then (judged c) (λ d. result (headerOf d)) = rw q at e in sym (rw q (played-refused c counts is ts (of c (judged c) refl z)))
-      go (refused k i) q = let z : _≡_ {A = Answer Header} (refused n p) (refused k i) = rw q at e in let y = refused-same z in rw q (ap₂ refused (y .0) (y .1))
+-- ---- the lists
+
+module _ {c : Chart} {l : Lists} (h : Holds c l) where
+  -- all that the player looks at
+  pub holds-played : Holds c (playLists c (l .accepting) (l .sources) (l .targets) (l .starts) (l .test-counts) (l .timers) (l .codes) (l .constants))
+  holds-played = record {
+    width = h .width;
+    valid = h .valid;
+    accepting = h .accepting;
+    sources = h .sources;
+    targets = h .targets;
+    events = begins-self _;
+    starts = h .starts;
+    test-counts = h .test-counts;
+    timers = h .timers;
+    codes = h .codes;
+    constants = h .constants;
+  }
+
+-- what the judgement leaves
+pub left-holds : (bs : List ℕ) → Bytes bs → {l : Lists} → l ≡ listsAfter (chartIn bs) largest → (c : Chart) → chartIn bs ≡ result c → Holds c l
+left-holds bs bytes {l} e c r =
+    let p : l ≡ putLists (listsOf c) largest = rw r at e in
+    holds-put (reads-valid bs c bytes r) largest p

@@ -13,7 +13,7 @@ use Rattle.model.specs.Chart.{Chart}
 use Rattle.model.specs.Run.{playerTime, largestTime}
 use Rattle.model.specs.Player.{Arrival, answerOf, tooLarge, countsJudged, stepsOf, playedOn}
 use Rattle.model.proofs.PlayerLaws.{counts-pass}
-use Rattle.steps.specs.Fronts.{Allowed}
+use Rattle.steps.specs.Counts.{Allowed}
 
 module _ (c : Chart) (counts is ts : List ℕ) where
   -- not one count for each timer

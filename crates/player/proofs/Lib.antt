@@ -1,5 +1,7 @@
-pub mod Lent
-pub mod Inputs
 pub mod Files
+pub mod Inputs
+pub mod Arrivals
+pub mod Accepting
+pub mod TooLarge
 pub mod StepPlaces
 pub mod Refusals

@@ -15,12 +15,10 @@ use Rattle.lists.proofs.Membership.{memb-nil, memb-cases, memb-tail}
 use Rattle.model.specs.Answer.{Answer, result, refused, then, unless, nowhere}
 use Rattle.model.specs.Chart.{Chart}
 use Rattle.model.specs.Run.{playerTime}
-use Rattle.model.specs.Judge.{judged}
-use Rattle.model.specs.Player.{Arrival, answerOf, tooLarge, countsJudged, stepsOf, played, playedOn}
+use Rattle.model.specs.Player.{Arrival, answerOf, tooLarge, countsJudged, stepsOf, playedOn}
 use Rattle.model.proofs.Answers.{refused-same, number-is}
 use Rattle.model.proofs.PlayerNumbers.{after-numbers}
 use Rattle.model.proofs.Judgement.{LowestUnreached, LowestUnstarted}
-use Rattle.file_format.specs.File.{chartIn}
 use Rattle.judgement.specs.Judging.{judgedIn}
 use Rattle.judgement.specs.Refusals.{RefusalOfJudgement}
 use Rattle.judgement.specs.Refusals.RefusalOfJudgement.{of-file, of-unreached, of-unstarted}
@@ -29,6 +27,7 @@ use Rattle.file_format.proofs.File.{reads-valid}
 use Rattle.player.specs.Playing.{playAnswer}
 use Rattle.player.specs.Refusals.{RefusalOfPlay}
 use Rattle.player.specs.Refusals.RefusalOfPlay.{of-judgement, of-counts, of-lengths, of-step}
+use Rattle.player.proofs.Files.{play-is}
 use Rattle.player.proofs.StepPlaces.{StepRefusal, answer-place, length-stepsOf}
 
 -- what is in a list is at least what all of it is
@@ -41,15 +40,6 @@ least b n (x ∷ l) h m = go (memb-cases n x l m) (least b n l (h .1))
     go (inr q) f = f q
 
 module _ (bs counts is ts : List ℕ) where
-  -- the judgement of the file, then 12, 13 and the steps
-  pub play-is : playAnswer bs counts is ts ≡ then (judgedIn bs) (playedOn counts is ts)
-  unfolding playAnswer judgedIn played
-  play-is = go (chartIn bs)
-    where
-      go : (x : Answer Chart) → then x (λ c. played c counts is ts) ≡ then (then x judged) (playedOn counts is ts)
-      go (result c) = refl
-      go (refused n p) = refl
-
   after-judgement : (c : Chart) (n p : ℕ) → playedOn counts is ts c ≡ refused n p → 12 ≤ n
   after-judgement c n p e =
       least 12 n _ (omega arith, (omega arith, (omega arith, (omega arith, (omega arith, (omega arith, (omega arith, tt)))))))
@@ -57,7 +47,7 @@ module _ (bs counts is ts : List ℕ) where
 
   -- 1 to 10 come exactly where the judgement of the file gives them
   pub play-judged : (n p : ℕ) → n ≤ 10 → (playAnswer bs counts is ts ≡ refused n p) ↔ (judgedIn bs ≡ refused n p)
-  play-judged n p h = ((λ e. out (judgedIn bs) refl (sym play-is ∙ e)), (λ e. play-is ∙ rw e refl))
+  play-judged n p h = ((λ e. out (judgedIn bs) refl (sym (play-is bs counts is ts) ∙ e)), (λ e. play-is bs counts is ts ∙ rw e refl))
     where
       out : (x : Answer Chart) → judgedIn bs ≡ x → then (judgedIn bs) (playedOn counts is ts) ≡ refused n p → judgedIn bs ≡ refused n p
       out (result c) q e = absurd (omega (arith, after-judgement c n p (rw q at e)))
@@ -98,13 +88,14 @@ module _ (bs counts is ts : List ℕ) where
         first = lowest (tooLarge counts) (c .timers)
 
         go : (one-each small : Bool) → leb (c .timers) first ≡ small
-            → unless one-each 12 nowhere (unless small 12 first (unless (eqb (length is) (length ts)) 13 nowhere answer)) ≡ refused n p → RefusalOfPlay (length is) n p
+            → unless one-each 12 nowhere (unless small 12 first (unless (eqb (length is) (length ts)) 13 nowhere answer)) ≡ refused n p
+            → RefusalOfPlay (length is) n p
         go false small q e = of-counts (sym (refused-same e .0)) (inl (sym (refused-same e .1)))
         go true false q e = of-counts (sym (refused-same e .0)) (inr (omega (arith, refused-same e .1, leb-false (c .timers) first q)))
         go true true q e = of-call (eqb (length is) (length ts)) e
 
   pub refusals-of-play : Bytes bs → (n p : ℕ) → playAnswer bs counts is ts ≡ refused n p → RefusalOfPlay (length is) n p
-  refusals-of-play bytes n p e = go (judgedIn bs) refl (sym play-is ∙ e)
+  refusals-of-play bytes n p e = go (judgedIn bs) refl (sym (play-is bs counts is ts) ∙ e)
     where
       go : (x : Answer Chart) → judgedIn bs ≡ x → then (judgedIn bs) (playedOn counts is ts) ≡ refused n p → RefusalOfPlay (length is) n p
       go (result c) q f = of-inputs c (reads-valid bs c bytes (judged-result bs bytes c .0 q .reads) .few-timers) n p (rw q at f)

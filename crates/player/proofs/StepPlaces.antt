@@ -20,11 +20,13 @@ StepRefusal lo hi (result a) = Unit {0}
 StepRefusal lo hi (refused n p) = (memb n (14 ∷ 15 ∷ 22 ∷ 23 ∷ 24 ∷ []) ≡ true) × ((lo ≤ p) × (p < hi))
 
 module _ (lo hi : ℕ) {A : Type 0} where
-  unless-place : (b : Bool) (n p : ℕ) (x : Answer A) → (memb n (14 ∷ 15 ∷ 22 ∷ 23 ∷ 24 ∷ []) ≡ true) × ((lo ≤ p) × (p < hi)) → StepRefusal lo hi x → StepRefusal lo hi (unless b n p x)
+  unless-place : (b : Bool) (n p : ℕ) (x : Answer A) → (memb n (14 ∷ 15 ∷ 22 ∷ 23 ∷ 24 ∷ []) ≡ true) × ((lo ≤ p) × (p < hi))
+      → StepRefusal lo hi x → StepRefusal lo hi (unless b n p x)
   unless-place true n p x r h = h
   unless-place false n p x r h = r
 
-  then-place : {B : Type 0} (x : Answer A) (f : A → Answer B) → StepRefusal lo hi x → ((a : A) → StepRefusal lo hi (f a)) → StepRefusal lo hi (then x f)
+  then-place : {B : Type 0} (x : Answer A) (f : A → Answer B) → StepRefusal lo hi x → ((a : A) → StepRefusal lo hi (f a))
+      → StepRefusal lo hi (then x f)
   then-place (result a) f m h = h a
   then-place (refused n p) f m h = m
 
@@ -55,7 +57,8 @@ module _ (c : Chart) where
   steps-place (e ∷ es) k s =
       then-place k (k + suc (length es)) (attempt playerTime c k s e) _
       (wider k (suc k) k (k + suc (length es)) (attempt playerTime c k s e) (omega arith) (omega arith) (attempt-place k s e))
-      (λ s′. wider (suc k) (suc k + length es) k (k + suc (length es)) (steps playerTime c (suc k) s′ es) (omega arith) (omega arith) (steps-place es (suc k) s′))
+      (λ s′. wider (suc k) (suc k + length es) k (k + suc (length es)) (steps playerTime c (suc k) s′ es) (omega arith) (omega arith)
+          (steps-place es (suc k) s′))
 
   pub answer-place : (v : Counts) (es : List Step) → StepRefusal 0 (length es) (answerOf playerTime c v es)
   unfolding answerOf outcome arrival

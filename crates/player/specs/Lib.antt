@@ -1,3 +1,2 @@
 pub mod Playing
-pub mod Lent
 pub mod Refusals

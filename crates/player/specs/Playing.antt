@@ -2,12 +2,11 @@
 use mathlib.Core.List.{List}
 use Prim.Native.Nat.{ℕ}
 use Rattle.model.specs.Answer.{Answer, result, then}
+use Rattle.model.specs.Chart.{Chart}
 use Rattle.model.specs.Player.{Arrival, played}
 use Rattle.file_format.specs.File.{chartIn}
-use Rattle.refusal.specs.declared.Refusal.{Refusal}
 use Rattle.refusal.specs.Refused.{refusedAs}
-use Rattle.chart_lists.specs.declared.Read.{Read}
-use Rattle.chart_lists.specs.declared.Read.the-variants as read
+use Rattle.chart_lists.specs.Lists.{Lists, lists, listsOf}
 use Rattle.player.specs.declared.Played.{Played}
 use Rattle.player.specs.declared.Played.the-variants as played·
 
@@ -20,7 +19,6 @@ abbrev pub playedAs : Played → Answer Arrival
 playedAs (played·.Arrived q t b) = result (record { location = q; time = t; accepting = b })
 playedAs (played·.Refused f) = refusedAs f
 
--- the refusal of an answer that is one
-abbrev pub readRefusal : Read → Refusal
-readRefusal (read.Refused f) = f
-readRefusal (read.Chart m) = record { number = 0; place = 0 }
+-- these lists, with the chart's own events, which no player looks at
+abbrev pub playLists : Chart → (accepting sources targets starts test-counts timers codes constants : List ℕ) → Lists
+playLists c a s t w g j x k = lists a s t (listsOf c .events) w g j x k

@@ -1,14 +1,21 @@
 // The player: what a list of steps comes to on a chart file, from given starting counts.
 ghost use mathlib.Core.Path.{_≡_};
 ghost use mathlib.Core.List.{List};
+ghost use lib.ListN.{length};
+ghost use Rattle.lists.specs.Lists.{memb, lowest};
 ghost use Rattle.model.specs.Chart.{Chart};
 ghost use Rattle.model.specs.Run.{Counts, Step, outcome, playerTime};
-ghost use Rattle.model.specs.Player.{answerOf, playedOn};
+ghost use Rattle.model.specs.Player.{answerOf, playedOn, tooLarge};
+ghost use Rattle.chart_lists.specs.Header.{headerOf};
+ghost use Rattle.chart_lists.specs.Holds.{Holds};
 ghost use Rattle.steps.specs.Stepping.{Answered};
-ghost use Rattle.player.specs.Playing.{playAnswer, playedAs, readRefusal};
-ghost use Rattle.player.specs.Lent.{Lent, SomeLent};
+ghost use Rattle.player.specs.Playing.{playAnswer, playedAs, playLists};
 use chart_lists::Header;
+use chart_lists::MOST_LOCATIONS;
+use chart_lists::MOST_TESTS;
+use chart_lists::MOST_TRANSITIONS;
 use chart_lists::Read;
+use model::LARGEST_TIME;
 use refusal::Refusal;
 use steps::Stepped;
 use steps::Verdict;
@@ -23,17 +30,33 @@ pub enum Played {
     Refused(Refusal),
 }
 
-// The refusal of an answer that is one.
-fn read_refusal(a: Read) -> Refusal
-    ensures { λ r. ⌜ r ≡ readRefusal a ⌝ }
+// The lowest timer whose starting count is over 16,777,215, or the number of counts.
+pub fn first_too_large(counts: &[u32]) -> usize
+    ensures { λ r. ⌜ r ≡ lowest (tooLarge (now (counts .entry))) (length (now (counts .entry))) ⌝ }
 {
-    match a {
-        Read::Refused(f) => f,
-        Read::Chart(_) => Refusal {
-            number: 0,
-            place: 0,
-        },
+    let n = counts.len();
+    let mut j: usize = 0;
+    while j < n {
+        if counts[j] as u64 > LARGEST_TIME {
+            return j;
+        }
+        j += 1;
     }
+    n
+}
+
+// Whether a location is one of the accepting ones.
+pub fn accepts(accepting: &[u16], location: u16) -> bool
+    ensures { λ r. ⌜ r ≡ memb location (now (accepting .entry)) ⌝ }
+{
+    let mut i = 0;
+    while i < accepting.len() {
+        if accepting[i] == location {
+            return true;
+        }
+        i += 1;
+    }
+    false
 }
 
 // Where the steps ended, with whether that location accepts.
@@ -49,7 +72,7 @@ fn arrived(accepting: &[u16], out: Stepped) -> Played
             Played::Arrived {
                 location,
                 time: out.state.time,
-                accepting: steps::accepts(accepting, location),
+                accepting: accepts(accepting, location),
             }
         }
     }
@@ -61,23 +84,27 @@ fn play_chart<'a>(
     sources: &'a [u16],
     targets: &'a [u16],
     starts: &'a [u64],
-    tests: &'a [u8],
+    test_counts: &'a [u8],
     timers: &'a [u8],
     codes: &'a [u8],
     constants: &'a [u16],
-    numbers: Header,
+    header: Header,
     counts: &[u32],
     transitions: &[u32],
     times: &[u64],
 ) -> Played
-    requires { ⌜ SomeLent numbers (now accepting) (now sources) (now targets) (now starts) (now tests) (now timers) (now codes) (now constants) ⌝ }
-    ensures { λ r. ⌜ ((c : Chart) → Lent c numbers (now (accepting .entry)) (now (sources .entry)) (now (targets .entry)) (now (starts .entry)) (now (tests .entry)) (now (timers .entry)) (now (codes .entry)) (now (constants .entry))
+    requires { ⌜ ((c : Chart) × (header ≡ headerOf c)
+        × Holds c (playLists c (now accepting) (now sources) (now targets) (now starts) (now «test_counts»)
+            (now timers) (now codes) (now constants))) ⌝ }
+    ensures { λ r. ⌜ ((c : Chart) → header ≡ headerOf c
+        → Holds c (playLists c (now (accepting .entry)) (now (sources .entry)) (now (targets .entry)) (now (starts .entry))
+            (now («test_counts» .entry)) (now (timers .entry)) (now (codes .entry)) (now (constants .entry)))
         → playedAs r ≡ playedOn (now (counts .entry)) (now (transitions .entry)) (now (times .entry)) c) ⌝ }
 {
-    if counts.len() != numbers.timers as usize {
+    if counts.len() != header.timers as usize {
         return Played::Refused(refusal::WRONG_COUNTS);
     }
-    let first = steps::first_too_large(counts);
+    let first = first_too_large(counts);
     if first < counts.len() {
         return Played::Refused(Refusal {
             number: 12,
@@ -87,22 +114,20 @@ fn play_chart<'a>(
     if transitions.len() != times.len() {
         return Played::Refused(refusal::UNEQUAL_LISTS);
     }
-    let n = numbers.transitions as usize;
     let out = steps::play_steps(
         sources,
         targets,
         starts,
-        tests,
+        test_counts,
         timers,
         codes,
         constants,
-        n,
-        numbers.initial,
+        header,
         counts,
         transitions,
         times,
     );
-    let a = numbers.accepting as usize;
+    let a = header.accepting as usize;
     arrived(&accepting[..a], out)
 }
 
@@ -110,16 +135,16 @@ fn play_chart<'a>(
 pub fn play(file: &[u8], counts: &[u32], transitions: &[u32], times: &[u64]) -> Played
     ensures { λ r. ⌜ playedAs r ≡ playAnswer (now (file .entry)) (now (counts .entry)) (now (transitions .entry)) (now (times .entry)) ⌝ }
 {
-    let mut accepting = [0u16; 256];
-    let mut sources = [0u16; 512];
-    let mut targets = [0u16; 512];
-    let mut events = [0u8; 512];
-    let mut starts = [0u64; 512];
-    let mut tests = [0u8; 512];
-    let mut timers = [0u8; 4096];
-    let mut codes = [0u8; 4096];
-    let mut constants = [0u16; 4096];
-    let mut tested = [0u64; 512];
+    let mut accepting = [0u16; MOST_LOCATIONS];
+    let mut sources = [0u16; MOST_TRANSITIONS];
+    let mut targets = [0u16; MOST_TRANSITIONS];
+    let mut events = [0u8; MOST_TRANSITIONS];
+    let mut starts = [0u64; MOST_TRANSITIONS];
+    let mut test_counts = [0u8; MOST_TRANSITIONS];
+    let mut timers = [0u8; MOST_TESTS];
+    let mut codes = [0u8; MOST_TESTS];
+    let mut constants = [0u16; MOST_TESTS];
+    let mut tested = [0u64; MOST_TRANSITIONS];
     let answer = judgement::judge(
         file,
         &mut accepting,
@@ -127,27 +152,27 @@ pub fn play(file: &[u8], counts: &[u32], transitions: &[u32], times: &[u64]) -> 
         &mut targets,
         &mut events,
         &mut starts,
-        &mut tests,
+        &mut test_counts,
         &mut timers,
         &mut codes,
         &mut constants,
         &mut tested,
     );
-    let Read::Chart(numbers) = answer else {
-        return Played::Refused(read_refusal(answer));
-    };
-    play_chart(
-        &accepting,
-        &sources,
-        &targets,
-        &starts,
-        &tests,
-        &timers,
-        &codes,
-        &constants,
-        numbers,
-        counts,
-        transitions,
-        times,
-    )
+    match answer {
+        Read::Refused(f) => Played::Refused(f),
+        Read::Chart(header) => play_chart(
+            &accepting,
+            &sources,
+            &targets,
+            &starts,
+            &test_counts,
+            &timers,
+            &codes,
+            &constants,
+            header,
+            counts,
+            transitions,
+            times,
+        ),
+    }
 }

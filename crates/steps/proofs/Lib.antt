@@ -1,10 +1,9 @@
-pub mod Sums
+pub mod Headers
+pub mod Held
+pub mod FirstPlaces
+pub mod TransitionPlaces
 pub mod TestTurns
-pub mod Counts
-pub mod Charts
+pub mod MovedCounts
+pub mod Starting
 pub mod Attempts
 pub mod StepLists
-pub mod Accepting
-pub mod Starting
-pub mod ChartFronts
-pub mod Arrivals

@@ -1,39 +1,19 @@
--- Starting counts, one a turn: the first that is too large, and the 64 counts that the steps begin with. Assumes nothing.
-use mathlib.Core.Path.{_≡_, refl, sym, ap, _∙_}
+-- Starting counts: the 64 counts that the steps begin with, set one a turn, and the state at tick 0 that has them. Assumes nothing.
+use mathlib.Core.Path.{_≡_, refl, sym, _∙_}
 use mathlib.Core.Logic.{_⊎_, inl, inr}
-use mathlib.Core.Bool.{false, not}
 use mathlib.Core.List.{List}
-use Prim.Native.Nat.{ℕ, zero, suc, _+_, _≤_, _<_}
+use Prim.Native.Nat.{ℕ, _+_, _≤_, _<_}
 use native.Mathlib.Omega.{arith}
 use lib.ListN.{length, getD, set, replicate, length-set, length-replicate, List·getD-eq-default}
 use lib.Seq.{getD-set-same, getD-set-other}
 use borrow.Author.Count.{below-more}
-use borrow.Author.Tests.{le-leb, lt-leb}
-use Rattle.lists.specs.Lists.{lowest}
-use Rattle.model.specs.Run.{largestTime}
 use Rattle.lists.proofs.Bools.{lt-or-le}
-use Rattle.lists.proofs.Lowest.{lowest-is}
-use Rattle.model.specs.Player.{tooLarge}
-use Rattle.steps.specs.Fronts.{Starting}
-
--- no count before j is too large
-pub record SmallTo (counts : List ℕ) (j : ℕ) : Type 0 where
-  pub before : (k : ℕ) → k < j → tooLarge counts k ≡ false
-
-module _ (counts : List ℕ) where
-  pub small-none : SmallTo counts 0
-  small-none = record { before = λ k h. absurd (omega arith) }
-
-  pub small-more : (j : ℕ) → getD counts j 0 ≤ largestTime → SmallTo counts j → SmallTo counts (j + 1)
-  unfolding tooLarge
-  small-more j h s = record { before = below-more (λ (k : ℕ). tooLarge counts k ≡ false) j (s .before) (ap not (le-leb (getD counts j 0) largestTime h)) }
-
-  pub large-here : (j : ℕ) → j < length counts → largestTime < getD counts j 0 → SmallTo counts j → j ≡ lowest (tooLarge counts) (length counts)
-  unfolding tooLarge
-  large-here j l h s = sym (lowest-is (tooLarge counts) (length counts) j (omega arith) (λ q. ap not (lt-leb (getD counts j 0) largestTime h)) (s .before))
-
-  pub large-none : (j : ℕ) → length counts ≤ j → SmallTo counts j → length counts ≡ lowest (tooLarge counts) (length counts)
-  large-none j h s = sym (lowest-is (tooLarge counts) (length counts) (length counts) (omega arith) (λ q. absurd (omega arith)) (λ k l. s .before k (omega arith)))
+use Rattle.lists.proofs.Zeros.{getD-zeros}
+use Rattle.model.specs.Chart.{Chart}
+use Rattle.model.specs.Run.{begin, largestTime}
+use Rattle.steps.specs.Counts.{Allowed, Starting}
+use Rattle.steps.specs.Stepping.{Shows, Small}
+use Rattle.steps.proofs.Attempts.{nextState}
 
 -- of the 64 counts the first j are set, the others are 0
 pub record SetTo (j : ℕ) (counts all : List ℕ) : Type 0 where
@@ -41,14 +21,9 @@ pub record SetTo (j : ℕ) (counts all : List ℕ) : Type 0 where
   pub done : (k : ℕ) → k < j → getD all k 0 ≡ getD counts k 0
   pub rest : (k : ℕ) → j ≤ k → getD all k 0 ≡ 0
 
-zeros : (n k : ℕ) → getD {A = ℕ} (replicate n 0) k 0 ≡ 0
-zeros zero k = refl
-zeros (suc n) zero = refl
-zeros (suc n) (suc k) = zeros n k
-
 module _ (counts : List ℕ) where
   pub set-none : SetTo 0 counts (replicate 64 0)
-  set-none = record { number = length-replicate {A = ℕ} 64 0; done = λ k h. absurd (omega arith); rest = λ k h. zeros 64 k }
+  set-none = record { number = length-replicate {A = ℕ} 64 0; done = λ k h. absurd (omega arith); rest = λ k h. getD-zeros 64 k }
 
   pub set-more : (j : ℕ) (all : List ℕ) → j < 64 → SetTo j counts all → SetTo (j + 1) counts (set all j (getD counts j 0))
   set-more j all h s = record {
@@ -64,3 +39,17 @@ module _ (counts : List ℕ) where
       at : (k : ℕ) → (k < j) ⊎ (j ≤ k) → getD all k 0 ≡ getD counts k 0
       at k (inl l) = s .done k l
       at k (inr l) = s .rest k l ∙ sym (List·getD-eq-default counts 0 (omega arith))
+
+-- ---- the state at tick 0
+
+module _ {counts all : List ℕ} (s : Starting counts all) where
+  pub starting-small : Allowed counts → (q : ℕ) → Small (nextState q 0 all)
+  starting-small a q = record { number = s .number; bound = λ j h. rw (s .same j) (at j (lt-or-le j (length counts))) }
+    where
+      at : (j : ℕ) → (j < length counts) ⊎ (length counts ≤ j) → getD counts j 0 ≤ largestTime
+      at j (inl l) = a .small j l
+      at j (inr l) = omega (arith, List·getD-eq-default counts 0 l)
+
+  pub starting-shows : (c : Chart) (q : ℕ) → q ≡ c .initial → Shows (nextState q 0 all) (begin c (λ j. getD counts j 0))
+  unfolding begin
+  starting-shows c q e = record { location = e; time = refl; counts = record { same = λ j h. s .same j } }

@@ -33,7 +33,8 @@ module _ (c : Chart) (is ts : List ℕ) where
   -- the next step, and then the rest
   turn : (k : ℕ) (s : Run·State) → k < length is → k < length ts
       → steps playerTime c k s (stepsOf (drop k is) (drop k ts))
-      ≡ then (attempt playerTime c k s (stepAt (getD is k 0) (getD ts k 0))) (λ s′. steps playerTime c (suc k) s′ (stepsOf (drop (suc k) is) (drop (suc k) ts)))
+      ≡ then (attempt playerTime c k s (stepAt (getD is k 0) (getD ts k 0)))
+          (λ s′. steps playerTime c (suc k) s′ (stepsOf (drop (suc k) is) (drop (suc k) ts)))
   unfolding steps stepsOf
   turn k s h l = rw (drop-cons is k 0 h, drop-cons ts k 0 l) refl
 

@@ -1,3 +1,3 @@
-pub mod InLists
+pub mod StepLists
+pub mod Counts
 pub mod Stepping
-pub mod Fronts

@@ -11,7 +11,7 @@ use Rattle.model.specs.Player.{answerOf}
 use Rattle.steps.specs.declared.Stepped.{Stepped}
 use Rattle.steps.specs.declared.Verdict.the-variants as verdict
 use Rattle.steps.specs.Stepping.{Answered}
-use Rattle.steps.proofs.Arrivals.{taken-answer, refused-answer}
+use Rattle.player.proofs.Arrivals.{taken-answer, refused-answer}
 use borrow.Author.Needs.{needs}
 use Rattle.player.proofs.arrived.Statement.{statement}
 use Rattle.player.proofs.arrived.Tie as tie

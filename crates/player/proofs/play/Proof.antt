@@ -1,31 +1,44 @@
 -- `play` judges the file, and plays on the chart that is left. Assumes nothing.
-use mathlib.Core.Path.{refl}
+use mathlib.Core.Path.{_≡_, refl, sym, ap, _∙_}
 use mathlib.Core.List.{List}
 use Prim.Native.Nat.{ℕ}
+use borrow.Author.Needs.{needs}
+use Rattle.model.specs.Answer.{result}
+use Rattle.model.specs.Chart.{Chart}
+use Rattle.file_format.specs.File.{chartIn}
+use Rattle.chart_lists.specs.Lists.{Lists, lists}
+use Rattle.chart_lists.specs.Holds.{Holds}
+use Rattle.chart_lists.specs.Read.{readAs}
 use Rattle.judgement.specs.Judging.{largest}
 use Rattle.judgement.proofs.Loading.{bytes-are}
-use Rattle.player.specs.Lent.{Lent}
-use Rattle.player.proofs.Files.{Accepted, read-accepted, read-refused, lent, accepted-answer, refused-answer}
-use borrow.Author.Needs.{needs}
+use Rattle.judgement.proofs.Handed.{JudgedChart, judged-chart}
+use Rattle.player.proofs.Files.{holds-played, left-holds, accepted-answer, refused-answer}
 use Rattle.player.proofs.play.Statement.{statement}
 use Rattle.player.proofs.play.Tie as tie
 
--- where the file is judged
+-- the call's arguments, from where the file is judged
+abbrev cleared : tie.After-judge → tie.After-events
+cleared a = a .before .before .before .before .before .before .before
+
 abbrev file : tie.After-judge → List ℕ
-file c = c .before .before .before .before .before .before .before .before .before .before .before .before .before .before .before .args .file .now
+file a = cleared a .before .before .before .before .before .before .before .before .args .file .now
 
--- where the answer is known to be a chart
-abbrev judged : tie.After-answer → tie.After-judge
-judged c = c .before .before .before .before .before .before .before .before .before .before .before .before
+-- the lists that the judgement leaves
+abbrev left : tie.After-judge → Lists
+left a = let l = a .judge .last in let r = l .1 .1 .1 .1 .1 in
+    lists (l .1 .0) (l .1 .1 .0) (l .1 .1 .1 .0) (l .1 .1 .1 .1 .0) (r .0) (r .1 .0) (r .1 .1 .0) (r .1 .1 .1 .0) (r .1 .1 .1 .1 .0)
 
-held : (c : tie.After-answer) → Accepted (file (judged c)) (c .answer .given .0 .0)
-held c = read-accepted _ _ (judged c .judge .ensures .0) _ (c .answer .given .1)
+holds-left : (a : tie.After-judge) (ch : Chart) → chartIn (file a) ≡ result ch → Holds ch (left a)
+holds-left a =
+    let known = cleared a .before .before .before .before .before .before .before .shared-slice-known in
+    left-holds (file a) (bytes-are (file a) (λ i. known .given i .fits)) (a .judge .ensures .1 .0)
 
-lists-are : (c : tie.After-answer) → let l = judged c .judge .last in
-    Lent (held c .chart) (c .answer .given .0 .0) (l .1 .0) (l .1 .1 .0) (l .1 .1 .1 .0) (l .1 .1 .1 .1 .1 .0) (l .1 .1 .1 .1 .1 .1 .0) (l .1 .1 .1 .1 .1 .1 .1 .0) (l .1 .1 .1 .1 .1 .1 .1 .1 .0) (l .1 .1 .1 .1 .1 .1 .1 .1 .1 .0)
-lists-are c =
-    let j = judged c in
-    lent (file j) (bytes-are (file j) (λ i. j .before .before .before .before .before .before .before .before .before .before .before .before .before .before .shared-slice-known .given i .fits)) (held c) (j .judge .ensures .1 .0)
+-- the way back from the arms of the answer
+abbrev unlent : tie.After-tested2 → tie.After-starts2
+unlent a = a .before .before .before .before .before
+
+abbrev judged : tie.After-tested2 → tie.After-judge
+judged a = unlent a .before .before .before .before .before
 
 slice-aggregate-judge : tie.Need-slice-aggregate-judge
 slice-aggregate-judge c = search needs
@@ -64,15 +77,8 @@ judge-requires c κs = record { lists-are = refl; tested-are = refl }
 enum-known-answer : tie.Need-enum-known-answer
 enum-known-answer c = search needs
 
-enum-told : tie.Need-enum-told
-enum-told c = search needs
-
-read-refusal-requires : tie.Need-read-refusal-requires
-read-refusal-requires c κs = search needs
-
-returns : tie.Need-returns
-returns c =
-    refused-answer _ _ _ _ (read-refused _ _ (c .before .before .before .before .before .before .before .before .before .before .before .before .before .judge .ensures .0) _ _ (c .before .enum-told .given .1) (c .read-refusal .ensures))
+enum-known-answer-2 : tie.Need-enum-known-answer-2
+enum-known-answer-2 c = search needs
 
 slice-aggregate-play-chart : tie.Need-slice-aggregate-play-chart
 slice-aggregate-play-chart c = search needs
@@ -98,11 +104,26 @@ slice-aggregate-play-chart-7 c = search needs
 slice-aggregate-play-chart-8 : tie.Need-slice-aggregate-play-chart-8
 slice-aggregate-play-chart-8 c = search needs
 
+-- the chart that is accepted
+accepted : (a : tie.After-answer2) → JudgedChart (file (judged (a .before .before))) (a .answer2 .given .0 .0)
+accepted a = judged-chart _ (ap readAs (sym (a .answer2 .given .1)) ∙ judged (a .before .before) .judge .ensures .0)
+
+abbrev answered : tie.After-constants3 → tie.After-answer2
+answered a = a .before .before .before .before .before .before .before .before .before
+
 play-chart-requires : tie.Need-play-chart-requires
-play-chart-requires c κs = let f = c .before .before .before .before .before .before .before .before .before in record { chart = held f .chart; is = lists-are f }
+play-chart-requires c κs = let a = answered c in let j = accepted a in
+    (j .chart, j .numbers-are, holds-played (holds-left (judged (a .before .before)) (j .chart) (j .reads)))
+
+returns : tie.Need-returns
+returns c = let a = c .before in refused-answer _ _ _ _ (ap readAs (sym (a .answer .given .1)) ∙ judged (a .before .before) .judge .ensures .0)
 
 returns-2 : tie.Need-returns-2
-returns-2 c = let f = c .before .before .before .before .before .before .before .before .before .before in accepted-answer _ _ _ _ (held f) (c .play-chart .ensures _ (lists-are f))
+returns-2 c =
+    let a = answered (c .before) in
+    let j = accepted a in
+    let held = holds-played (holds-left (judged (a .before .before)) (j .chart) (j .reads)) in
+    accepted-answer _ _ _ _ j (c .play-chart .ensures (j .chart) (j .numbers-are) held)
 
 pub play-spec : {M : Type 1} → statement M
 play-spec =
@@ -120,9 +141,7 @@ play-spec =
     slice-aggregate-judge-10
     judge-requires
     enum-known-answer
-    enum-told
-    read-refusal-requires
-    returns
+    enum-known-answer-2
     slice-aggregate-play-chart
     slice-aggregate-play-chart-2
     slice-aggregate-play-chart-3
@@ -132,4 +151,5 @@ play-spec =
     slice-aggregate-play-chart-7
     slice-aggregate-play-chart-8
     play-chart-requires
+    returns
     returns-2)

@@ -7,9 +7,9 @@ use borrow.Author.Tests.{eqb-true, eq-eqb, not-true, not-false}
 use Rattle.lists.proofs.Bools.{not-both}
 use Rattle.timer_set.proofs.LowestMember.{lowest-below, lowest-member, without-less}
 use Rattle.timer_set.proofs.Members.{removed-lt}
-use Rattle.steps.proofs.Counts.{StartedTo, started-none, started-more, started-all}
-use Rattle.steps.proofs.started.Statement.{statement}
-use Rattle.steps.proofs.started.Tie as tie
+use Rattle.steps.proofs.MovedCounts.{StartedTo, started-none, started-more, started-all}
+use Rattle.steps.proofs.counts.started.Statement.{statement}
+use Rattle.steps.proofs.counts.started.Tie as tie
 
 abbrev Inv-loop : tie.InvT-loop
 Inv-loop starts next₀ left₀ next left = (left .bits < 2 ^ 64) × StartedTo (left .bits) starts next₀ next
@@ -57,7 +57,9 @@ loop-again c =
     )
 
 returns : tie.Need-returns Inv-loop μ-loop
-returns c = let l = c .before .before .loop in started-all _ _ _ _ (eqb-true _ _ (sym (c .before .is-empty .ensures) ∙ not-false _ (c .if1 .left))) (l .inv .1)
+returns c =
+    let none = eqb-true _ _ (sym (c .before .is-empty .ensures) ∙ not-false _ (c .if1 .left)) in
+    started-all _ _ _ _ none (c .before .before .loop .inv .1)
 
 pub started-spec : {M : Type 1} → statement M
 started-spec =

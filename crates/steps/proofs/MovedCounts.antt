@@ -11,11 +11,12 @@ use lib.Seq.{getD-set-same, getD-set-other}
 use borrow.Author.Count.{below-more}
 use borrow.Author.Tests.{eq-eqb}
 use Rattle.lists.proofs.Bools.{yes-or-no, not-both, same-number}
-use Rattle.timer_set.specs.Members.{member, removed}
-use Rattle.timer_set.proofs.Members.{member-empty, member-removed}
+use Rattle.lists.specs.Lists.{memb}
+use Rattle.timer_set.specs.Members.{member, removed, setOf}
+use Rattle.timer_set.proofs.Members.{member-empty, member-removed, member-setOf}
 use Rattle.timer_set.proofs.LowestMember.{removed-gone}
-use Rattle.model.specs.Run.{Counts, grown}
-use Rattle.steps.specs.Stepping.{Agree, countAfter, MovedOn}
+use Rattle.model.specs.Run.{Counts, grown, restarted}
+use Rattle.steps.specs.Counts.{CountsAgree, countAfter, MovedOn}
 
 -- ---- one count
 
@@ -32,7 +33,7 @@ module _ (w d j x : ℕ) where
   unfolding countAfter
   count-same u e = ap (λ (b : Bool). elim b [ true ↦ 0 | false ↦ x + d ]) e
 
-none-started : (d j x : ℕ) → countAfter 0 d j x ≡ x + d
+pub none-started : (d j x : ℕ) → countAfter 0 d j x ≡ x + d
 none-started d j x = count-grown 0 d j x (member-empty j)
 
 -- ---- grown counts
@@ -60,7 +61,7 @@ module _ (d : ℕ) (before : List ℕ) where
   grown-all i after h g = record { number = g .number; count = λ j l. g .more j (omega arith) ∙ sym (none-started d j _) }
 
   -- the tests are tried on these
-  pub grown-agrees : (after : List ℕ) (v : Counts) → Agree before v → MovedOn 0 d before after → Agree after (grown d v)
+  pub grown-agrees : (after : List ℕ) (v : Counts) → CountsAgree before v → MovedOn 0 d before after → CountsAgree after (grown d v)
   unfolding grown
   grown-agrees after v a m = record { same = λ j h. m .count j h ∙ none-started d j _ ∙ ap (λ (x : ℕ). x + d) (a .same j h) }
 
@@ -75,27 +76,45 @@ module _ (starts : ℕ) (before : List ℕ) where
   pub started-none : length before ≡ 64 → StartedTo starts starts before before
   started-none e = record { number = e; same = λ j h. refl }
 
-  pub started-more : (left i : ℕ) (after : List ℕ) → i < 64 → member left i ≡ true → StartedTo left starts before after → StartedTo (removed left i) starts before (set after i 0)
+  pub started-more : (left i : ℕ) (after : List ℕ) → i < 64 → member left i ≡ true → StartedTo left starts before after
+      → StartedTo (removed left i) starts before (set after i 0)
   started-more left i after h m s = record { number = rw length-set (s .number); same = λ j l. at j (yes-or-no (eqb j i)) ∙ s .same j l }
     where
-      at : (j : ℕ) → (eqb j i ≡ true) ⊎ (eqb j i ≡ false) → countAfter (removed left i) 0 j (getD (set after i 0) j 0) ≡ countAfter left 0 j (getD after j 0)
+      at : (j : ℕ) → (eqb j i ≡ true) ⊎ (eqb j i ≡ false)
+          → countAfter (removed left i) 0 j (getD (set after i 0) j 0) ≡ countAfter left 0 j (getD after j 0)
       at j (inl e) =
           let p : j ≡ i = same-number e in
-          rw p (count-grown (removed left i) 0 i _ (removed-gone left i) ∙ ap (λ (x : ℕ). x + 0) (getD-set-same after i 0 0 (omega (arith, s .number))) ∙ sym (count-started left 0 i _ m))
+          let stored = getD-set-same after i 0 0 (omega (arith, s .number)) in
+          let gone = count-grown (removed left i) 0 i (getD (set after i 0) i 0) (removed-gone left i) in
+          rw p (gone ∙ ap (λ (x : ℕ). x + 0) stored ∙ sym (count-started left 0 i _ m))
       at j (inr e) =
-          count-same (removed left i) 0 j _ left (member-removed left i j ∙ ap (λ (b : Bool). member left j && not b) e ∙ and-true (member left j))
-          ∙ ap (countAfter left 0 j) (getD-set-other after i j 0 0 (λ p. not-both (eq-eqb j i p) e))
+          let kept : member (removed left i) j ≡ member left j =
+              member-removed left i j ∙ ap (λ (b : Bool). member left j && not b) e ∙ and-true (member left j) in
+          let other = getD-set-other after i j 0 0 (λ p. not-both (eq-eqb j i p) e) in
+          count-same (removed left i) 0 j _ left kept ∙ ap (countAfter left 0 j) other
 
   pub started-all : (left : ℕ) (after : List ℕ) → left ≡ 0 → StartedTo left starts before after → MovedOn starts 0 before after
   started-all left after e s = record {
     number = s .number;
-    count = λ j h. let x = getD after j 0 in let p = ap (λ (w : ℕ). countAfter w 0 j x) e ∙ none-started 0 j x in let q = s .same j h in omega arith;
+    count = λ j h.
+        let x = getD after j 0 in
+        let p = ap (λ (w : ℕ). countAfter w 0 j x) e ∙ none-started 0 j x in
+        let q = s .same j h in
+        omega arith;
   }
 
--- grown, then started
-pub moved-both : (starts d : ℕ) (before between after : List ℕ) → MovedOn 0 d before between → MovedOn starts 0 between after → MovedOn starts d before after
-moved-both starts d before between after g m = record { number = m .number; count = λ j h. m .count j h ∙ at j _ _ (g .count j h ∙ none-started d j _) (yes-or-no (member starts j)) }
-  where
-    at : (j x y : ℕ) → x ≡ y + d → (member starts j ≡ true) ⊎ (member starts j ≡ false) → countAfter starts 0 j x ≡ countAfter starts d j y
-    at j x y e (inl m) = count-started starts 0 j _ m ∙ sym (count-started starts d j _ m)
-    at j x y e (inr m) = let p = count-grown starts 0 j x m in let q = count-grown starts d j y m in omega arith
+  -- the run goes on with these
+  pub started-agrees : (after : List ℕ) (v : Counts) (l : List ℕ) → starts ≡ setOf l → CountsAgree before v → MovedOn starts 0 before after
+      → CountsAgree after (restarted l v)
+  unfolding restarted
+  started-agrees after v l e a m = record { same = λ j h. m .count j h ∙ at j h (memb j l) refl }
+    where
+      in-set : (j : ℕ) → member starts j ≡ memb j l
+      in-set j = ap (λ (x : ℕ). member x j) e ∙ member-setOf l j
+
+      at : (j : ℕ) → j < 64 → (b : Bool) → memb j l ≡ b → countAfter starts 0 j (getD before j 0) ≡ restarted l v j
+      at j h true p = rw (p, restarted) (count-started starts 0 j _ (in-set j ∙ p))
+      at j h false p =
+          let same = a .same j h in
+          let kept = count-grown starts 0 j (getD before j 0) (in-set j ∙ p) in
+          rw (p, restarted) (omega arith)

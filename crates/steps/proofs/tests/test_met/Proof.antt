@@ -4,8 +4,8 @@ use borrow.Author.Needs.{needs}
 use Rattle.comparison.specs.declared.Comparison.{Comparison}
 use Rattle.comparison.specs.Comparison.{met}
 use Rattle.steps.proofs.TestTurns.{decoded-known, decoded-unknown}
-use Rattle.steps.proofs.test_met.Statement.{statement}
-use Rattle.steps.proofs.test_met.Tie as tie
+use Rattle.steps.proofs.tests.test_met.Statement.{statement}
+use Rattle.steps.proofs.tests.test_met.Tie as tie
 
 decode-requires : tie.Need-decode-requires
 decode-requires c κs = search needs

@@ -5,9 +5,9 @@ use native.Mathlib.Omega.{arith}
 use lib.ListN.{length, drop}
 use borrow.Author.Needs.{needs}
 use Rattle.lists.specs.Lists.{memb}
-use Rattle.steps.proofs.Accepting.{memb-here, memb-later, memb-end}
-use Rattle.steps.proofs.accepts.Statement.{statement}
-use Rattle.steps.proofs.accepts.Tie as tie
+use Rattle.player.proofs.Accepting.{memb-here, memb-later, memb-end}
+use Rattle.player.proofs.accepts.Statement.{statement}
+use Rattle.player.proofs.accepts.Tie as tie
 
 abbrev Inv-loop : tie.InvT-loop
 Inv-loop accepting location i₀ i = (i ≤ length accepting) × (memb location accepting ≡ memb location (drop i accepting))

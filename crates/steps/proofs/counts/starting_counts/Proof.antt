@@ -5,8 +5,8 @@ use native.Mathlib.Omega.{arith}
 use lib.ListN.{length}
 use borrow.Author.Needs.{needs}
 use Rattle.steps.proofs.Starting.{SetTo, set-none, set-more, set-all}
-use Rattle.steps.proofs.starting_counts.Statement.{statement}
-use Rattle.steps.proofs.starting_counts.Tie as tie
+use Rattle.steps.proofs.counts.starting_counts.Statement.{statement}
+use Rattle.steps.proofs.counts.starting_counts.Tie as tie
 
 abbrev Inv-loop : tie.InvT-loop
 Inv-loop counts n all₀ j₀ all j = (n ≡ length counts) × (n ≤ 64) × (j ≤ n) × SetTo j counts all

@@ -4,9 +4,9 @@ use Prim.Native.Nat.{_-_, _≤_}
 use native.Mathlib.Omega.{arith}
 use lib.ListN.{length}
 use borrow.Author.Needs.{needs}
-use Rattle.steps.proofs.Starting.{SmallTo, small-none, small-more, large-here, large-none}
-use Rattle.steps.proofs.first_too_large.Statement.{statement}
-use Rattle.steps.proofs.first_too_large.Tie as tie
+use Rattle.player.proofs.TooLarge.{SmallTo, small-none, small-more, large-here, large-none}
+use Rattle.player.proofs.first_too_large.Statement.{statement}
+use Rattle.player.proofs.first_too_large.Tie as tie
 
 abbrev Inv-loop : tie.InvT-loop
 Inv-loop counts n j₀ j = (n ≡ length counts) × (j ≤ n) × SmallTo counts j
@@ -22,6 +22,9 @@ mul-if1 c = search needs
 
 shared-slice-read-if1 : tie.Need-shared-slice-read-if1 Inv-loop μ-loop
 shared-slice-read-if1 c = search needs
+
+cast-if1 : tie.Need-cast-if1 Inv-loop μ-loop
+cast-if1 c = omega (arith, c .shared-slice-known .given (c .before .before .loop .j))
 
 returns : tie.Need-returns Inv-loop μ-loop
 returns c = let l = c .before .before .before .loop in large-here _ (l .j) (omega arith) (c .if1 .taken) (l .inv .2)
@@ -47,6 +50,7 @@ first-too-large-spec =
     loop-holds
     mul-if1
     shared-slice-read-if1
+    cast-if1
     returns
     add-j
     loop-less

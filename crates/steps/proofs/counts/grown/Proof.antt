@@ -2,10 +2,10 @@
 use Prim.Native.Nat.{_-_, _≤_}
 use native.Mathlib.Omega.{arith}
 use borrow.Author.Needs.{needs}
-use Rattle.steps.specs.Stepping.{Room}
-use Rattle.steps.proofs.Counts.{GrownTo, grown-none, grown-more, grown-all}
-use Rattle.steps.proofs.grown.Statement.{statement}
-use Rattle.steps.proofs.grown.Tie as tie
+use Rattle.steps.specs.Counts.{Room}
+use Rattle.steps.proofs.MovedCounts.{GrownTo, grown-none, grown-more, grown-all}
+use Rattle.steps.proofs.counts.grown.Statement.{statement}
+use Rattle.steps.proofs.counts.grown.Tie as tie
 
 abbrev Inv-loop : tie.InvT-loop
 Inv-loop passed next₀ j₀ next j = (j ≤ 64) × Room next₀ passed × GrownTo j passed next₀ next
