@@ -11,26 +11,17 @@ use Rattle.model.specs.Answer.{Answer, result, refused}
 use Rattle.model.specs.Chart.{Chart}
 use Rattle.model.specs.Valid.{Valid}
 use Rattle.model.specs.Judge.{judged}
-use Rattle.model.proofs.Judgement.{LowestUnreached, LowestUnstarted, Accepted, Judgement, refused-9, refused-10, accepted as judged-accepted, judged-cases}
+use Rattle.model.specs.Places.{LowestUnreached, LowestUnstarted}
+use Rattle.model.proofs.Judgement.{Judgement, refused-9, refused-10, accepted as judged-accepted, judged-cases}
 use Rattle.model.proofs.Judgement.Judgement.{is-unreached, is-unstarted, is-accepted}
 use Rattle.file_format.specs.File.{chartIn}
 use Rattle.file_format.proofs.File.{reads-valid}
 use Rattle.file_format.proofs.Answers.{result-refused}
 use Rattle.file_format.proofs.Refusals.{refusals-of-chartIn}
 use Rattle.judgement.specs.Judging.{judgedIn}
+use Rattle.judgement.specs.Charts.{HoldsChart, Accepts}
 use Rattle.judgement.specs.Refusals.{RefusalOfJudgement}
 use Rattle.judgement.specs.Refusals.RefusalOfJudgement.{of-file, of-unreached, of-unstarted}
-
--- the file holds a chart with a property
-pub record HoldsChart (bs : List ℕ) (P : Chart → Type 0) : Type 0 where
-  pub chart : Chart
-  pub reads : chartIn bs ≡ result chart
-  pub has : P chart
-
--- the file holds this chart, and every location is reached and no test is unstarted
-pub record Accepts (bs : List ℕ) (c : Chart) : Type 0 where
-  pub reads : chartIn bs ≡ result c
-  pub accepted : Accepted c
 
 module _ (bs : List ℕ) where
   judged-chart : {c : Chart} → chartIn bs ≡ result c → judgedIn bs ≡ judged c

@@ -1,79 +1,120 @@
--- What the code finds in a chart's lists is what the chart's definitions say, for any valid chart that they are of. Assumes nothing.
-use mathlib.Core.Path.{_≡_, ap, ap₂, _∙_}
-use mathlib.Core.Bool.{true}
-use mathlib.Core.List.{List, map}
+-- What the code finds in a chart's own lists is what the chart's definitions say, for any valid chart. Assumes nothing.
+use mathlib.Core.Path.{_≡_, refl, sym, ap, _∙_}
+use mathlib.Core.Logic.{_⊎_, inl, inr}
+use mathlib.Core.Bool.{Bool, true, false}
+use mathlib.Core.List.{List}
 use Prim.Native.Nat.{ℕ, _≤_, _<_}
 use native.Mathlib.Omega.{arith}
 use lib.Dec.{leb}
-use lib.ListN.{length, getD, replicate, length-map}
-use borrow.Author.Tests.{le-leb, lt-leb}
+use lib.ListN.{length, replicate}
+use borrow.Author.Tests.{lt-ltb, le-ltb, lt-leb, le-leb}
+use Rattle.lists.proofs.Bools.{lt-or-le}
 use Rattle.timer_set.specs.Members.{everyTimer}
-use Rattle.lists.specs.Lists.{lowest, firstOf}
-use Rattle.model.specs.Answer.{result, refused}
-use Rattle.model.specs.Chart.{Transition, Chart}
+use Rattle.lists.specs.Lists.{lowest}
+use Rattle.model.specs.Answer.{result, refused, then, unless}
+use Rattle.model.specs.Chart.{Chart}
+use Rattle.model.specs.Valid.{Valid}
 use Rattle.model.specs.Flow.{settled}
-use Rattle.model.specs.Live.{testsSet, reachedFlow, reachedSets, unstartedSets, isEmpty, firstUnreached, firstUnstarted}
+use Rattle.model.specs.Live.{testedSets, reachedFlow, reachedSets, unstartedFlow, unstartedSets, firstUnreached, firstUnstarted}
 use Rattle.model.specs.Judge.{judged}
 use Rattle.model.proofs.Settled.{length-settled}
-use Rattle.flow.specs.Edges.{flowOf}
-use Rattle.flow.proofs.ChartFlows.{Listed, initialSets, reached-flow, unstarted-flow}
+use Rattle.chart_lists.specs.Lists.{listsOf}
 use Rattle.chart_lists.specs.declared.Header.{Header}
 use Rattle.chart_lists.specs.Header.{headerOf}
+use Rattle.chart_lists.proofs.Holds.{sources-each}
+use Rattle.flow.specs.Edges.{flowOf}
+use Rattle.flow.proofs.ChartFlows.{initialSets, noneEach, unstarted-flow, reached-flow, unstarted-safe}
 use Rattle.judgement.specs.Judging.{headerJudged}
-use Rattle.judgement.specs.Drawn.{ownSets, Drawn}
-use Rattle.judgement.specs.Tested.{testsIn}
+use Rattle.judgement.specs.Tested.{testsAt}
+use Rattle.judgement.specs.Forward.{ownSets, forwardSets, SafeForward, firstEmpty, unreachedIn, judgedLists}
+use Rattle.judgement.proofs.Tested.{first-testing-is}
+use Rattle.judgement.proofs.Unreached.{unreached-by}
 
-module _ {c : Chart} {initial locations : ℕ} {sources targets starts tested : List ℕ} (d : Drawn c initial locations sources targets starts tested) where
-  pub listed : Listed c sources targets starts tested
-  listed = record { sources-are = d .sources-are; targets-are = d .targets-are; starts-are = d .starts-are; tests-are = d .tested-are }
+-- the answer, from the two places
+module _ (m : Header) (sources targets starts tested : List ℕ) where
+  abbrev pub unstartedIn : List ℕ
+  unstartedIn = forwardSets (m .initial) (m .locations) sources targets starts
 
-  own-are : ownSets initial locations ≡ initialSets c everyTimer
-  own-are = ap₂ ownSets (d .initial-is) (d .locations-are)
+  module _ {unreached : ℕ} (e : unreached ≡ unreachedIn (m .timers) (m .initial) sources targets unstartedIn) where
+    pub answer-9 : unreached < m .locations → refused 9 unreached ≡ judgedLists m sources targets starts tested
+    unfolding judgedLists
+    answer-9 h = rw (← e, lt-leb (m .locations) unreached h)
 
-  -- 9
-  reached-are : settled (flowOf targets sources (replicate (length sources) 0) (replicate (length sources) 0) (ownSets initial locations)) ≡ reachedSets c
-  unfolding reachedSets
-  reached-are = ap settled (ap (flowOf targets sources _ _) own-are ∙ reached-flow (d .valid) listed)
+    module _ (h : m .locations ≤ unreached) {unstarted : ℕ} (f : unstarted ≡ lowest (testsAt sources tested unstartedIn) (length sources)) where
+      pub answer-10 : unstarted < length sources → refused 10 unstarted ≡ judgedLists m sources targets starts tested
+      unfolding judgedLists
+      answer-10 g = rw (← e, le-leb (m .locations) unreached h, ← f, lt-leb (length sources) unstarted g)
+
+      pub answer-chart : length sources ≤ unstarted → result m ≡ judgedLists m sources targets starts tested
+      unfolding judgedLists
+      answer-chart g = rw (← e, le-leb (m .locations) unreached h, ← f, le-leb (length sources) unstarted g)
+
+-- the two ways to find the place of 9
+module _ {timers : ℕ} (initial : ℕ) (sources targets unstarted : List ℕ) where
+  pub unreached-few : timers < 64 → firstEmpty unstarted ≡ unreachedIn timers initial sources targets unstarted
+  unfolding unreachedIn
+  unreached-few h = rw (lt-ltb timers 64 h, unreachedIn)
+
+  pub unreached-all : 64 ≤ timers
+      → firstEmpty (forwardSets initial (length unstarted) sources targets (replicate (length sources) 0)) ≡ unreachedIn timers initial sources targets unstarted
+  unfolding unreachedIn
+  unreached-all h = rw (le-ltb timers 64 h, unreachedIn)
+
+module _ {W : ℕ} {c : Chart} (valid : Valid W c) where
+  -- nothing for each transition, as the code counts them
+  none-each : replicate (length (listsOf c .sources)) 0 ≡ noneEach c
+  none-each = ap (λ (n : ℕ). replicate n 0) (sources-each c)
+
+  pub own-safe : SafeForward (c .initial) (c .locations) (listsOf c .sources) (listsOf c .targets) (listsOf c .starts)
+  own-safe = record {
+    few = omega (arith, sources-each c, valid .few-transitions);
+    inside = valid .initial;
+    edges = rw none-each (unstarted-safe valid);
+  }
+
+  -- ---- 9
+
+  unstarted-are : forwardSets (c .initial) (c .locations) (listsOf c .sources) (listsOf c .targets) (listsOf c .starts) ≡ unstartedSets c
+  unfolding forwardSets unstartedSets
+  unstarted-are = ap settled (rw none-each (unstarted-flow valid))
+
+  reached-are : forwardSets (c .initial) (c .locations) (listsOf c .sources) (listsOf c .targets) (replicate (length (listsOf c .sources)) 0) ≡ reachedSets c
+  unfolding forwardSets reachedSets
+  reached-are = ap settled (rw none-each (reached-flow valid))
+
+  length-unstarted : length (unstartedSets c) ≡ c .locations
+  unfolding unstartedSets unstartedFlow
+  length-unstarted = length-settled (unstartedFlow c)
 
   length-reached : length (reachedSets c) ≡ c .locations
   unfolding reachedSets reachedFlow
   length-reached = length-settled (reachedFlow c)
 
-  pub unreached-is : (sets : List ℕ) {none : List ℕ} {r : ℕ} → none ≡ replicate (length sources) 0
-      → sets ≡ settled (flowOf targets sources none (replicate (length sources) 0) (ownSets initial locations))
-      → r ≡ lowest (λ q. isEmpty (getD sets q 0)) (length sets) → r ≡ firstUnreached c
-  unfolding firstUnreached
-  unreached-is sets z e f = let g = rw z at e in rw (g ∙ reached-are, length-reached) at f
+  unreached-is : unreachedIn (c .timers) (c .initial) (listsOf c .sources) (listsOf c .targets) (unstartedSets c) ≡ firstUnreached c
+  unfolding firstEmpty firstUnreached
+  unreached-is = go (lt-or-le (c .timers) 64)
+    where
+      go : (c .timers < 64) ⊎ (64 ≤ c .timers)
+          → unreachedIn (c .timers) (c .initial) (listsOf c .sources) (listsOf c .targets) (unstartedSets c) ≡ firstUnreached c
+      go (inl l) = sym (unreached-few (c .initial) _ _ _ l) ∙ unreached-by valid l refl refl
+      go (inr l) = sym (unreached-all (c .initial) _ _ _ l) ∙ rw (length-unstarted, reached-are, length-reached)
 
-  -- 10
-  pub unstarted-are : settled (flowOf targets sources starts (replicate (length sources) 0) (ownSets initial locations)) ≡ unstartedSets c
-  unfolding unstartedSets
-  unstarted-are = ap settled (ap (flowOf targets sources starts _) own-are ∙ unstarted-flow (d .valid) listed)
+  -- ---- 10
 
-  pub unstarted-is : (sets : List ℕ) {r : ℕ} → sets ≡ settled (flowOf targets sources starts (replicate (length sources) 0) (ownSets initial locations))
-      → ((rs : List Transition) → sources ≡ map (λ (x : Transition). x .source) rs → tested ≡ map testsSet rs → r ≡ firstOf (testsIn sets) rs)
-      → r ≡ firstUnstarted c
-  unfolding firstUnstarted testsIn
-  unstarted-is sets e f = rw (e ∙ unstarted-are) at (f (c .transitions) (d .sources-are) (d .tested-are))
+  unstarted-is : lowest (testsAt (listsOf c .sources) (testedSets c) (unstartedSets c)) (length (listsOf c .sources)) ≡ firstUnstarted c
+  unfolding firstUnstarted listsOf testedSets
+  unstarted-is = rw (sources-each c) (first-testing-is (unstartedSets c) (c .transitions))
 
   -- ---- the answer
 
-  transitions-are : length sources ≡ length (c .transitions)
-  transitions-are = ap length (d .sources-are) ∙ length-map (c .transitions) _
-
-  module _ {lost : ℕ} (l : lost ≡ firstUnreached c) where
-    pub answer-9 : lost < locations → refused 9 lost ≡ headerJudged c
-    unfolding headerJudged judged
-    answer-9 h = rw (← l, lt-leb (c .locations) lost (omega (arith, d .locations-are)))
-
-    module _ (h : locations ≤ lost) {early : ℕ} (e : early ≡ firstUnstarted c) where
-      reached : leb (c .locations) (firstUnreached c) ≡ true
-      reached = rw (← l) (le-leb (c .locations) lost (omega (arith, d .locations-are)))
-
-      pub answer-10 : early < length sources → refused 10 early ≡ headerJudged c
-      unfolding headerJudged judged
-      answer-10 g = rw (reached, ← e, lt-leb (length (c .transitions)) early (omega (arith, transitions-are)))
-
-      pub answer-chart : {m : Header} → length sources ≤ early → m ≡ headerOf c → result m ≡ headerJudged c
-      unfolding headerJudged judged
-      answer-chart g k = rw (reached, ← e, le-leb (length (c .transitions)) early (omega (arith, transitions-are))) (ap result k)
+  pub judged-are : judgedLists (headerOf c) (listsOf c .sources) (listsOf c .targets) (listsOf c .starts) (testedSets c) ≡ headerJudged c
+  unfolding judgedLists headerJudged judged headerOf
+  judged-are =
+      rw (unstarted-are, unreached-is, unstarted-is, sources-each c)
+      (go (leb (c .locations) (firstUnreached c)) (leb (length (c .transitions)) (firstUnstarted c)))
+    where
+      go : (a b : Bool) → unless a 9 (firstUnreached c) (unless b 10 (firstUnstarted c) (result (headerOf c)))
+          ≡ then (unless a 9 (firstUnreached c) (unless b 10 (firstUnstarted c) (result c))) (λ d. result (headerOf d))
+      go true true = refl
+      go true false = refl
+      go false b = refl

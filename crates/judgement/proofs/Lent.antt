@@ -7,14 +7,17 @@ use borrow.Author.Needs.{needs}
 use lib.ListN.{length, getD, take, replicate, length-append}
 use lib.Seq.{take-at}
 use Rattle.lists.proofs.Zeros.{take-zeros}
-use Rattle.model.specs.Flow.{settled}
 use Rattle.model.proofs.Settled.{length-settled}
-use Rattle.flow.specs.Edges.{flowOf}
 use Rattle.flow.proofs.EdgeLists.{locations-are}
-use Rattle.judgement.specs.Drawn.{ownSets, Drawable}
+use Rattle.judgement.specs.Forward.{ownSets, SafeForward, forwardSets}
 use Rattle.judgement.proofs.OwnSets.{length-own, length-empty, few-locations}
 
-module _ {initial locations : ℕ} {sources targets cut : List ℕ} (d : Drawable initial locations sources targets cut) where
+pub length-forward : (initial locations : ℕ) (sources targets cut : List ℕ) → length (forwardSets initial locations sources targets cut) ≡ locations
+unfolding forwardSets
+length-forward initial locations sources targets cut =
+    length-settled _ ∙ locations-are targets sources cut (replicate (length sources) 0) (ownSets initial locations) ∙ length-own initial locations
+
+module _ {initial locations : ℕ} {sources targets cut : List ℕ} (d : SafeForward initial locations sources targets cut) where
   -- nothing is cut and nothing gained: the front of an array of zeros
   pub none-front : _≡_ {A = List ℕ} (take (length sources) (replicate 512 0)) (replicate (length sources) 0)
   none-front = take-zeros (length sources) 512 (d .few)
@@ -22,21 +25,21 @@ module _ {initial locations : ℕ} {sources targets cut : List ℕ} (d : Drawabl
   pub none-length : _≡_ (length {A = ℕ} (take (length sources) (replicate 512 0))) (length sources)
   none-length = length-empty (length sources) 512 (d .few)
 
-  pub none-cut : Drawable initial locations sources targets (take (length sources) (replicate 512 0))
-  none-cut = let e = none-length ∙ d .matching .froms in search needs
+  pub none-cut : SafeForward initial locations sources targets (take (length sources) (replicate 512 0))
+  none-cut = let e = none-length ∙ d .edges .froms in search needs
 
   pub lent-length : _≡_ (length {A = ℕ} (take locations (replicate 256 0))) locations
   lent-length = length-empty locations 256 (few-locations d)
 
-  pub lent-drawable : Drawable initial (length {A = ℕ} (take locations (replicate 256 0))) sources targets cut
-  lent-drawable = rw lent-length d
+  pub lent-safe : SafeForward initial (length {A = ℕ} (take locations (replicate 256 0))) sources targets cut
+  lent-safe = rw lent-length d
 
-  module _ {sets : List ℕ} (e : sets ≡ settled (flowOf targets sources cut (replicate (length sources) 0) (ownSets initial (length {A = ℕ} (take locations (replicate 256 0)))))) (rest : List ℕ) where
-    made-sets : sets ≡ settled (flowOf targets sources cut (replicate (length sources) 0) (ownSets initial locations))
+  module _ {sets : List ℕ} (e : sets ≡ forwardSets initial (length {A = ℕ} (take locations (replicate 256 0))) sources targets cut) (rest : List ℕ) where
+    made-sets : sets ≡ forwardSets initial locations sources targets cut
     made-sets = rw lent-length at e
 
     made-length : length sets ≡ locations
-    made-length = ap length made-sets ∙ length-settled _ ∙ locations-are targets sources cut (replicate (length sources) 0) (ownSets initial locations) ∙ length-own initial locations
+    made-length = ap length made-sets ∙ length-forward initial locations sources targets cut
 
     -- the front is read again
     pub made-room : locations ≤ length (sets ++ rest)
@@ -48,9 +51,10 @@ module _ {initial locations : ℕ} {sources targets cut : List ℕ} (d : Drawabl
     pub seen-length : length (take locations (sets ++ rest)) ≡ locations
     seen-length = ap length seen ∙ made-length
 
-    pub seen-sets : take locations (sets ++ rest) ≡ settled (flowOf targets sources cut (replicate (length sources) 0) (ownSets initial locations))
+    pub seen-sets : take locations (sets ++ rest) ≡ forwardSets initial locations sources targets cut
     seen-sets = seen ∙ made-sets
 
     -- every source is among them
     pub sources-seen : (i : ℕ) → i < length sources → getD sources i 0 < length (take locations (sets ++ rest))
-    sources-seen i h = omega (arith, seen-length, length-own initial locations, d .matching .from-below i (omega (arith, d .matching .froms)))
+    sources-seen i h =
+        omega (arith, seen-length, length-own initial locations, d .edges .from-below i (omega (arith, d .edges .froms)))

@@ -1,10 +1,9 @@
 pub mod Tested
 pub mod OwnSets
-pub mod Judging
 pub mod Lent
-pub mod Corollaries
-pub mod Largest
-pub mod Loading
-pub mod Fronts
-pub mod Handed
 pub mod Unreached
+pub mod Judging
+pub mod Held
+pub mod Reading
+pub mod Callers
+pub mod Corollaries

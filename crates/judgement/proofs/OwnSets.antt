@@ -9,8 +9,8 @@ use lib.Seq.{take-set-lt, length-take-le}
 use Rattle.lists.proofs.Zeros.{take-zeros}
 use Rattle.timer_set.specs.Members.{everyTimer}
 use Rattle.model.specs.Flow.{settled}
-use Rattle.flow.specs.Edges.{flowOf, Matching}
-use Rattle.judgement.specs.Drawn.{ownSets, Drawable}
+use Rattle.flow.specs.Edges.{flowOf, SafeEdges}
+use Rattle.judgement.specs.Forward.{ownSets, SafeForward, forwardSets}
 
 -- the array of them
 abbrev pub ownArray : ℕ → List ℕ
@@ -22,16 +22,18 @@ length-own initial n = length-set (replicate n 0) initial everyTimer ∙ length-
 pub length-empty : (n m : ℕ) → n ≤ m → _≡_ (length {A = ℕ} (take n (replicate m 0))) n
 length-empty n m h = length-take-le n (replicate m 0) (omega (arith, length-replicate {A = ℕ} m 0))
 
-module _ {initial locations : ℕ} {sources targets cut : List ℕ} (d : Drawable initial locations sources targets cut) where
+module _ {initial locations : ℕ} {sources targets cut : List ℕ} (d : SafeForward initial locations sources targets cut) where
   pub few-locations : locations ≤ 256
-  few-locations = omega (arith, d .matching .locations, length-own initial locations)
+  few-locations = omega (arith, d .edges .locations, length-own initial locations)
 
   pub own-room : locations ≤ length (ownArray initial)
   own-room = omega (arith, few-locations, length-set {A = ℕ} (replicate 256 0) initial 18446744073709551615, length-replicate {A = ℕ} 256 0)
 
   pub own-front : take locations (ownArray initial) ≡ ownSets initial locations
   unfolding everyTimer
-  own-front = take-set-lt locations (replicate 256 0) initial everyTimer (d .starts-inside) ∙ ap (λ (l : List ℕ). set l initial everyTimer) (take-zeros locations 256 few-locations)
+  own-front =
+      take-set-lt locations (replicate 256 0) initial everyTimer (d .inside)
+      ∙ ap (λ (l : List ℕ). set l initial everyTimer) (take-zeros locations 256 few-locations)
 
   -- what the fronts of the arrays are
   pub own-length : length (take locations (ownArray initial)) ≡ locations
@@ -39,9 +41,10 @@ module _ {initial locations : ℕ} {sources targets cut : List ℕ} (d : Drawabl
 
   -- nothing is gained
   module _ {gain : List ℕ} (none : gain ≡ replicate (length sources) 0) where
-    pub front-matching : Matching targets sources cut gain (take locations (ownArray initial))
-    front-matching = rw (none, own-front) (d .matching)
+    pub front-safe : SafeEdges targets sources cut gain (take locations (ownArray initial))
+    front-safe = rw (none, own-front) (d .edges)
 
     pub front-flow : {sets : List ℕ} → sets ≡ settled (flowOf targets sources cut gain (take locations (ownArray initial)))
-        → sets ≡ settled (flowOf targets sources cut (replicate (length sources) 0) (ownSets initial locations))
+        → sets ≡ forwardSets initial locations sources targets cut
+    unfolding forwardSets
     front-flow e = rw (none, own-front) at e

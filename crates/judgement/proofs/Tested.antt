@@ -10,13 +10,13 @@ use lib.Dec.{eqb}
 use lib.ListN.{length, getD, take, drop, set, length-drop, length-map}
 use lib.Seq.{length-take-le, take-length, take-suc, take-at, drop-at, drop-drop, getD-drop}
 use Rattle.timer_set.specs.Members.{added, common, setOf}
-use Rattle.lists.specs.Lists.{lowest, firstOf}
+use Rattle.lists.specs.Lists.{lowest, firstOf, sumOf}
 use Rattle.lists.proofs.Lowest.{lowest-is}
 use Rattle.model.specs.Chart.{Test, Transition}
 use Rattle.model.specs.Live.{testsSet, isEmpty}
 use Rattle.chart_lists.specs.Lists.{allTests, put}
 use Rattle.chart_lists.proofs.Put.{put-last}
-use Rattle.judgement.specs.Tested.{total, setsIn, TestsOf, testsIn}
+use Rattle.judgement.specs.Tested.{setsIn, testsAt}
 
 -- ---- one transition's tests
 
@@ -34,32 +34,32 @@ unfolding setsIn
 length-sets [] ts = refl
 length-sets (n ∷ ns) ts = ap suc (length-sets ns (drop n ts))
 
-total-last : (ns : List ℕ) (n : ℕ) → total (ns ++ (n ∷ [])) ≡ total ns + n
-unfolding total
-total-last [] n = omega arith
-total-last (m ∷ ns) n = rw (total-last ns n) (omega arith)
+sum-last : (ns : List ℕ) (n : ℕ) → sumOf (ns ++ (n ∷ [])) ≡ sumOf ns + n
+unfolding sumOf
+sum-last [] n = omega arith
+sum-last (m ∷ ns) n = rw (sum-last ns n) (omega arith)
 
-sets-last : (ns : List ℕ) (n : ℕ) (ts : List ℕ) → setsIn (ns ++ (n ∷ [])) ts ≡ setsIn ns ts ++ (setOf (take n (drop (total ns) ts)) ∷ [])
-unfolding setsIn total
+sets-last : (ns : List ℕ) (n : ℕ) (ts : List ℕ) → setsIn (ns ++ (n ∷ [])) ts ≡ setsIn ns ts ++ (setOf (take n (drop (sumOf ns) ts)) ∷ [])
+unfolding setsIn sumOf
 sets-last [] n ts = refl
-sets-last (m ∷ ns) n ts = rw (sets-last ns n (drop m ts), drop-drop (total ns) m ts)
+sets-last (m ∷ ns) n ts = rw (sets-last ns n (drop m ts), drop-drop (sumOf ns) m ts)
 
-total-take : (ns : List ℕ) (i : ℕ) → total (take i ns) ≤ total ns
-unfolding total
-total-take ns zero = omega arith
-total-take [] (suc i) = omega arith
-total-take (n ∷ ns) (suc i) = omega (arith, total-take ns i)
+sum-take : (ns : List ℕ) (i : ℕ) → sumOf (take i ns) ≤ sumOf ns
+unfolding sumOf
+sum-take ns zero = omega arith
+sum-take [] (suc i) = omega arith
+sum-take (n ∷ ns) (suc i) = omega (arith, sum-take ns i)
 
 module _ (ns ts : List ℕ) (i : ℕ) (h : i < length ns) where
-  pub total-more : {base : ℕ} → base ≡ total (take i ns) → base + getD ns i 0 ≡ total (take (i + 1) ns)
-  total-more e = rw (e, add-one i, take-suc ns i 0 h) (sym (total-last (take i ns) (getD ns i 0)))
+  pub sum-more : {base : ℕ} → base ≡ sumOf (take i ns) → base + getD ns i 0 ≡ sumOf (take (i + 1) ns)
+  sum-more e = rw (e, add-one i, take-suc ns i 0 h) (sym (sum-last (take i ns) (getD ns i 0)))
 
   -- so many timers are there
-  pub total-room : total (take i ns) + getD ns i 0 ≤ total ns
-  total-room = rw (total-more refl) (total-take ns (i + 1))
+  pub sum-room : sumOf (take i ns) + getD ns i 0 ≤ sumOf ns
+  sum-room = rw (sum-more refl) (sum-take ns (i + 1))
 
   -- the next transition's set is stored behind the others
-  pub sets-more : (l : List ℕ) {out : List ℕ} {base w : ℕ} → length ns ≤ length l → base ≡ total (take i ns) → out ≡ put (setsIn (take i ns) ts) l
+  pub sets-more : (l : List ℕ) {out : List ℕ} {base w : ℕ} → length ns ≤ length l → base ≡ sumOf (take i ns) → out ≡ put (setsIn (take i ns) ts) l
       → w ≡ setOf (take (getD ns i 0) (drop base ts)) → set out i w ≡ put (setsIn (take (i + 1) ns) ts) l
   sets-more l room b o v =
       let e : length (setsIn (take i ns) ts) ≡ i = length-sets (take i ns) ts ∙ length-take-le i ns (omega arith) in
@@ -74,18 +74,15 @@ sets-are (r ∷ rs) beyond =
     let e : length (map (λ (t : Test). t .timer) (r .tests)) ≡ length (r .tests) = length-map (r .tests) (λ (t : Test). t .timer) in
     rw (map-append, append-assoc, take-at _ _ _ e, drop-at _ _ _ e, sets-are rs beyond)
 
-pub tested-are : (rs : List Transition) (ns ts : List ℕ) → TestsOf rs ns ts → setsIn (take (length ns) ns) ts ≡ map testsSet rs
-tested-are rs ns ts t = rw (take-length, t .test-counts-are, t .timers-are) (sets-are rs (t .beyond))
-
 -- ---- the first transition that tests a timer of its source's set
 
--- the same by the lists
-abbrev pub testsAt : (sources tested sets : List ℕ) → ℕ → Bool
-testsAt sources tested sets i = not (isEmpty (common (getD tested i 0) (getD sets (getD sources i 0) 0)))
+-- the transition tests a timer of its source's set
+abbrev testsIn : List ℕ → Transition → Bool
+testsIn sets r = not (isEmpty (common (testsSet r) (getD sets (r .source) 0)))
 
 pub first-testing-is : (sets : List ℕ) (rs : List Transition)
     → lowest (testsAt (map (λ (r : Transition). r .source) rs) (map testsSet rs) sets) (length rs) ≡ firstOf (testsIn sets) rs
-unfolding lowest firstOf testsIn
+unfolding lowest firstOf
 first-testing-is sets [] = refl
 first-testing-is sets (r ∷ rs) = ap (λ (k : ℕ). elim (testsIn sets r) as (λ _. ℕ) [ true ↦ 0 | false ↦ suc k ]) (first-testing-is sets rs)
 
@@ -93,10 +90,3 @@ first-testing-is sets (r ∷ rs) = ap (λ (k : ℕ). elim (testsIn sets r) as (�
 pub test-says : (a b : ℕ) {w : ℕ} {r : Bool} → w ≡ common a b → r ≡ eqb w 0 → not (isEmpty (common a b)) ≡ not r
 unfolding isEmpty
 test-says a b e f = rw (f, e)
-
--- a place that passes, or is the number of transitions, and before which none passes, is the first
-pub first-testing-at : (sources tested sets : List ℕ) (m : ℕ) → m ≤ length sources → (m < length sources → testsAt sources tested sets m ≡ true)
-    → ((k : ℕ) → k < m → testsAt sources tested sets k ≡ false)
-    → (rs : List Transition) → sources ≡ map (λ (r : Transition). r .source) rs → tested ≡ map testsSet rs → m ≡ firstOf (testsIn sets) rs
-first-testing-at sources tested sets m l t b rs e f =
-    sym (lowest-is (testsAt sources tested sets) (length sources) m l t b) ∙ rw (e, f, length-map) (first-testing-is sets rs)

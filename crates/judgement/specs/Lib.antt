@@ -1,5 +1,5 @@
 pub mod Judging
 pub mod Tested
-pub mod Drawn
-pub mod Holds
+pub mod Forward
+pub mod Charts
 pub mod Refusals

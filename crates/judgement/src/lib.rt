@@ -1,31 +1,35 @@
-// The judgement that all calls share: reads a file into lent lists of the largest size and judges 1 to 10.
+// The judgement that all calls share: reads a file into lists of the largest size and judges 1 to 10.
 ghost use mathlib.Core.Path.{_≡_};
-ghost use mathlib.Core.List.{List, map};
 ghost use Prim.Native.Nat.{ℕ, _+_, _≤_, _<_};
 ghost use lib.ListN.{length, getD, take, drop, replicate};
 ghost use Rattle.timer_set.specs.Members.{setOf};
-ghost use Rattle.lists.specs.Lists.{lowest, firstOf};
-ghost use Rattle.model.specs.Chart.{Transition, Chart};
-ghost use Rattle.model.specs.Live.{testsSet, isEmpty, unstartedSets, firstUnreached};
-ghost use Rattle.model.specs.Flow.{settled};
-ghost use Rattle.flow.specs.Edges.{flowOf};
-ghost use Rattle.chart_lists.specs.Lists.{lists, put};
+ghost use Rattle.lists.specs.Lists.{lowest};
+ghost use Rattle.model.specs.Answer.{result};
+ghost use Rattle.model.specs.Chart.{Chart};
+ghost use Rattle.model.specs.Live.{testedSets};
+ghost use Rattle.chart_lists.specs.Lists.{put};
 ghost use Rattle.chart_lists.specs.Header.{headerOf};
-ghost use Rattle.file_format.specs.File.{chartIn};
+ghost use Rattle.chart_lists.specs.Begins.{Begins};
+ghost use Rattle.chart_lists.specs.Holds.{Holds};
+ghost use Rattle.chart_lists.specs.Lent.{passed, atExit};
+ghost use Rattle.chart_lists.specs.Limits.{mostTransitions};
 ghost use Rattle.chart_lists.specs.Read.{readAs};
-ghost use Rattle.reader.specs.Reading.{listsAfter};
-ghost use Rattle.judgement.specs.Judging.{judgedHeader, headerJudged, largest, testedAfter, Cleared};
-ghost use Rattle.judgement.specs.Drawn.{Drawable, Drawn, ownSets};
-ghost use Rattle.judgement.specs.Holds.{Holds};
-ghost use Rattle.judgement.specs.Tested.{TimersFor, TestsOf, testsIn};
+ghost use Rattle.file_format.specs.File.{chartIn};
+ghost use Rattle.filling.specs.Filling.{LargestLists};
+ghost use Rattle.judgement.specs.Judging.{judgedHeader, headerJudged};
+ghost use Rattle.judgement.specs.Tested.{TimersFor, setsIn, testsAt};
+ghost use Rattle.judgement.specs.Forward.{SafeForward, forwardSets, firstEmpty, unreachedIn, judgedLists};
+ghost use Rattle.judgement.specs.Charts.{HoldsTransitions};
 use chart_lists::Header;
+use chart_lists::MOST_LOCATIONS;
+use chart_lists::MOST_TRANSITIONS;
 use chart_lists::Read;
 use refusal::Refusal;
 use timer_set::TimerSet;
 
 // The set of so many timers from the entry base on.
 fn set_of(timers: &[u8], base: usize, count: u8) -> u64
-    requires { ⌜ (base + count ≤ length (now timers)) × ((i : ℕ) → getD (now timers) i 0 < 64) ⌝ }
+    requires { ⌜ (base + count ≤ length (now timers)) × ((i : ℕ) → i < base + count → getD (now timers) i 0 < 64) ⌝ }
     ensures { λ r. ⌜ r ≡ setOf (take count (drop base (now (timers .entry)))) ⌝ }
 {
     let mut set = TimerSet::EMPTY;
@@ -40,7 +44,7 @@ fn set_of(timers: &[u8], base: usize, count: u8) -> u64
 // The set of the timers that each transition tests, over the front of `tested`.
 fn tested_sets(test_counts: &[u8], timers: &[u8], tested: &mut [u64])
     requires { ⌜ TimersFor (now «test_counts») (now timers) × (length (now «test_counts») ≤ length (now tested)) ⌝ }
-    ensures { λ _. ⌜ ((rs : List Transition) → TestsOf rs (now («test_counts» .entry)) (now (timers .entry)) → now (tested .exit) ≡ put (map testsSet rs) (now (tested .entry))) ⌝ }
+    ensures { λ _. ⌜ now (tested .exit) ≡ put (setsIn (now («test_counts» .entry)) (now (timers .entry))) (now (tested .entry)) ⌝ }
 {
     let n = test_counts.len();
     let mut base: usize = 0;
@@ -55,7 +59,7 @@ fn tested_sets(test_counts: &[u8], timers: &[u8], tested: &mut [u64])
 
 // The first set that is empty, or their number.
 fn first_empty(sets: &[u64]) -> usize
-    ensures { λ r. ⌜ r ≡ lowest (λ q. isEmpty (getD (now (sets .entry)) q 0)) (length (now (sets .entry))) ⌝ }
+    ensures { λ r. ⌜ r ≡ firstEmpty (now (sets .entry)) ⌝ }
 {
     let n = sets.len();
     let mut q: usize = 0;
@@ -71,9 +75,9 @@ fn first_empty(sets: &[u64]) -> usize
 
 // The first transition that tests a timer of its source's set, or their number.
 fn first_testing(sources: &[u16], tested: &[u64], sets: &[u64]) -> usize
-    requires { ⌜ (length (now tested) ≡ length (now sources)) × ((i : ℕ) → i < length (now sources) → getD (now sources) i 0 < length (now sets)) ⌝ }
-    ensures { λ r. ⌜ ((rs : List Transition) → now (sources .entry) ≡ map (λ (r : Transition). r .source) rs → now (tested .entry) ≡ map testsSet rs
-        → r ≡ firstOf (testsIn (now (sets .entry))) rs) ⌝ }
+    requires { ⌜ (length (now tested) ≡ length (now sources))
+        × ((i : ℕ) → i < length (now sources) → getD (now sources) i 0 < length (now sets)) ⌝ }
+    ensures { λ r. ⌜ r ≡ lowest (testsAt (now (sources .entry)) (now (tested .entry)) (now (sets .entry))) (length (now (sources .entry))) ⌝ }
 {
     let n = sources.len();
     let mut i: usize = 0;
@@ -97,10 +101,12 @@ fn forward<'a>(
     initial: usize,
     sets: &mut [u64],
 )
-    requires { ⌜ Drawable initial (length (now sets)) (now sources) (now targets) (now cut) × (now gain ≡ replicate (length (now sources)) 0) ⌝ }
-    ensures { λ _. ⌜ now (sets .exit) ≡ settled (flowOf (now (targets .entry)) (now (sources .entry)) (now (cut .entry)) (replicate (length (now (sources .entry))) 0) (ownSets initial (length (now (sets .entry))))) ⌝ }
+    requires { ⌜ SafeForward initial (length (now sets)) (now sources) (now targets) (now cut)
+        × (now gain ≡ replicate (length (now sources)) 0) ⌝ }
+    ensures { λ _. ⌜ now (sets .exit)
+        ≡ forwardSets initial (length (now (sets .entry))) (now (sources .entry)) (now (targets .entry)) (now (cut .entry)) ⌝ }
 {
-    let mut own = [0u64; 256];
+    let mut own = [0u64; MOST_LOCATIONS];
     own[initial] = TimerSet::EVERY.bits;
     let m = sets.len();
     flow::settle_in_place(targets, sources, cut, gain, &own[..m], sets);
@@ -112,39 +118,40 @@ fn first_unreached<'a>(
     sources: &'a [u16],
     targets: &'a [u16],
     zeros: &'a [u64],
-    unstarted: &'a [u64],
+    sets: &'a [u64],
     timers: u8,
     initial: usize,
 ) -> usize
-    requires { ⌜ Drawable initial (length (now unstarted)) (now sources) (now targets) (now zeros) × (now zeros ≡ replicate (length (now sources)) 0) ⌝ }
-    ensures { λ r. ⌜ ((c : Chart) (starts tested : List ℕ) → Drawn c initial (length (now (unstarted .entry))) (now (sources .entry)) (now (targets .entry)) starts tested → timers ≡ c .timers
-        → now (unstarted .entry) ≡ unstartedSets c → r ≡ firstUnreached c) ⌝ }
+    requires { ⌜ SafeForward initial (length (now sets)) (now sources) (now targets) (now zeros)
+        × (now zeros ≡ replicate (length (now sources)) 0) ⌝ }
+    ensures { λ r. ⌜ r ≡ unreachedIn timers initial (now (sources .entry)) (now (targets .entry)) (now (sets .entry)) ⌝ }
 {
     if timers < 64 {
-        return first_empty(unstarted);
+        return first_empty(sets);
     }
-    let n = unstarted.len();
-    let mut sets = [0u64; 256];
-    forward(sources, targets, zeros, zeros, initial, &mut sets[..n]);
-    first_empty(&sets[..n])
+    let n = sets.len();
+    let mut reached = [0u64; MOST_LOCATIONS];
+    forward(sources, targets, zeros, zeros, initial, &mut reached[..n]);
+    first_empty(&reached[..n])
 }
 
-// 9, then 10, else the chart's numbers.
+// 9, then 10, else the chart's header.
 fn judge_lists<'a>(
     sources: &'a [u16],
     targets: &'a [u16],
     starts: &'a [u64],
     tested: &'a [u64],
-    numbers: Header,
+    header: Header,
 ) -> Read
-    requires { ⌜ Drawable (numbers .initial) (numbers .locations) (now sources) (now targets) (now starts) × (length (now tested) ≡ length (now sources)) ⌝ }
-    ensures { λ r. ⌜ ((c : Chart) → Drawn c (numbers .initial) (numbers .locations) (now (sources .entry)) (now (targets .entry)) (now (starts .entry)) (now (tested .entry)) → numbers ≡ headerOf c → readAs r ≡ headerJudged c) ⌝ }
+    requires { ⌜ SafeForward (header .initial) (header .locations) (now sources) (now targets) (now starts)
+        × (length (now tested) ≡ length (now sources)) ⌝ }
+    ensures { λ r. ⌜ readAs r ≡ judgedLists header (now (sources .entry)) (now (targets .entry)) (now (starts .entry)) (now (tested .entry)) ⌝ }
 {
-    let initial = numbers.initial as usize;
-    let m = numbers.locations as usize;
+    let initial = header.initial as usize;
+    let m = header.locations as usize;
     let n = sources.len();
-    let zeros = [0u64; 512];
-    let mut sets = [0u64; 256];
+    let zeros = [0u64; MOST_TRANSITIONS];
+    let mut sets = [0u64; MOST_LOCATIONS];
     forward(
         sources,
         targets,
@@ -153,28 +160,28 @@ fn judge_lists<'a>(
         initial,
         &mut sets[..m],
     );
-    let lost = first_unreached(
+    let unreached = first_unreached(
         sources,
         targets,
         &zeros[..n],
         &sets[..m],
-        numbers.timers,
+        header.timers,
         initial,
     );
-    if lost < m {
+    if unreached < m {
         return Read::Refused(Refusal {
             number: 9,
-            place: lost as u64,
+            place: unreached as u64,
         });
     }
-    let early = first_testing(sources, tested, &sets[..m]);
-    if early < n {
+    let unstarted = first_testing(sources, tested, &sets[..m]);
+    if unstarted < n {
         return Read::Refused(Refusal {
             number: 10,
-            place: early as u64,
+            place: unstarted as u64,
         });
     }
-    Read::Chart(numbers)
+    Read::Chart(header)
 }
 
 // The tested sets of a chart that was read, then 9 and 10.
@@ -184,25 +191,32 @@ fn judge_chart<'a>(
     starts: &'a [u64],
     test_counts: &'a [u8],
     timers: &'a [u8],
-    numbers: Header,
+    header: Header,
     tested: &mut [u64],
 ) -> Read
-    requires { ⌜ ((bs : List ℕ) × Holds bs numbers (now sources) (now targets) (now starts) (now «test_counts») (now timers)) × (now tested ≡ replicate 512 0) ⌝ }
-    ensures answer { λ r. ⌜ ((bs : List ℕ) → Holds bs numbers (now (sources .entry)) (now (targets .entry)) (now (starts .entry)) (now («test_counts» .entry)) (now (timers .entry)) → readAs r ≡ judgedHeader bs) ⌝ }
-    ensures tested { λ _. ⌜ ((bs : List ℕ) → Holds bs numbers (now (sources .entry)) (now (targets .entry)) (now (starts .entry)) (now («test_counts» .entry)) (now (timers .entry)) → now (tested .exit) ≡ testedAfter (chartIn bs)) ⌝ }
+    requires { ⌜ ((c : Chart) × (header ≡ headerOf c)
+        × HoldsTransitions c (now sources) (now targets) (now starts) (now «test_counts») (now timers))
+        × (mostTransitions ≤ length (now tested)) ⌝ }
+    ensures answer { λ r. ⌜ ((c : Chart) → header ≡ headerOf c
+        → HoldsTransitions c (now (sources .entry)) (now (targets .entry)) (now (starts .entry)) (now («test_counts» .entry)) (now (timers .entry))
+        → readAs r ≡ headerJudged c) ⌝ }
+    ensures tested { λ _. ⌜ ((c : Chart) → header ≡ headerOf c
+        → HoldsTransitions c (now (sources .entry)) (now (targets .entry)) (now (starts .entry)) (now («test_counts» .entry)) (now (timers .entry))
+        → Begins (testedSets c) (now (tested .exit))) ⌝ }
 {
-    let n = numbers.transitions as usize;
+    let n = header.transitions as usize;
     tested_sets(&test_counts[..n], timers, tested);
     judge_lists(
         &sources[..n],
         &targets[..n],
         &starts[..n],
         &tested[..n],
-        numbers,
+        header,
     )
 }
 
-// The judgement that all calls share: 1 to 8, then 9, then 10. A file that holds a chart leaves its lists and its tested sets, whatever the answer.
+// The judgement that all calls share: 1 to 8, then 9, then 10. A file that holds a chart leaves its lists and its tested sets, whatever the answer;
+// a file that holds none leaves in them what it may.
 pub fn judge(
     file: &[u8],
     accepting: &mut [u16],
@@ -216,12 +230,14 @@ pub fn judge(
     constants: &mut [u16],
     tested: &mut [u64],
 ) -> Read
-    requires { ⌜ Cleared (lists (now accepting) (now sources) (now targets) (now events) (now starts) (now «test_counts») (now timers) (now codes) (now constants)) (now tested) ⌝ }
+    requires { ⌜ LargestLists (passed accepting sources targets events starts «test_counts» timers codes constants)
+        × (mostTransitions ≤ length (now tested)) ⌝ }
     ensures answer { λ r. ⌜ readAs r ≡ judgedHeader (now (file .entry)) ⌝ }
-    ensures lists { λ _. ⌜ lists (now (accepting .exit)) (now (sources .exit)) (now (targets .exit)) (now (events .exit)) (now (starts .exit)) (now («test_counts» .exit)) (now (timers .exit)) (now (codes .exit)) (now (constants .exit)) ≡ listsAfter (chartIn (now (file .entry))) largest ⌝ }
-    ensures tested { λ _. ⌜ now (tested .exit) ≡ testedAfter (chartIn (now (file .entry))) ⌝ }
+    ensures lists { λ _. ⌜ ((c : Chart) → chartIn (now (file .entry)) ≡ result c
+        → Holds c (atExit accepting sources targets events starts «test_counts» timers codes constants)) ⌝ }
+    ensures tested { λ _. ⌜ ((c : Chart) → chartIn (now (file .entry)) ≡ result c → Begins (testedSets c) (now (tested .exit))) ⌝ }
 {
-    let answer = reader::read_chart(
+    let answer = filling::fill(
         file,
         accepting,
         sources,
@@ -233,7 +249,7 @@ pub fn judge(
         codes,
         constants,
     );
-    let Read::Chart(numbers) = answer else {
+    let Read::Chart(header) = answer else {
         return answer;
     };
     judge_chart(
@@ -242,7 +258,7 @@ pub fn judge(
         starts,
         test_counts,
         timers,
-        numbers,
+        header,
         tested,
     )
 }

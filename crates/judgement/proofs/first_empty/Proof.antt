@@ -7,6 +7,7 @@ use borrow.Author.Needs.{needs}
 use borrow.Author.Count.{below-more, below-none}
 use lib.ListN.{length, getD}
 use Rattle.model.specs.Live.{isEmpty}
+use Rattle.judgement.specs.Forward.{firstEmpty}
 use Rattle.lists.proofs.Lowest.{lowest-is}
 use Rattle.judgement.proofs.first_empty.Statement.{statement}
 use Rattle.judgement.proofs.first_empty.Tie as tie
@@ -30,7 +31,7 @@ is-empty-requires : tie.Need-is-empty-requires Inv-loop μ-loop
 is-empty-requires c κs = search needs
 
 returns : tie.Need-returns Inv-loop μ-loop
-unfolding isEmpty
+unfolding isEmpty firstEmpty
 returns c =
     let l = c .before .before .before .before .loop in
     sym (lowest-is _ _ (l .q) (l .inv .0) (λ h. sym (c .before .is-empty .ensures) ∙ c .if1 .taken) (l .inv .2))
@@ -48,6 +49,7 @@ loop-again c =
     (omega arith, refl, below-more _ (l .q) (l .inv .2) (sym (c .before .is-empty .ensures) ∙ c .if1 .left))
 
 returns-2 : tie.Need-returns-2 Inv-loop μ-loop
+unfolding firstEmpty
 returns-2 c =
     let l = c .before .loop in
     sym (lowest-is _ _ _ (omega arith) (λ h. absurd (omega arith)) (λ k h. l .inv .2 k (omega arith)))

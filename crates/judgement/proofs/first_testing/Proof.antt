@@ -1,12 +1,14 @@
 -- `first_testing` returns the lowest transition that tests a timer of its source's set: none before it does. Assumes nothing.
-use mathlib.Core.Path.{_≡_, refl, _∙_}
+use mathlib.Core.Path.{_≡_, refl, sym, _∙_}
 use mathlib.Core.Bool.{false}
 use Prim.Native.Nat.{ℕ, _-_, _≤_, _<_}
 use native.Mathlib.Omega.{arith}
 use borrow.Author.Needs.{needs}
 use borrow.Author.Count.{below-more, below-none}
 use lib.ListN.{length, getD}
-use Rattle.judgement.proofs.Tested.{testsAt, test-says, first-testing-at}
+use Rattle.lists.proofs.Lowest.{lowest-is}
+use Rattle.judgement.specs.Tested.{testsAt}
+use Rattle.judgement.proofs.Tested.{test-says}
 use Rattle.judgement.proofs.first_testing.Statement.{statement}
 use Rattle.judgement.proofs.first_testing.Tie as tie
 
@@ -53,7 +55,8 @@ is-empty-requires c κs = search needs
 returns : tie.Need-returns Inv-loop μ-loop
 returns c =
     let l = c .before .before .before .before .before .before .before .loop in
-    first-testing-at _ _ _ (l .i) (l .inv .0) (λ h. test-says _ _ (c .before .before .common .ensures) (c .before .is-empty .ensures) ∙ c .if1 .taken) (l .inv .2)
+    let says = test-says _ _ (c .before .before .common .ensures) (c .before .is-empty .ensures) in
+    sym (lowest-is _ _ (l .i) (l .inv .0) (λ h. says ∙ c .if1 .taken) (l .inv .2))
 
 add-i : tie.Need-add-i Inv-loop μ-loop
 add-i c = search needs
@@ -64,12 +67,13 @@ loop-less c = search needs
 loop-again : tie.Need-loop-again Inv-loop μ-loop
 loop-again c =
     let l = c .before .before .before .before .before .before .before .loop in
-    (omega arith, refl, below-more _ (l .i) (l .inv .2) (test-says _ _ (c .before .before .common .ensures) (c .before .is-empty .ensures) ∙ c .if1 .left))
+    let says = test-says _ _ (c .before .before .common .ensures) (c .before .is-empty .ensures) in
+    (omega arith, refl, below-more _ (l .i) (l .inv .2) (says ∙ c .if1 .left))
 
 returns-2 : tie.Need-returns-2 Inv-loop μ-loop
 returns-2 c =
     let l = c .before .loop in
-    first-testing-at _ _ _ _ (omega arith) (λ h. absurd (omega arith)) (λ k h. l .inv .2 k (omega arith))
+    sym (lowest-is _ _ _ (omega arith) (λ h. absurd (omega arith)) (λ k h. l .inv .2 k (omega arith)))
 
 pub first-testing-spec : {M : Type 1} → statement M
 first-testing-spec =

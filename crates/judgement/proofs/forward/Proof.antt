@@ -1,7 +1,7 @@
 -- `forward` lends the sweeps nothing gained, and all timers at the initial location. Assumes nothing.
 use mathlib.Core.Path.{sym}
 use native.Mathlib.Omega.{arith}
-use Rattle.judgement.proofs.OwnSets.{own-room, few-locations, own-length, front-matching, front-flow}
+use Rattle.judgement.proofs.OwnSets.{own-room, few-locations, own-length, front-safe, front-flow}
 use borrow.Author.Needs.{needs}
 use Rattle.judgement.proofs.forward.Statement.{statement}
 use Rattle.judgement.proofs.forward.Tie as tie
@@ -19,7 +19,7 @@ slice-aggregate-settle-in-place : tie.Need-slice-aggregate-settle-in-place
 slice-aggregate-settle-in-place c = sym (own-length (c .before .before .before .before .before .before .pre .0))
 
 settle-in-place-requires : tie.Need-settle-in-place-requires
-settle-in-place-requires c κs = let p = c .before .before .before .before .before .before .before .pre in (front-matching (p .0) (p .1), sym (own-length (p .0)))
+settle-in-place-requires c κs = let p = c .before .before .before .before .before .before .before .pre in (front-safe (p .0) (p .1), sym (own-length (p .0)))
 
 same-length : tie.Need-same-length
 same-length c = search needs

@@ -1,53 +1,84 @@
--- `judge`: a refusal of the file stands; of a chart that is read 9 and 10 are judged. Assumes nothing.
+-- `judge`: a refusal of the file stands, and there is no chart then; of a chart that is read 9 and 10 are judged. Assumes nothing.
 use mathlib.Core.Path.{_≡_, sym, ap, _∙_}
 use mathlib.Core.List.{List}
 use Prim.Native.Nat.{ℕ}
 use denote.Ref.{now}
-use Rattle.file_format.specs.File.{chartIn}
-use Rattle.chart_lists.specs.Lists.{lists}
-use Rattle.chart_lists.specs.Read.{readAs}
-use Rattle.reader.specs.Reading.{listsAfter}
-use Rattle.judgement.specs.Judging.{headerRead, largest}
-use Rattle.judgement.specs.Holds.{Holds}
-use Rattle.file_format.specs.Parse.{Bytes}
-use Rattle.judgement.proofs.Loading.{bytes-are, loaded-answer, loaded-lists}
-use Rattle.judgement.proofs.Fronts.{holds, refused-answer, refused-tested}
 use borrow.Author.Needs.{needs}
+use Rattle.model.specs.Answer.{result}
+use Rattle.model.specs.Chart.{Chart}
+use Rattle.chart_lists.specs.Lists.{Lists, lists}
+use Rattle.chart_lists.specs.Holds.{Holds}
+use Rattle.chart_lists.specs.Read.{readAs}
+use Rattle.chart_lists.proofs.Holds.{holds-put}
+use Rattle.file_format.specs.File.{chartIn}
+use Rattle.file_format.specs.Parse.{Bytes}
+use Rattle.file_format.proofs.File.{reads-valid}
+use Rattle.filling.specs.Filling.{headerRead}
+use Rattle.filling.specs.Filling.RoomToFill.{for-every}
+use Rattle.judgement.proofs.Held.{holds-transitions}
+use Rattle.judgement.proofs.Reading.{bytes-are, header-read, chart-read, judged-read, refused-judged, refused-none}
 use Rattle.judgement.proofs.judge.Statement.{statement}
 use Rattle.judgement.proofs.judge.Tie as tie
 
--- where the file is read
-abbrev Loaded : Type 0
-Loaded = tie.After-read-chart
+-- ---- from the call of `fill` back to the start
 
-abbrev start : Loaded → tie.Start
-start c = c .before .before .before .before .before .before .before .before .before .before .before .before .before .before .before .before .before .before .before .before .before
+abbrev lent : tie.After-fill-arg9 → tie.After-slice-known10
+lent c = c .before .before .before .before .before .before .before .before .before
 
-abbrev file : Loaded → List ℕ
-file c = now (start c .args .file)
+abbrev known : tie.After-fill-arg9 → tie.After-shared-slice-known
+known c = let d = lent c .before .before .before .before .before in d .before .before .before .before .before
 
-bytes : (c : Loaded) → Bytes (file c)
-bytes c = bytes-are (file c) (λ i. c .before .before .before .before .before .before .before .before .before .before .before .before .before .before .before .before .before .before .before .before .shared-slice-known .given i .fits)
+abbrev start : tie.After-fill-arg9 → tie.Start
+start c = known c .before
 
-answer-is : (c : Loaded) → readAs (c .read-chart .result) ≡ headerRead (file c)
-answer-is c = loaded-answer (start c .pre) (file c) (bytes c) (c .read-chart .ensures .0)
+abbrev file : tie.After-fill → List ℕ
+file f = now (start (f .before) .args .file)
 
-lists-are : (c : Loaded) → let l = c .read-chart .last in
-    lists (l .1 .0) (l .1 .1 .0) (l .1 .1 .1 .0) (l .1 .1 .1 .1 .0) (l .1 .1 .1 .1 .1 .0) (l .1 .1 .1 .1 .1 .1 .0) (l .1 .1 .1 .1 .1 .1 .1 .0) (l .1 .1 .1 .1 .1 .1 .1 .1 .0) (l .1 .1 .1 .1 .1 .1 .1 .1 .1 .0) ≡ listsAfter (chartIn (file c)) largest
-lists-are c = loaded-lists (start c .pre) (file c) (bytes c) (c .read-chart .ensures .1)
+bytes : (f : tie.After-fill) → Bytes (file f)
+bytes f = bytes-are (file f) (λ i. known (f .before) .shared-slice-known .given i .fits)
 
--- where the answer is known to be a chart
-abbrev loaded : tie.After-answer → Loaded
-loaded c = c .before .before .before .before .before .before .before .before .before .before .before .before .before .before .before .before .before .before .before .before
+-- the lists, before and after
+abbrev before : tie.After-fill → Lists
+before f =
+    let a = start (f .before) .args in
+    lists (now (a .accepting)) (now (a .sources)) (now (a .targets)) (now (a .events)) (now (a .starts)) (now (a .test-counts)) (now (a .timers))
+    (now (a .codes)) (now (a .constants))
 
-held : (c : tie.After-answer) → let l = loaded c .read-chart .last in
-    Holds (file (loaded c)) (c .answer .given .0 .0) (l .1 .1 .0) (l .1 .1 .1 .0) (l .1 .1 .1 .1 .1 .0) (l .1 .1 .1 .1 .1 .1 .0) (l .1 .1 .1 .1 .1 .1 .1 .0)
-held c =
-    let r = loaded c in
-    holds (file r) (bytes r) _ _ _ _ _ _ _ _ _ (sym (ap readAs (c .answer .given .1)) ∙ answer-is r) (lists-are r)
+abbrev after : tie.After-fill → Lists
+after f = let l = f .fill .last .1 in let k = l .1 .1 .1 .1 in
+    lists (l .0) (l .1 .0) (l .1 .1 .0) (l .1 .1 .1 .0) (k .0) (k .1 .0) (k .1 .1 .0) (k .1 .1 .1 .0) (k .1 .1 .1 .1 .0)
 
-read-chart-requires : tie.Need-read-chart-requires
-read-chart-requires c κs = search needs
+held : (f : tie.After-fill) (c : Chart) → chartIn (file f) ≡ result c → Holds c (after f)
+held f c q = holds-put (reads-valid (file f) c (bytes f) q) (before f) (f .fill .ensures .1 c q)
+
+-- ---- from where all lists are back to the call of `fill`
+
+abbrev at17 : tie.After-slice-known19 → tie.After-slice-known17
+at17 d = d .before .before .before .before
+
+abbrev at15 : tie.After-slice-known19 → tie.After-slice-known15
+at15 d = at17 d .before .before .before .before
+
+abbrev at13 : tie.After-slice-known19 → tie.After-slice-known13
+at13 d = at15 d .before .before .before .before
+
+abbrev at11 : tie.After-slice-known19 → tie.After-slice-known11
+at11 d = at13 d .before .before .before .before
+
+abbrev filled : tie.After-slice-known19 → tie.After-fill
+filled d = at11 d .before .before
+
+-- where the answer is known to be a chart's header
+abbrev loaded : tie.After-answer → tie.After-fill
+loaded c = filled (c .before .before)
+
+read : (c : tie.After-answer) → result (c .answer .given .0 .0) ≡ headerRead (file (loaded c))
+read c = sym (ap readAs (c .answer .given .1)) ∙ loaded c .fill .ensures .0
+
+-- ----
+
+fill-requires : tie.Need-fill-requires
+fill-requires c κs = for-every (start c .pre .0)
 
 enum-known-answer : tie.Need-enum-known-answer
 enum-known-answer c = search needs
@@ -84,12 +115,17 @@ same-length-9 c = search needs
 
 returns : tie.Need-returns
 returns c =
-    let r = c .before .before .before .before .before .before .before .before .before .before .before .before .before .before .before .before .before .before .before .before in
-    let e = sym (ap readAs (c .enum-told .given .1)) ∙ answer-is r in
-    (ap readAs (c .enum-told .given .1) ∙ refused-answer _ e, (lists-are r, refused-tested _ e (start r .pre .tested-are)))
+    let f = filled (c .before .before) in
+    let e = sym (ap readAs (c .enum-told .given .1)) ∙ f .fill .ensures .0 in
+    let none = refused-none (file f) e in
+    (ap readAs (c .enum-told .given .1) ∙ refused-judged (file f) e, ((λ x q. absurd (none x q)), (λ x q. absurd (none x q))))
 
 judge-chart-requires : tie.Need-judge-chart-requires
-judge-chart-requires c κs = let f = c .before .before .before .before .before .before .before in ((file (loaded f), held f), start (loaded f) .pre .tested-are)
+judge-chart-requires c κs =
+    let k = c .before .before .before .before .before .before .before in
+    let f = loaded k in
+    let x = chart-read (file f) (read k) in
+    ((x .0, header-read (file f) (read k) (x .1), holds-transitions (held f (x .0) (x .1))), start (f .before) .pre .1)
 
 same-length-10 : tie.Need-same-length-10
 same-length-10 c = search needs
@@ -123,15 +159,20 @@ same-length-19 c = search needs
 
 returns-2 : tie.Need-returns-2
 returns-2 c =
-    let f = c .before .before .before .before .before .before .before .before .before .before in
-    let x = c .before .before .judge-chart .ensures in
-    (x .0 _ (held f), (lists-are (loaded f), x .1 _ (held f)))
+    let j = c .before .before in
+    let k = j .before .before .before .before .before .before .before .before in
+    let f = loaded k in
+    let x = chart-read (file f) (read k) in
+    let u = j .judge-chart .ensures in (
+      judged-read (file f) (x .1) (u .0 (x .0) (header-read (file f) (read k) (x .1)) (holds-transitions (held f (x .0) (x .1)))),
+      (held f, (λ y q. u .1 y (header-read (file f) (read k) q) (holds-transitions (held f y q)))),
+    )
 
 pub judge-spec : {M : Type 1} → statement M
 judge-spec =
     tie.close
     (tie.spec
-    read-chart-requires
+    fill-requires
     enum-known-answer
     enum-told
     same-length

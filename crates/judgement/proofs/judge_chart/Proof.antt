@@ -1,69 +1,86 @@
 -- `judge_chart`: the lists' fronts are the chart's, so are the sets that are made, and 9 and 10 are judged of them. Assumes nothing.
-use mathlib.Core.Path.{_≡_, sym, ap}
-use mathlib.Core.List.{List, map}
+use mathlib.Core.Path.{_≡_}
+use mathlib.Core.List.{List}
 use Prim.Native.Nat.{ℕ}
 use native.Mathlib.Omega.{arith}
-use lib.ListN.{length, replicate, length-replicate}
-use Rattle.model.specs.Live.{testsSet}
-use Rattle.chart_lists.specs.Lists.{put}
-use Rattle.judgement.specs.Holds.{Holds}
-use Rattle.judgement.proofs.Fronts.{few, lent-room, lent-part, tests-of, timers-for, drawn, drawable, same-parts, tested-after, judged-after}
 use borrow.Author.Needs.{needs}
+use Rattle.model.specs.Chart.{Chart}
+use Rattle.chart_lists.specs.Header.{headerOf}
+use Rattle.judgement.specs.Charts.{HoldsTransitions}
+use Rattle.judgement.proofs.Held.{few, sources-part, targets-part, starts-part, test-counts-part, timers-for}
+use Rattle.judgement.proofs.Held.{tested-begins, tested-room, tested-part, lent-safe, same-parts, judged-lent}
 use Rattle.judgement.proofs.judge_chart.Statement.{statement}
 use Rattle.judgement.proofs.judge_chart.Tie as tie
 
+-- ---- places, and what is known there
+
+abbrev given : tie.After-tested-sets-arg → tie.Start
+given c = c .before .before .before .before .before .before .before .before
+
 -- after the tested sets
-abbrev Made : Type 0
-Made = tie.After-tested-sets
+abbrev start : tie.After-tested-sets → tie.Start
+start m = given (m .before .before)
 
-abbrev start : Made → tie.Start
-start c = c .before .before .before .before .before .before .before .before .before .before
+abbrev chart : tie.Start → Chart
+chart s = s .pre .0 .0
 
-abbrev HoldsIn : Made → List ℕ → Type 0
-HoldsIn c bs = let a = start c .args in Holds bs (a .numbers) (a .sources .now) (a .targets .now) (a .starts .now) (a .test-counts .now) (a .timers .now)
+header-is : (s : tie.Start) → s .args .header ≡ headerOf (chart s)
+header-is s = s .pre .0 .1
 
-tested-is : (c : Made) (bs : List ℕ) (h : HoldsIn c bs) → c .tested-sets .last .1 .1 .0 ≡ put (map testsSet (h .chart .transitions)) (replicate 512 0)
-tested-is c bs h = rw (start c .pre .1) at (c .tested-sets .ensures (h .chart .transitions) (tests-of h))
+held : (s : tie.Start) → let a = s .args in
+    HoldsTransitions (chart s) (a .sources .now) (a .targets .now) (a .starts .now) (a .test-counts .now) (a .timers .now)
+held s = s .pre .0 .2
+
+-- ----
 
 cast-n : tie.Need-cast-n
 cast-n c = search needs
 
 slice-aggregate-tested-sets : tie.Need-slice-aggregate-tested-sets
-slice-aggregate-tested-sets c = let h = c .before .before .before .before .before .before .before .before .pre .0 .1 in sym (lent-part h _ (h .test-counts-are))
+slice-aggregate-tested-sets c = let s = given c in test-counts-part (header-is s) (held s)
 
 tested-sets-requires : tie.Need-tested-sets-requires
 tested-sets-requires c κs =
-    let p = c .before .before .before .before .before .before .before .before .before .pre in
-    let h = p .0 .1 in
-    (timers-for h, omega (arith, few h, lent-part h _ (h .test-counts-are), ap length (p .1), length-replicate {A = ℕ} 512 0))
+    let s = given (c .before) in
+    let e = header-is s in
+    let h = held s in
+    (timers-for e h, omega (arith, few e h, test-counts-part e h, s .pre .1))
 
 slice-aggregate-judge-lists : tie.Need-slice-aggregate-judge-lists
-slice-aggregate-judge-lists c = let h = c .before .before .before .before .before .before .before .before .before .before .before .before .before .pre .0 .1 in sym (lent-part h _ (h .sources-are))
+slice-aggregate-judge-lists c = let s = start (c .before .before .before) in sources-part (header-is s) (held s)
 
 slice-aggregate-judge-lists-2 : tie.Need-slice-aggregate-judge-lists-2
-slice-aggregate-judge-lists-2 c = let h = c .before .before .before .before .before .before .before .before .before .before .before .before .before .before .pre .0 .1 in sym (lent-part h _ (h .targets-are))
+slice-aggregate-judge-lists-2 c = let s = start (c .before .before .before .before) in targets-part (header-is s) (held s)
 
 slice-aggregate-judge-lists-3 : tie.Need-slice-aggregate-judge-lists-3
-slice-aggregate-judge-lists-3 c = let h = c .before .before .before .before .before .before .before .before .before .before .before .before .before .before .before .pre .0 .1 in sym (lent-part h _ (h .starts-are))
+slice-aggregate-judge-lists-3 c = let s = start (c .before .before .before .before .before) in starts-part (header-is s) (held s)
 
 slice-reshare-prefix-judge-lists : tie.Need-slice-reshare-prefix-judge-lists
-slice-reshare-prefix-judge-lists c = let h = c .before .before .before .before .before .before .before .before .before .before .before .before .before .before .before .pre .0 .1 in lent-room h _ (tested-is (c .before .before .before .before .before) _ h)
+slice-reshare-prefix-judge-lists c =
+    let m = c .before .before .before .before .before in
+    let s = start m in
+    tested-room (header-is s) (held s) _ (m .tested-sets .ensures)
 
 slice-aggregate-judge-lists-4 : tie.Need-slice-aggregate-judge-lists-4
-slice-aggregate-judge-lists-4 c = let h = c .before .before .before .before .before .before .before .before .before .before .before .before .before .before .before .before .pre .0 .1 in sym (lent-part h _ (tested-is (c .before .before .before .before .before .before) _ h))
+slice-aggregate-judge-lists-4 c =
+    let m = c .before .before .before .before .before .before in
+    let s = start m in
+    tested-part (header-is s) (held s) _ (m .tested-sets .ensures)
 
 judge-lists-requires : tie.Need-judge-lists-requires
-judge-lists-requires c κs = let h = c .before .before .before .before .before .before .before .before .before .before .before .before .before .before .before .before .pre .0 .1 in let t = tested-is (c .before .before .before .before .before .before) _ h in (drawable h t, same-parts h t)
+judge-lists-requires c κs =
+    let m = c .before .before .before .before .before .before in
+    let s = start m in
+    let t = m .tested-sets .ensures in
+    (lent-safe (header-is s) (held s) _ t, same-parts (header-is s) (held s) _ t)
 
 same-length : tie.Need-same-length
 same-length c = search needs
 
 returns : tie.Need-returns
 returns c =
-    let m = c .before .before .before .before .before .before .before in (
-      (λ bs h. judged-after h (c .judge-lists .ensures (h .chart) (drawn h (tested-is m bs h)) (h .numbers-are))),
-      (λ bs h. tested-after h (tested-is m bs h)),
-    )
+    let t = c .before .before .before .before .before .before .before .tested-sets .ensures in
+    ((λ x e h. judged-lent e h _ t (c .judge-lists .ensures)), (λ x e h. tested-begins e h _ t))
 
 pub judge-chart-spec : {M : Type 1} → statement M
 judge-chart-spec =

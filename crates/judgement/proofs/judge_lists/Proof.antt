@@ -1,18 +1,49 @@
--- `judge_lists` answers 9, then 10, else the chart's numbers. Assumes nothing.
+-- `judge_lists` answers 9, then 10, else the header. The sets are made over the front of an array and read there again. Assumes nothing.
 use mathlib.Core.Path.{_≡_, sym, ap, _∙_, subst}
+use mathlib.Core.List.{List}
 use Prim.Native.Nat.{ℕ}
 use lib.ListN.{length, take, replicate}
-use Rattle.model.specs.Chart.{Chart}
-use Rattle.model.specs.Live.{firstUnreached}
-use Rattle.chart_lists.specs.declared.Header.{Header}
-use Rattle.chart_lists.specs.Header.{headerOf}
-use Rattle.judgement.specs.Drawn.{Drawable, Drawn}
-use Rattle.judgement.proofs.OwnSets.{few-locations}
-use Rattle.judgement.proofs.Lent.{none-front, none-length, none-cut, lent-length, lent-drawable, made-room, seen-length, seen-sets, sources-seen}
-use Rattle.judgement.proofs.Judging.{unstarted-are, unstarted-is, answer-9, answer-10, answer-chart}
 use borrow.Author.Needs.{needs}
+use Rattle.lists.specs.Lists.{lowest}
+use Rattle.judgement.specs.Tested.{testsAt}
+use Rattle.judgement.specs.Forward.{SafeForward, unreachedIn}
+use Rattle.judgement.proofs.OwnSets.{few-locations}
+use Rattle.judgement.proofs.Lent.{none-front, none-length, none-cut, lent-length, lent-safe, made-room, seen-length, seen-sets, sources-seen}
+use Rattle.judgement.proofs.Judging.{unstartedIn, answer-9, answer-10, answer-chart}
 use Rattle.judgement.proofs.judge_lists.Statement.{statement}
 use Rattle.judgement.proofs.judge_lists.Tie as tie
+
+-- ---- places, and what is known there
+
+abbrev first : tie.After-zeros → tie.Start
+first c = c .before .before .before .before .before .before .before
+
+abbrev start : tie.After-forward → tie.Start
+start f = first (f .before .before)
+
+-- the sets of this call
+abbrev sets : tie.After-forward → List ℕ
+sets f = let a = start f .args in unstartedIn (a .header) (a .sources .now) (a .targets .now) (a .starts .now) (a .tested .now)
+
+-- the place of 9, if there is one
+unreached-are : (c : tie.After-first-unreached) → let f = c .before .before .before .before in let a = start f .args in
+    c .first-unreached .result ≡ unreachedIn (a .header .timers) (a .header .initial) (a .sources .now) (a .targets .now) (sets f)
+unreached-are c =
+    let f = c .before .before .before .before in
+    let a = start f .args in
+    c .first-unreached .ensures
+    ∙ ap (unreachedIn (a .header .timers) (a .header .initial) (a .sources .now) (a .targets .now)) (seen-sets (start f .pre .0) (f .forward .ensures) _)
+
+-- the place of 10, if there is one
+unstarted-are : (c : tie.After-first-testing) → let f = c .before .before .before .before .before .before .before in let a = start f .args in
+    c .first-testing .result ≡ lowest (testsAt (a .sources .now) (a .tested .now) (sets f)) (length (a .sources .now))
+unstarted-are c =
+    let f = c .before .before .before .before .before .before .before in
+    let a = start f .args in
+    c .first-testing .ensures
+    ∙ ap (λ (s : List ℕ). lowest (testsAt (a .sources .now) (a .tested .now) s) (length (a .sources .now))) (seen-sets (start f .pre .0) (f .forward .ensures) _)
+
+-- ----
 
 cast-initial : tie.Need-cast-initial
 cast-initial c = search needs
@@ -24,70 +55,65 @@ array-share-prefix-zeros : tie.Need-array-share-prefix-zeros
 array-share-prefix-zeros c = search needs
 
 slice-aggregate-forward : tie.Need-slice-aggregate-forward
-slice-aggregate-forward c = sym (none-length (c .before .before .before .before .before .before .before .pre .0))
+slice-aggregate-forward c = sym (none-length (first c .pre .0))
 
 array-borrow-prefix-sets : tie.Need-array-borrow-prefix-sets
-array-borrow-prefix-sets c = few-locations (c .before .before .before .before .before .before .before .pre .0)
+array-borrow-prefix-sets c = few-locations (first c .pre .0)
 
 slice-aggregate-forward-2 : tie.Need-slice-aggregate-forward-2
-slice-aggregate-forward-2 c = sym (lent-length (c .before .before .before .before .before .before .before .before .pre .0))
+slice-aggregate-forward-2 c = sym (lent-length (first (c .before) .pre .0))
 
 forward-requires : tie.Need-forward-requires
-forward-requires c κs = let p = c .before .before .before .before .before .before .before .before .pre .0 in (lent-drawable p, none-front p)
+forward-requires c κs = let p = first (c .before) .pre .0 in (lent-safe p, none-front p)
 
 array-share-prefix-zeros-2 : tie.Need-array-share-prefix-zeros-2
 array-share-prefix-zeros-2 c = search needs
 
 slice-aggregate-first-unreached : tie.Need-slice-aggregate-first-unreached
-slice-aggregate-first-unreached c = sym (none-length (c .before .before .before .before .before .before .before .before .before .before .before .pre .0))
+slice-aggregate-first-unreached c = sym (none-length (start (c .before .before) .pre .0))
 
 array-share-prefix-sets : tie.Need-array-share-prefix-sets
-array-share-prefix-sets c = made-room (c .before .before .before .before .before .before .before .before .before .before .before .pre .0) (c .before .before .forward .ensures) _
+array-share-prefix-sets c = let f = c .before .before in made-room (start f .pre .0) (f .forward .ensures) _
 
 slice-aggregate-first-unreached-2 : tie.Need-slice-aggregate-first-unreached-2
-slice-aggregate-first-unreached-2 c = sym (seen-length (c .before .before .before .before .before .before .before .before .before .before .before .before .pre .0) (c .before .before .before .forward .ensures) _)
+slice-aggregate-first-unreached-2 c = let f = c .before .before .before in sym (seen-length (start f .pre .0) (f .forward .ensures) _)
 
 first-unreached-requires : tie.Need-first-unreached-requires
 first-unreached-requires c κs =
-    let s = c .before .before .before .before .before .before .before .before .before .before .before .before in
-    let a = s .args in
-    let p = s .pre .0 in
-    (subst (λ (n : ℕ). Drawable (a .numbers .initial) n (a .sources .now) (a .targets .now) (take (length (a .sources .now)) (replicate 512 0))) (sym (seen-length p (c .before .before .before .forward .ensures) _)) (none-cut p), none-front p)
-
--- the place of 9, if there is one
-lost-is : (c : tie.After-first-unreached) (chart : Chart) → let a = c .before .before .before .before .before .before .before .before .before .before .before .before .before .args in
-    Drawn chart (a .numbers .initial) (a .numbers .locations) (a .sources .now) (a .targets .now) (a .starts .now) (a .tested .now) → a .numbers ≡ headerOf chart
-    → c .first-unreached .result ≡ firstUnreached chart
-unfolding headerOf
-lost-is c chart d k =
-    let s = c .before .before .before .before .before .before .before .before .before .before .before .before .before in
-    let a = s .args in
-    let f = c .before .before .before .before .forward .ensures in
-    c .first-unreached .ensures chart (a .starts .now) (a .tested .now)
-    (subst (λ (n : ℕ). Drawn chart (a .numbers .initial) n (a .sources .now) (a .targets .now) (a .starts .now) (a .tested .now)) (sym (seen-length (s .pre .0) f _)) d)
-    (ap (λ (m : Header). m .timers) k) (seen-sets (s .pre .0) f _ ∙ unstarted-are d)
+    let f = c .before .before .before in
+    let a = start f .args in
+    let p = start f .pre .0 in
+    let n = sym (seen-length p (f .forward .ensures) _) in
+    let zeros : List ℕ = take (length (a .sources .now)) (replicate 512 0) in
+    (subst (λ (n : ℕ). SafeForward (a .header .initial) n (a .sources .now) (a .targets .now) zeros) n (none-cut p), none-front p)
 
 returns : tie.Need-returns
-returns c chart d k = answer-9 d (lost-is (c .before) chart d k) (c .if1 .taken)
+returns c = let a = start (c .before .before .before .before .before) .args in
+    answer-9 (a .header) _ _ _ (a .tested .now) (unreached-are (c .before)) (c .if1 .taken)
 
 array-share-prefix-sets-2 : tie.Need-array-share-prefix-sets-2
-array-share-prefix-sets-2 c = made-room (c .before .before .before .before .before .before .before .before .before .before .before .before .before .before .pre .0) (c .before .before .before .before .before .forward .ensures) _
+array-share-prefix-sets-2 c = let f = c .before .before .before .before .before in made-room (start f .pre .0) (f .forward .ensures) _
 
 slice-aggregate-first-testing : tie.Need-slice-aggregate-first-testing
-slice-aggregate-first-testing c = sym (seen-length (c .before .before .before .before .before .before .before .before .before .before .before .before .before .before .before .pre .0) (c .before .before .before .before .before .before .forward .ensures) _)
+slice-aggregate-first-testing c =
+    let f = c .before .before .before .before .before .before in sym (seen-length (start f .pre .0) (f .forward .ensures) _)
 
 first-testing-requires : tie.Need-first-testing-requires
-first-testing-requires c κs = let p = c .before .before .before .before .before .before .before .before .before .before .before .before .before .before .before .pre in (p .1, sources-seen (p .0) (c .before .before .before .before .before .before .forward .ensures) _)
+first-testing-requires c κs =
+    let f = c .before .before .before .before .before .before in
+    let p = start f .pre in (p .1, sources-seen (p .0) (f .forward .ensures) _)
 
 returns-2 : tie.Need-returns-2
-returns-2 c chart d k =
-    answer-10 d (lost-is (c .before .before .before .before) chart d k) (c .before .before .before .if1 .left)
-    (unstarted-is d _ (seen-sets (c .before .before .before .before .before .before .before .before .before .before .before .before .before .before .before .before .before .pre .0) (c .before .before .before .before .before .before .before .before .forward .ensures) _) (c .before .first-testing .ensures)) (c .if2 .taken)
+returns-2 c =
+    let b = c .before .before .before in
+    let a = start (b .before .before .before .before .before) .args in
+    answer-10 (a .header) _ _ _ (a .tested .now) (unreached-are (b .before)) (b .if1 .left) (unstarted-are (c .before)) (c .if2 .taken)
 
 returns-3 : tie.Need-returns-3
-returns-3 c chart d k =
-    answer-chart d (lost-is (c .before .before .before .before) chart d k) (c .before .before .before .if1 .left)
-    (unstarted-is d _ (seen-sets (c .before .before .before .before .before .before .before .before .before .before .before .before .before .before .before .before .before .pre .0) (c .before .before .before .before .before .before .before .before .forward .ensures) _) (c .before .first-testing .ensures)) (c .if2 .left) k
+returns-3 c =
+    let b = c .before .before .before in
+    let a = start (b .before .before .before .before .before) .args in
+    answer-chart (a .header) _ _ _ (a .tested .now) (unreached-are (b .before)) (b .if1 .left) (unstarted-are (c .before)) (c .if2 .left)
 
 pub judge-lists-spec : {M : Type 1} → statement M
 judge-lists-spec =

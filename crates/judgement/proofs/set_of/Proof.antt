@@ -29,7 +29,7 @@ shared-slice-read-with : tie.Need-shared-slice-read-with Inv-loop μ-loop
 shared-slice-read-with c = search needs
 
 with-requires : tie.Need-with-requires Inv-loop μ-loop
-with-requires c κs = c .before .before .before .before .pre .1 _
+with-requires c κs = c .before .before .before .before .pre .1 _ (omega arith)
 
 add-k : tie.Need-add-k Inv-loop μ-loop
 add-k c = search needs
@@ -41,7 +41,8 @@ loop-again : tie.Need-loop-again Inv-loop μ-loop
 loop-again c =
     let l = c .before .before .before .loop in
     let a = c .before .before .before .before .before .args in
-    (omega arith, (c .with .ensures ∙ ap (λ (w : ℕ). added w (getD (a .timers .now) (a .base + l .k) 0)) (l .inv .1)) ∙ set-more (a .timers .now) (a .base) (l .k) (omega arith))
+    let more = ap (λ (w : ℕ). added w (getD (a .timers .now) (a .base + l .k) 0)) (l .inv .1) in
+    (omega arith, (c .with .ensures ∙ more) ∙ set-more (a .timers .now) (a .base) (l .k) (omega arith))
 
 returns : tie.Need-returns Inv-loop μ-loop
 returns c =

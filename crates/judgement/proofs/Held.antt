@@ -1,0 +1,163 @@
+-- Lists that hold a chart: their fronts are the chart's own lists, and what the code asks of them holds. Assumes nothing.
+use mathlib.Core.Path.{_≡_, refl, sym, ap, _∙_}
+use mathlib.Core.List.{List, [], _∷_, map, _++_, map-append}
+use Prim.Native.Nat.{ℕ, zero, suc, _≤_, _<_}
+use native.Mathlib.Omega.{arith}
+use lib.ListN.{length, getD, take, drop, length-append, take-append-drop}
+use Rattle.lists.specs.Rising.{All}
+use Rattle.lists.specs.Lists.{sumOf}
+use Rattle.model.specs.Answer.{Answer}
+use Rattle.model.specs.Chart.{Test, Transition, Chart}
+use Rattle.model.specs.Valid.{ValidTest, ValidTransition}
+use Rattle.model.specs.Live.{testedSets}
+use Rattle.chart_lists.specs.declared.Header.{Header}
+use Rattle.chart_lists.specs.Header.{headerOf}
+use Rattle.chart_lists.specs.Lists.{Lists, listsOf, allTests, put}
+use Rattle.chart_lists.specs.Begins.{Begins}
+use Rattle.chart_lists.specs.Holds.{Holds}
+use Rattle.chart_lists.proofs.Begins.{begins-self, begins-put, begins-take, begins-part, begins-room, begins-getD}
+use Rattle.chart_lists.proofs.Holds.{sources-each, targets-each, starts-each, test-counts-each, timers-each}
+use Rattle.flow.proofs.ChartFlows.{tested-each}
+use Rattle.judgement.specs.Judging.{headerJudged}
+use Rattle.judgement.specs.Tested.{setsIn, TimersFor}
+use Rattle.judgement.specs.Forward.{SafeForward, judgedLists}
+use Rattle.judgement.specs.Charts.{HoldsTransitions}
+use Rattle.judgement.proofs.Tested.{sets-are}
+use Rattle.judgement.proofs.Judging.{own-safe, judged-are}
+
+-- ---- the timers of a valid chart's tests are below 64
+
+-- every number of the list is below 64
+abbrev Small : List ℕ → Type 0
+Small l = (i : ℕ) → getD l i 0 < 64
+
+small-append : (xs ys : List ℕ) → Small xs → Small ys → Small (xs ++ ys)
+small-append [] ys f g i = g i
+small-append (x ∷ xs) ys f g zero = f 0
+small-append (x ∷ xs) ys f g (suc i) = small-append xs ys (λ k. f (suc k)) g i
+
+module _ (W locations timers : ℕ) (few : timers ≤ 64) where
+  tests-small : (ts : List Test) → All (ValidTest W timers) ts → Small (map (λ (t : Test). t .timer) ts)
+  tests-small [] v i = omega arith
+  tests-small (t ∷ ts) v zero = omega (arith, v .0 .timer)
+  tests-small (t ∷ ts) v (suc i) = tests-small ts (v .1) i
+
+  all-small : (rs : List Transition) → All (ValidTransition W locations timers) rs → Small (map (λ (t : Test). t .timer) (allTests rs))
+  unfolding allTests
+  all-small [] v i = omega arith
+  all-small (r ∷ rs) v i =
+      rw map-append
+      (small-append (map (λ (t : Test). t .timer) (r .tests)) _ (tests-small (r .tests) (v .0 .tests)) (all-small rs (v .1)) i)
+
+sum-tests : (rs : List Transition) → sumOf (map (λ (r : Transition). length (r .tests)) rs) ≡ length (allTests rs)
+unfolding sumOf allTests
+sum-tests [] = refl
+sum-tests (r ∷ rs) = rw (sum-tests rs, length-append)
+
+-- ---- what the judgement is lent of the lists
+
+pub holds-transitions : {c : Chart} {l : Lists} → Holds c l → HoldsTransitions c (l .sources) (l .targets) (l .starts) (l .test-counts) (l .timers)
+holds-transitions h = record {
+  width = h .width;
+  valid = h .valid;
+  accepting = begins-self _;
+  sources = h .sources;
+  targets = h .targets;
+  events = begins-self _;
+  starts = h .starts;
+  test-counts = h .test-counts;
+  timers = h .timers;
+  codes = begins-self _;
+  constants = begins-self _;
+}
+
+module _ {c : Chart} {m : Header} (e : m ≡ headerOf c) {sources targets starts test-counts timers : List ℕ}
+    (h : HoldsTransitions c sources targets starts test-counts timers) where
+  count-is : m .transitions ≡ length (c .transitions)
+  unfolding headerOf
+  count-is = ap (λ (k : Header). k .transitions) e
+
+  pub few : m .transitions ≤ 512
+  few = omega (arith, count-is, h .valid .few-transitions)
+
+  -- the parts that are lent
+  module _ {xs l : List ℕ} (each : length xs ≡ length (c .transitions)) (b : Begins xs l) where
+    of-all : take (m .transitions) l ≡ xs
+    of-all = begins-take b (count-is ∙ sym each)
+
+    pub lent-part : m .transitions ≡ length (take (m .transitions) l)
+    lent-part = sym (begins-part b (count-is ∙ sym each))
+
+    pub lent-room : m .transitions ≤ length l
+    lent-room = omega (arith, count-is, each, begins-room b)
+
+  pub sources-part : m .transitions ≡ length (take (m .transitions) sources)
+  sources-part = lent-part (sources-each c) (h .sources)
+
+  pub targets-part : m .transitions ≡ length (take (m .transitions) targets)
+  targets-part = lent-part (targets-each c) (h .targets)
+
+  pub starts-part : m .transitions ≡ length (take (m .transitions) starts)
+  starts-part = lent-part (starts-each c) (h .starts)
+
+  pub test-counts-part : m .transitions ≡ length (take (m .transitions) test-counts)
+  test-counts-part = lent-part (test-counts-each c) (h .test-counts)
+
+  -- ---- the tested sets
+
+  counts-are : take (m .transitions) test-counts ≡ listsOf c .test-counts
+  counts-are = of-all (test-counts-each c) (h .test-counts)
+
+  sum-is : sumOf (take (m .transitions) test-counts) ≡ length (listsOf c .timers)
+  unfolding listsOf
+  sum-is = ap sumOf counts-are ∙ sum-tests (c .transitions) ∙ sym (timers-each c)
+
+  pub timers-for : TimersFor (take (m .transitions) test-counts) timers
+  unfolding listsOf
+  timers-for = record {
+    enough = omega (arith, sum-is, begins-room (h .timers));
+    small = λ i l. rw (begins-getD (h .timers) i 0 (omega (arith, sum-is))) (small i);
+  }
+    where
+      small : Small (listsOf c .timers)
+      small = all-small (h .width) (c .locations) (c .timers) (h .valid .few-timers) (c .transitions) (h .valid .transitions)
+
+  sets-in : setsIn (take (m .transitions) test-counts) timers ≡ testedSets c
+  unfolding listsOf testedSets
+  sets-in =
+      let k = length (listsOf c .timers) in
+      let z : listsOf c .timers ++ drop k timers ≡ timers = ap (λ (y : List ℕ). y ++ drop k timers) (sym (h .timers .is)) ∙ take-append-drop k timers in
+      rw (counts-are, ← z) (sets-are (c .transitions) (drop k timers))
+
+  module _ (before : List ℕ) {tested : List ℕ} (t : tested ≡ put (setsIn (take (m .transitions) test-counts) timers) before) where
+    pub tested-begins : Begins (testedSets c) tested
+    tested-begins = begins-put (testedSets c) before (rw sets-in at t)
+
+    pub tested-room : m .transitions ≤ length tested
+    tested-room = lent-room (tested-each c) tested-begins
+
+    pub tested-part : m .transitions ≡ length (take (m .transitions) tested)
+    tested-part = lent-part (tested-each c) tested-begins
+
+    -- ---- 9 and 10
+
+    pub lent-safe : SafeForward (m .initial) (m .locations) (take (m .transitions) sources) (take (m .transitions) targets) (take (m .transitions) starts)
+    unfolding headerOf
+    lent-safe =
+        let i : m .initial ≡ c .initial = ap (λ (k : Header). k .initial) e in
+        let l : m .locations ≡ c .locations = ap (λ (k : Header). k .locations) e in
+        let s = of-all (sources-each c) (h .sources) in
+        let t = of-all (targets-each c) (h .targets) in
+        rw (i, l, s, t, of-all (starts-each c) (h .starts)) (own-safe (h .valid))
+
+    pub same-parts : length (take (m .transitions) tested) ≡ length (take (m .transitions) sources)
+    same-parts = sym tested-part ∙ sources-part
+
+    pub judged-lent : {a : Answer Header}
+        → a ≡ judgedLists m (take (m .transitions) sources) (take (m .transitions) targets) (take (m .transitions) starts) (take (m .transitions) tested)
+        → a ≡ headerJudged c
+    judged-lent q =
+        let s = of-all (sources-each c) (h .sources) in
+        let t = of-all (targets-each c) (h .targets) in
+        let w = of-all (starts-each c) (h .starts) in
+        (rw (s, t, w, of-all (tested-each c) tested-begins, e) at q) ∙ judged-are (h .valid)

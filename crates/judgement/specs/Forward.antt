@@ -1,0 +1,52 @@
+-- Sets of timers that go forwards along transitions, in the terms that code has: lists. From them 9 and 10 are found. That they are those of the
+-- chart whose lists these are is shown in proofs/. Assumes nothing.
+use mathlib.Core.Bool.{true, false}
+use mathlib.Core.List.{List}
+use Prim.Native.Nat.{ℕ, _≤_, _<_}
+use lib.Dec.{leb, ltb}
+use lib.ListN.{length, getD, replicate, set}
+use Rattle.timer_set.specs.Members.{everyTimer}
+use Rattle.lists.specs.Lists.{lowest}
+use Rattle.model.specs.Answer.{Answer, result, unless}
+use Rattle.model.specs.Flow.{settled}
+use Rattle.model.specs.Live.{isEmpty}
+use Rattle.flow.specs.Edges.{flowOf, SafeEdges}
+use Rattle.chart_lists.specs.Limits.{mostTransitions}
+use Rattle.chart_lists.specs.declared.Header.{Header}
+use Rattle.judgement.specs.Tested.{testsAt}
+
+-- all timers at the initial location, nothing elsewhere
+abbrev pub ownSets : (initial locations : ℕ) → List ℕ
+ownSets initial locations = set (replicate locations 0) initial everyTimer
+
+-- from there forwards along each transition, but for what it cuts
+unfoldable pub forwardSets : (initial locations : ℕ) → (sources targets cut : List ℕ) → List ℕ
+forwardSets initial locations sources targets cut = settled (flowOf targets sources cut (replicate (length sources) 0) (ownSets initial locations))
+
+-- what the code asks for its safety: the initial location is one, and every transition leads from a location to a location
+pub record SafeForward (initial locations : ℕ) (sources targets cut : List ℕ) : Type 0 where
+  pub few : length sources ≤ mostTransitions
+  pub inside : initial < locations
+  pub edges : SafeEdges targets sources cut (replicate (length sources) 0) (ownSets initial locations)
+
+-- the first empty set, or the number of sets
+unfoldable pub firstEmpty : List ℕ → ℕ
+firstEmpty sets = lowest (λ q. isEmpty (getD sets q 0)) (length sets)
+
+-- the place of 9, or the number of locations: from the unstarted sets, where timer 63 is none of the chart's, else from sets of which nothing is cut
+unfoldable pub unreachedIn : (timers initial : ℕ) → (sources targets unstarted : List ℕ) → ℕ
+unreachedIn timers initial sources targets unstarted =
+    elim (ltb timers 64) [
+      true ↦ firstEmpty unstarted
+    | false ↦ firstEmpty (forwardSets initial (length unstarted) sources targets (replicate (length sources) 0))
+    ]
+
+-- 9, then 10, else the header
+unfoldable pub judgedLists : Header → (sources targets starts tested : List ℕ) → Answer Header
+judgedLists m sources targets starts tested =
+    let sets = forwardSets (m .initial) (m .locations) sources targets starts in
+    let unreached = unreachedIn (m .timers) (m .initial) sources targets sets in
+    let unstarted = lowest (testsAt sources tested sets) (length sources) in
+    unless (leb (m .locations) unreached) 9 unreached (
+    unless (leb (length sources) unstarted) 10 unstarted (
+    result m))
