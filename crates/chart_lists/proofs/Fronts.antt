@@ -10,7 +10,7 @@ use Rattle.chart_lists.specs.Header.{headerOf}
 use Rattle.chart_lists.specs.declared.Header.{Header}
 use Rattle.chart_lists.specs.Begins.{Begins}
 use Rattle.chart_lists.proofs.Begins.{begins-take, begins-part}
-use Rattle.chart_lists.proofs.Holds.{sources-each, targets-each, starts-each, test-counts-each}
+use Rattle.chart_lists.proofs.Holds.{sources-each, targets-each, starts-each}
 
 module _ (c : Chart) {m : Header} (e : m ≡ headerOf c) where
   pub locations-are : m .locations ≡ c .locations
@@ -38,9 +38,6 @@ module _ (c : Chart) {m : Header} (e : m ≡ headerOf c) where
 
     pub starts-front : Begins (listsOf c .starts) l → take (m .transitions) l ≡ listsOf c .starts
     starts-front = each-front (starts-each c)
-
-    pub test-counts-front : Begins (listsOf c .test-counts) l → take (m .transitions) l ≡ listsOf c .test-counts
-    test-counts-front = each-front (test-counts-each c)
 
     pub each-part : {xs : List ℕ} → length xs ≡ length (c .transitions) → Begins xs l → length (take (m .transitions) l) ≡ m .transitions
     each-part f b = begins-part b (transitions-are ∙ sym f)

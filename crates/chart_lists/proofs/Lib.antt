@@ -8,3 +8,4 @@ pub mod Fronts
 pub mod Fields
 pub mod PutLoop
 pub mod Overwritten
+pub mod InTurn

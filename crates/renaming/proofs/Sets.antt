@@ -2,37 +2,35 @@
 use mathlib.Core.Path.{_≡_, refl, sym, ap, _∙_}
 use mathlib.Core.Logic.{_⊎_, inl, inr, ⊎-elim}
 use mathlib.Core.Bool.{Bool, true, false, not}
-use mathlib.Core.Option.{some}
 use mathlib.Core.List.{List, map, map-map}
-use Prim.Native.Nat.{ℕ, zero, suc, _+_, _^_, _≤_, _<_}
-use native.Mathlib.Decide.{ℕ-discrete}
-use native.Mathlib.Numerals.{add-one}
+use Prim.Native.Nat.{ℕ, _+_, _*_, _^_, _≤_, _<_}
 use native.Mathlib.Omega.{arith}
 use lib.Dec.{ltb, eqb}
-use lib.ListN.{length, getD, getElem?, set, length-map}
+use lib.ListN.{length, take, set}
+use lib.Seq.{take-length, length-take-le}
 use lib.Pow.{pow-pos}
 use borrow.Author.Tests.{ltb-true, lt-ltb, le-ltb}
-use Rattle.lists.specs.Lists.{memb, gather, upTo}
+use Rattle.lists.specs.Lists.{memb}
 use Rattle.lists.proofs.Bools.{yes-or-no, or-cases, or-left, or-right, and-left, and-both, same-bool, same-number, eqb-self, not-both}
-use Rattle.lists.proofs.Gather.{length-upTo, rising-below}
-use Rattle.lists.proofs.Membership.{nth-map}
-use Rattle.lists.proofs.Nth.{getD-nth, upTo-map}
+use Rattle.lists.proofs.Gather.{rising-below}
+use Rattle.lists.proofs.Nth.{below-nth}
 use Rattle.timer_set.specs.Members.{member, added, removed}
 use Rattle.timer_set.proofs.Members.{member-added, member-removed, member-empty, added-lt, setOf-lt, member-ext}
 use Rattle.model.specs.Chart.{Transition, Chart, Nth}
-use Rattle.model.specs.Valid.{ValidTransition}
+use Rattle.model.specs.Valid.{Valid, ValidTransition}
 use Rattle.model.specs.Live.{startsSet}
-use Rattle.model.specs.FirstFit.{Placed, numberAt}
-use Rattle.model.specs.Rewrite.{numbering, newStarts, newTransition}
-use Rattle.model.proofs.NumberAt.{number-below}
+use Rattle.model.specs.Rewrite.{Numbering, newStarts, newTransition, rewrittenBy}
+use Rattle.model.specs.Plan.{Has}
 use Rattle.model.proofs.Rewritten.{starts-in, starts-out, starts-below}
 use Rattle.model.proofs.Transitions.{nth-valid}
 use Rattle.model.proofs.TransitionSets.{member-starts}
-use Rattle.chart_lists.specs.Lists.{put}
-use Rattle.chart_lists.proofs.Put.{put-last}
+use Rattle.chart_lists.specs.Lists.{listsOf, put}
+use Rattle.chart_lists.proofs.Put.{put-next}
+use Rattle.chart_lists.proofs.Begins.{begins-room, begins-getD}
+use Rattle.chart_lists.proofs.InTurn.{take-next}
 use Rattle.allocation.specs.Cells.{cell}
-use Rattle.allocation.proofs.CellList.{cells-at, cell-some}
-use Rattle.renaming.specs.Renaming.{cellAt, withNumber, renamedSet, renamedSets, CellsOf}
+use Rattle.allocation.proofs.CellList.{cells-length, cells-at, cell-some}
+use Rattle.renaming.specs.Renaming.{cellAt, withNumber, NumberOf, RenamedTo, CellsOf}
 
 -- ---- one number more
 
@@ -76,164 +74,98 @@ module _ (w x : ℕ) where
       go true e = last (ltb-true x 64 e) (or-cases (member w k) (sym (member-added w x k) ∙ rw (e, withNumber) at m))
       go false e = inl (rw (e, withNumber) at m)
 
--- ---- the numbers of a set's timers
-
--- k, a board timer, is the number at q of a timer of w below n
-pub record NumberOf (numbers : List ℕ) (q w n k : ℕ) : Type 0 where
-  pub timer : ℕ
-  pub below : timer < n
-  pub present : member w timer ≡ true
-  pub cell-is : cellAt numbers q timer ≡ k
-  pub small : k < 64
-
-module _ (numbers : List ℕ) (q w : ℕ) where
-  set-yes : (j : ℕ) → member w j ≡ true → renamedSet numbers q w (suc j) ≡ withNumber (renamedSet numbers q w j) (cellAt numbers q j)
-  unfolding renamedSet
-  set-yes j e = rw (e, renamedSet)
-
-  set-no : (j : ℕ) → member w j ≡ false → renamedSet numbers q w (suc j) ≡ renamedSet numbers q w j
-  unfolding renamedSet
-  set-no j e = rw (e, renamedSet)
-
-  set-lt : (n : ℕ) → renamedSet numbers q w n < 2 ^ 64
-  unfolding renamedSet
-  set-lt zero = pow-pos 64
-  set-lt (suc j) = go (member w j) refl (set-lt j)
-    where
-      go : (b : Bool) → member w j ≡ b → renamedSet numbers q w j < 2 ^ 64 → renamedSet numbers q w (suc j) < 2 ^ 64
-      go true e h = rw (set-yes j e) (with-lt (renamedSet numbers q w j) (cellAt numbers q j) h)
-      go false e h = rw (set-no j e) h
-
-  set-in : (n k : ℕ) → NumberOf numbers q w n k → member (renamedSet numbers q w n) k ≡ true
-  set-in zero k x = absurd (omega (arith, x .below))
-  set-in (suc j) k x = go (member w j) refl (ℕ-discrete (x .timer) j) (set-in j k)
-    where
-      earlier : (x .timer ≡ j → ⊥) → NumberOf numbers q w j k
-      earlier ne = let b = x .below in
-          record { timer = x .timer; below = omega arith; present = x .present; cell-is = x .cell-is; small = x .small }
-
-      Goal : Type 0
-      Goal = member (renamedSet numbers q w (suc j)) k ≡ true
-
-      go : (b : Bool) → member w j ≡ b → Dec (x .timer ≡ j) → (NumberOf numbers q w j k → member (renamedSet numbers q w j) k ≡ true) → Goal
-      go true e (yes p) ih =
-          let same : cellAt numbers q j ≡ k = ap (cellAt numbers q) (sym p) ∙ x .cell-is in
-          rw (set-yes j e, same) (with-new (renamedSet numbers q w j) k (x .small))
-      go true e (no ne) ih = rw (set-yes j e) (with-old (renamedSet numbers q w j) (cellAt numbers q j) k (ih (earlier ne)))
-      go false e (yes p) ih = absurd (not-both (x .present) (ap (member w) p ∙ e))
-      go false e (no ne) ih = rw (set-no j e) (ih (earlier ne))
-
-  set-out : (n k : ℕ) → member (renamedSet numbers q w n) k ≡ true → NumberOf numbers q w n k
-  unfolding renamedSet
-  set-out zero k m = absurd (not-both m (member-empty k))
-  set-out (suc j) k m = go (member w j) refl (set-out j k)
-    where
-      later : NumberOf numbers q w j k → NumberOf numbers q w (suc j) k
-      later x = record { timer = x .timer; below = omega (arith, x .below); present = x .present; cell-is = x .cell-is; small = x .small }
-
-      last : member w j ≡ true → (member (renamedSet numbers q w j) k ≡ true → NumberOf numbers q w j k)
-          → (member (renamedSet numbers q w j) k ≡ true) ⊎ ((cellAt numbers q j ≡ k) × (k < 64)) → NumberOf numbers q w (suc j) k
-      last e ih (inl a) = later (ih a)
-      last e ih (inr p) = record { timer = j; below = omega arith; present = e; cell-is = p .0; small = p .1 }
-
-      go : (b : Bool) → member w j ≡ b → (member (renamedSet numbers q w j) k ≡ true → NumberOf numbers q w j k) → NumberOf numbers q w (suc j) k
-      go true e ih = last e ih (with-out (renamedSet numbers q w j) (cellAt numbers q j) k (rw (set-yes j e) at m))
-      go false e ih = later (ih (rw (set-no j e) at m))
-
 -- ---- the timers of a set, taken one by one
 
--- r has the numbers at q of those timers of w that are no longer left
-pub record RenamedTo (numbers : List ℕ) (q w left r : ℕ) : Type 0 where
-  pub small : r < 2 ^ 64
-  pub sound : (k : ℕ) → (member r k ≡ true) ⊎ NumberOf numbers q left 64 k → NumberOf numbers q w 64 k
-  pub complete : (k : ℕ) → NumberOf numbers q w 64 k → (member r k ≡ true) ⊎ NumberOf numbers q left 64 k
+module _ (cells : List ℕ) (q w : ℕ) where
+  pub renamed-none : RenamedTo cells q w w 0
+  renamed-none = record { word = pow-pos 64; sound = λ k. ⊎-elim (λ m. absurd (not-both m (member-empty k))) (λ x. x); complete = λ k x. inr x }
 
-module _ (numbers : List ℕ) (q w : ℕ) where
-  pub renamed-none : RenamedTo numbers q w w 0
-  renamed-none = record { small = pow-pos 64; sound = λ k. ⊎-elim (λ m. absurd (not-both m (member-empty k))) (λ x. x); complete = λ k x. inr x }
-
-  pub renamed-more : (left i r : ℕ) → i < 64 → member left i ≡ true → RenamedTo numbers q w left r → RenamedTo numbers q w (removed left i) (withNumber r (cellAt numbers q i))
+  pub renamed-more : (left i r : ℕ) → i < 64 → member left i ≡ true → RenamedTo cells q w left r
+      → RenamedTo cells q w (removed left i) (withNumber r (cellAt cells q i))
   renamed-more left i r h m s = record {
-    small = with-lt r (cellAt numbers q i) (s .small);
-    sound = λ k x. s .sound k (⊎-elim (λ a. taken k (with-out r (cellAt numbers q i) k a)) (λ y. inr (among k y (and-left _ _ (sym (member-removed left i (y .timer)) ∙ y .present)))) x);
-    complete = λ k x. ⊎-elim (λ a. inl (with-old r (cellAt numbers q i) k a)) (λ y. later k y (yes-or-no (eqb (y .timer) i))) (s .complete k x);
+    word = with-lt r (cellAt cells q i) (s .word);
+    sound = λ k x. s .sound k (⊎-elim (λ a. taken k (with-out r (cellAt cells q i) k a)) (λ y. inr (still k y)) x);
+    complete = λ k x. ⊎-elim (λ a. inl (with-old r (cellAt cells q i) k a)) (λ y. later k y (yes-or-no (eqb (y .timer) i))) (s .complete k x);
   }
     where
-      taken : (k : ℕ) → (member r k ≡ true) ⊎ ((cellAt numbers q i ≡ k) × (k < 64)) → (member r k ≡ true) ⊎ NumberOf numbers q left 64 k
+      among : {v u : ℕ} (k : ℕ) → (y : NumberOf cells q v k) → member u (y .timer) ≡ true → NumberOf cells q u k
+      among k y a = record { timer = y .timer; below = y .below; present = a; cell-is = y .cell-is; small = y .small }
+
+      taken : (k : ℕ) → (member r k ≡ true) ⊎ ((cellAt cells q i ≡ k) × (k < 64)) → (member r k ≡ true) ⊎ NumberOf cells q left k
       taken k (inl a) = inl a
       taken k (inr p) = inr (record { timer = i; below = h; present = m; cell-is = p .0; small = p .1 })
 
-      among : {v u : ℕ} (k : ℕ) → (y : NumberOf numbers q v 64 k) → member u (y .timer) ≡ true → NumberOf numbers q u 64 k
-      among k y a = record { timer = y .timer; below = y .below; present = a; cell-is = y .cell-is; small = y .small }
+      still : (k : ℕ) → NumberOf cells q (removed left i) k → NumberOf cells q left k
+      still k y = among k y (and-left _ _ (sym (member-removed left i (y .timer)) ∙ y .present))
 
-      later : (k : ℕ) → (y : NumberOf numbers q left 64 k) → (eqb (y .timer) i ≡ true) ⊎ (eqb (y .timer) i ≡ false)
-          → (member (withNumber r (cellAt numbers q i)) k ≡ true) ⊎ NumberOf numbers q (removed left i) 64 k
-      later k y (inl e) = let same : cellAt numbers q i ≡ k = ap (cellAt numbers q) (sym (same-number e)) ∙ y .cell-is in inl (rw same (with-new r k (y .small)))
+      later : (k : ℕ) → (y : NumberOf cells q left k) → (eqb (y .timer) i ≡ true) ⊎ (eqb (y .timer) i ≡ false)
+          → (member (withNumber r (cellAt cells q i)) k ≡ true) ⊎ NumberOf cells q (removed left i) k
+      later k y (inl e) =
+          let same : cellAt cells q i ≡ k = ap (cellAt cells q) (sym (same-number e)) ∙ y .cell-is in
+          inl (rw same (with-new r k (y .small)))
       later k y (inr e) = inr (among k y (member-removed left i (y .timer) ∙ and-both (y .present) (ap not e)))
-
-  pub renamed-all : (left r : ℕ) → left ≡ 0 → RenamedTo numbers q w left r → r ≡ renamedSet numbers q w 64
-  renamed-all left r e s = member-ext 64 r _ (s .small) (set-lt numbers q w 64)
-      (λ k l. same-bool _ _ (λ m. set-in numbers q w 64 k (s .sound k (inl m))) (λ m. ⊎-elim (λ a. a) (λ x. absurd (none k x)) (s .complete k (set-out numbers q w 64 k m))))
-    where
-      none : (k : ℕ) → NumberOf numbers q left 64 k → ⊥
-      none k x = not-both (x .present) (ap (λ (v : ℕ). member v (x .timer)) e ∙ member-empty (x .timer))
-
--- ---- one transition after another
-
--- the next transition's set is stored behind the others
-pub sets-more : (numbers targets starts : List ℕ) (i : ℕ) (l : List ℕ) {out : List ℕ} {v : ℕ} → i < length l
-    → out ≡ put (renamedSets numbers targets starts i) l → v ≡ renamedSet numbers (getD targets i 0) (getD starts i 0) 64
-    → set out i v ≡ put (renamedSets numbers targets starts (i + 1)) l
-unfolding renamedSets upTo gather
-sets-more numbers targets starts i l {out} {v} h o e =
-    rw (add-one i, ← e) (put-last (renamedSets numbers targets starts i) l v h (length-upTo (λ k. renamedSet numbers (getD targets k 0) (getD starts k 0) 64) i) o)
 
 -- ---- of a chart's transitions
 
-module _ {c : Chart} {ps : List Placed} {numbers : List ℕ} (cs : CellsOf c ps numbers) where
-  -- a cell of the board is the number of its pair
-  pub cell-number : (q j : ℕ) → q < c .locations → j < 64 → cellAt numbers q j ≡ cell (numberAt ps q j)
-  cell-number q j h l = rw (cs .numbers-are) (cells-at ps (c .locations) q j h l)
+-- the sets that the first i transitions of the rewritten chart start
+abbrev pub startsTo : Chart → Numbering → ℕ → List ℕ
+startsTo c N i = map (λ (r : Transition). startsSet (newTransition N r)) (take i (c .transitions))
 
-  pub number-small : (q j k : ℕ) → numberAt ps q j ≡ some k → k < 64
-  number-small q j k e = omega (arith, number-below q j ps k e, cs .few)
+pub starts-all : (c : Chart) (N : Numbering) {i : ℕ} → i ≡ length (c .transitions) → startsTo c N i ≡ listsOf (rewrittenBy N c) .starts
+unfolding listsOf rewrittenBy
+starts-all c N e = rw (e, take-length, map-map)
 
-  pub renamed-starts : {i : ℕ} {r : Transition} → Nth c i r → renamedSet numbers (r .target) (startsSet r) 64 ≡ startsSet (newTransition (numbering ps) r)
-  unfolding startsSet newTransition numbering
-  renamed-starts {i} {r} n = member-ext 64 _ (startsSet (newTransition (numbering ps) r)) (set-lt numbers (r .target) (startsSet r) 64)
-      (setOf-lt 64 (newStarts (numbering ps) r) (λ k m. omega (arith, starts-below (numbering ps) r k m, cs .few)))
-      (λ k h. same-bool _ _ (λ m. member-starts (newTransition (numbering ps) r) k ∙ there k (set-out numbers (r .target) (startsSet r) 64 k m))
-      (λ m. set-in numbers (r .target) (startsSet r) 64 k (back k (sym (member-starts (newTransition (numbering ps) r) k) ∙ m))))
-    where
-      valid : ValidTransition (cs .width) (c .locations) (c .timers) r
-      valid = nth-valid (cs .valid) n
+module _ {W : ℕ} {c : Chart} (valid : Valid W c) {N : Numbering} {cells : List ℕ} (cs : CellsOf c N cells) where
+  -- each location has its row of cells
+  pub row-room : (q : ℕ) → q < c .locations → 64 * q + 64 ≤ length cells
+  row-room q h = omega (arith, begins-room (cs .cells-are), cells-length N (c .locations))
 
-      there : (k : ℕ) → NumberOf numbers (r .target) (startsSet r) 64 k → memb k (newStarts (numbering ps) r) ≡ true
-      there k x =
-          let e : numberAt ps (r .target) (x .timer) ≡ some k =
-          cell-some _ k (omega (arith, x .small)) (sym (cell-number (r .target) (x .timer) (valid .target) (x .below)) ∙ x .cell-is)
-          in
-          starts-in (numbering ps) r (x .timer) k (sym (member-starts r (x .timer)) ∙ x .present) e (number-below (r .target) (x .timer) ps k e)
+  -- a cell is the number of its pair
+  pub cell-number : (q j : ℕ) → q < c .locations → j < 64 → cellAt cells q j ≡ cell (N .number q j)
+  cell-number q j h l =
+      begins-getD (cs .cells-are) (64 * q + j) 0 (omega (arith, cells-length N (c .locations))) ∙ cells-at N (c .locations) q j h l
 
-      back : (k : ℕ) → memb k (newStarts (numbering ps) r) ≡ true → NumberOf numbers (r .target) (startsSet r) 64 k
-      back k m =
-          let x = starts-out (numbering ps) r k m in
-          let b : x .0 < 64 = omega (arith, cs .valid .few-timers, rising-below (c .timers) 0 (r .starts) (valid .starts) (x .0) (x .1) .1) in
-          record {
-            timer = x .0;
-            below = b;
-            present = member-starts r (x .0) ∙ x .1;
-            cell-is = cell-number (r .target) (x .0) (valid .target) b ∙ ap cell (x .2);
-            small = number-small (r .target) (x .0) k (x .2);
-          }
+  pub number-small : (q j k : ℕ) → Has N q j k → k < 64
+  number-small q j k e = omega (arith, cs .below q j k e, cs .few)
 
-  pub renamed-sets : (targets starts : List ℕ) → targets ≡ map (λ (r : Transition). r .target) (c .transitions) → starts ≡ map startsSet (c .transitions)
-      → renamedSets numbers targets starts (length targets) ≡ map startsSet (map (newTransition (numbering ps)) (c .transitions))
-  unfolding renamedSets
-  renamed-sets targets starts e f = rw (e, f, length-map, map-map) (upTo-map 0 _ _ (c .transitions) (length (c .transitions)) refl at)
-    where
-      at : (i : ℕ) (r : Transition) → getElem? (c .transitions) i ≡ some r
-          → renamedSet numbers (getD (map (λ (r : Transition). r .target) (c .transitions)) i 0) (getD (map startsSet (c .transitions)) i 0) 64
-          ≡ startsSet (newTransition (numbering ps) r)
-      at i r n = rw (getD-nth (map (λ (r : Transition). r .target) (c .transitions)) i 0 (nth-map _ (c .transitions) i n), getD-nth (map startsSet (c .transitions)) i 0 (nth-map startsSet (c .transitions) i n))
-          (renamed-starts (record { there = n }))
+  module _ {i : ℕ} {r : Transition} (n : Nth c i r) where
+    own : ValidTransition W (c .locations) (c .timers) r
+    own = nth-valid valid n
+
+    renamed-starts : {v : ℕ} → RenamedTo cells (r .target) (startsSet r) 0 v → v ≡ startsSet (newTransition N r)
+    unfolding startsSet newTransition
+    renamed-starts {v} s = member-ext 64 v (startsSet (newTransition N r)) (s .word)
+        (setOf-lt 64 (newStarts N r) (λ k m. omega (arith, starts-below N r k m, cs .few)))
+        (λ k h. same-bool _ _
+        (λ m. member-starts (newTransition N r) k ∙ there k (s .sound k (inl m)))
+        (λ m. ⊎-elim (λ a. a) (λ x. absurd (none k x)) (s .complete k (back k (sym (member-starts (newTransition N r) k) ∙ m)))))
+      where
+        none : (k : ℕ) → NumberOf cells (r .target) 0 k → ⊥
+        none k x = not-both (x .present) (member-empty (x .timer))
+
+        there : (k : ℕ) → NumberOf cells (r .target) (startsSet r) k → memb k (newStarts N r) ≡ true
+        there k x =
+            let e : Has N (r .target) (x .timer) k =
+            cell-some _ k (omega (arith, x .small)) (sym (cell-number (r .target) (x .timer) (own .target) (x .below)) ∙ x .cell-is) in
+            starts-in N r (x .timer) k (sym (member-starts r (x .timer)) ∙ x .present) e (cs .below (r .target) (x .timer) k e)
+
+        back : (k : ℕ) → memb k (newStarts N r) ≡ true → NumberOf cells (r .target) (startsSet r) k
+        back k m =
+            let x = starts-out N r k m in
+            let b : x .0 < 64 = omega (arith, valid .few-timers, rising-below (c .timers) 0 (r .starts) (own .starts) (x .0) (x .1) .1) in
+            record {
+              timer = x .0;
+              below = b;
+              present = member-starts r (x .0) ∙ x .1;
+              cell-is = cell-number (r .target) (x .0) (own .target) b ∙ ap cell (x .2);
+              small = number-small (r .target) (x .0) k (x .2);
+            }
+
+    -- the next transition's set is stored behind the others
+    pub starts-more : (l : List ℕ) {out : List ℕ} {v : ℕ} → i < length l → out ≡ put (startsTo c N i) l
+        → RenamedTo cells (r .target) (startsSet r) 0 v → set out i v ≡ put (startsTo c N (i + 1)) l
+    starts-more l {out} h o s =
+        let below = below-nth (c .transitions) i (n .there) in
+        rw (renamed-starts s, take-next n)
+        (put-next (λ (s : Transition). startsSet (newTransition N s)) (take i (c .transitions)) r l h
+        (length-take-le i (c .transitions) (omega arith)) o)

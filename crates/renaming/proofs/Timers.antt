@@ -1,25 +1,26 @@
 -- The renamed timers of tests are those of the tests of the rewritten chart. Assumes nothing.
 use mathlib.Core.Path.{_≡_, refl, sym, ap, ap₂, _∙_}
 use mathlib.Core.Bool.{true}
-use mathlib.Core.Option.{some}
-use mathlib.Core.List.{List, [], _∷_, _++_, map, map-append, append-assoc, append-nil, filterMap}
-use Prim.Native.Nat.{ℕ, suc, _+_, _≤_, _<_}
+use mathlib.Core.List.{List, [], _∷_, _++_, map, map-append, append-assoc, filterMap}
+use Prim.Native.Nat.{ℕ, _+_, _≤_, _<_}
 use native.Mathlib.Numerals.{add-one}
 use native.Mathlib.Omega.{arith}
-use lib.ListN.{length, getD, getElem?, take, drop, set, length-append, length-drop, length-map}
-use lib.Seq.{length-take-le, take-length, take-suc, take-at, drop-at, drop-drop, getD-drop}
+use lib.ListN.{length, getD, take, drop, set, length-append, length-drop, length-map}
+use lib.Seq.{length-take-le, take-length, take-suc, getD-drop}
 use borrow.Author.Tests.{lt-ltb, le-ltb}
 use Rattle.model.specs.Chart.{Test, Transition, Chart, Nth, tested}
-use Rattle.model.specs.FirstFit.{Placed}
-use Rattle.model.specs.Rewrite.{Numbering, numbering, newTests, newTransition}
+use Rattle.model.specs.Valid.{Valid}
+use Rattle.model.specs.Rewrite.{Numbering, newTests, newTransition, rewrittenBy}
 use Rattle.model.specs.Plan.{Has}
 use Rattle.model.proofs.Rewritten.{tested-head, tested-tail, tests-some}
 use Rattle.model.proofs.Transitions.{nth-valid, tested-below}
-use Rattle.chart_lists.specs.Lists.{allTests, put}
+use Rattle.chart_lists.specs.Lists.{allTests, listsOf, put}
+use Rattle.chart_lists.specs.Begins.{Begins}
 use Rattle.chart_lists.proofs.Put.{put-last}
-use Rattle.judgement.specs.Tested.{total, TestsOf}
+use Rattle.chart_lists.proofs.Tests.{tests-more}
+use Rattle.chart_lists.proofs.InTurn.{testsBefore, take-next, before-next, timers-next}
 use Rattle.allocation.specs.Cells.{cell}
-use Rattle.renaming.specs.Renaming.{cellAt, boardTimer, renamedRow, renamedTimers, CellsOf}
+use Rattle.renaming.specs.Renaming.{cellAt, boardTimer, renamedRow, CellsOf}
 use Rattle.renaming.proofs.Sets.{cell-number, number-small}
 
 module _ (x : ℕ) where
@@ -33,94 +34,100 @@ module _ (x : ℕ) where
 
 -- ---- one transition's tests
 
-module _ (numbers : List ℕ) (q : ℕ) where
-  length-row : (ts : List ℕ) (base n : ℕ) → base + n ≤ length ts → length (renamedRow numbers q (take n (drop base ts))) ≡ n
+module _ (cells : List ℕ) (q : ℕ) where
+  length-row : (ts : List ℕ) (base n : ℕ) → base + n ≤ length ts → length (renamedRow cells q (take n (drop base ts))) ≡ n
   unfolding renamedRow
   length-row ts base n h = length-map (take n (drop base ts)) _ ∙ length-take-le n (drop base ts) (simp length-drop (omega arith))
 
   -- the next timer is stored behind the others
-  pub row-more : (ts : List ℕ) (base k : ℕ) → base + k < length ts → (done l : List ℕ) {out : List ℕ} {v : ℕ} → length done ≡ base → base + k < length l
-      → out ≡ put (done ++ renamedRow numbers q (take k (drop base ts))) l → v ≡ boardTimer (cellAt numbers q (getD ts (base + k) 0))
-      → set out (base + k) v ≡ put (done ++ renamedRow numbers q (take (k + 1) (drop base ts))) l
+  pub row-more : (ts : List ℕ) (base k : ℕ) → base + k < length ts → (done l : List ℕ) {out : List ℕ} {v : ℕ} → length done ≡ base
+      → base + k < length l
+      → out ≡ put (done ++ renamedRow cells q (take k (drop base ts))) l → v ≡ boardTimer (cellAt cells q (getD ts (base + k) 0))
+      → set out (base + k) v ≡ put (done ++ renamedRow cells q (take (k + 1) (drop base ts))) l
   unfolding renamedRow
   row-more ts base k h done l {out} {v} d room o e =
       let b : k < length (drop base ts) = simp length-drop (omega arith) in
-      let long : length (done ++ renamedRow numbers q (take k (drop base ts))) ≡ base + k = rw (length-append, d, length-row ts base k (omega arith)) in
+      let long : length (done ++ renamedRow cells q (take k (drop base ts))) ≡ base + k = rw (length-append, d, length-row ts base k (omega arith)) in
       rw (add-one k, take-suc (drop base ts) k 0 b, map-append, ← append-assoc, getD-drop, ← e)
-      (put-last (done ++ renamedRow numbers q (take k (drop base ts))) l v room long o)
-
--- ---- one transition after another
-
-module _ (numbers : List ℕ) where
-  length-timers : (qs ns ts : List ℕ) → length ns ≡ length qs → total ns ≤ length ts → length (renamedTimers numbers qs ns ts) ≡ total ns
-  unfolding renamedTimers total
-  length-timers [] [] ts e h = refl
-  length-timers [] (n ∷ ns) ts e h = absurd (omega arith)
-  length-timers (q ∷ qs) [] ts e h = absurd (omega arith)
-  length-timers (q ∷ qs) (n ∷ ns) ts e h =
-      rw (length-append, length-row numbers q ts 0 n (omega arith), length-timers qs ns (drop n ts) (omega arith) (simp length-drop (omega arith)))
-
-  timers-last : (qs : List ℕ) (q : ℕ) (ns : List ℕ) (n : ℕ) (ts : List ℕ) → length ns ≡ length qs
-      → renamedTimers numbers (qs ++ (q ∷ [])) (ns ++ (n ∷ [])) ts ≡ renamedTimers numbers qs ns ts ++ renamedRow numbers q (take n (drop (total ns) ts))
-  unfolding renamedTimers total
-  timers-last [] q [] n ts e = append-nil _
-  timers-last [] q (m ∷ ns) n ts e = absurd (omega arith)
-  timers-last (p ∷ qs) q [] n ts e = absurd (omega arith)
-  timers-last (p ∷ qs) q (m ∷ ns) n ts e = rw (timers-last qs q ns n (drop m ts) (omega arith), drop-drop (total ns) m ts, append-assoc)
-
-  module _ (qs ns ts : List ℕ) (i : ℕ) (e : length ns ≡ length qs) (h : i < length qs) where
-    pub timers-more : renamedTimers numbers (take i qs) (take i ns) ts ++ renamedRow numbers (getD qs i 0) (take (getD ns i 0) (drop (total (take i ns)) ts))
-        ≡ renamedTimers numbers (take (i + 1) qs) (take (i + 1) ns) ts
-    timers-more =
-        let l : i < length ns = omega arith in
-        rw (add-one i, take-suc qs i 0 h, take-suc ns i 0 l)
-        (sym (timers-last (take i qs) (getD qs i 0) (take i ns) (getD ns i 0) ts (length-take-le i ns (omega arith) ∙ sym (length-take-le i qs (omega arith)))))
-
-  pub timers-length : (qs ns ts : List ℕ) (i : ℕ) → length ns ≡ length qs → i ≤ length qs → total (take i ns) ≤ length ts
-      → length (renamedTimers numbers (take i qs) (take i ns) ts) ≡ total (take i ns)
-  timers-length qs ns ts i e h room =
-      length-timers (take i qs) (take i ns) ts (length-take-le i ns (omega arith) ∙ sym (length-take-le i qs h)) room
-
-  pub timers-all : (qs ns ts : List ℕ) {i : ℕ} → i ≡ length qs → i ≡ length ns → renamedTimers numbers (take i qs) (take i ns) ts ≡ renamedTimers numbers qs ns ts
-  timers-all qs ns ts {i} e f = ap₂ (λ (x y : List ℕ). renamedTimers numbers x y ts) (whole qs e) (whole ns f)
-    where
-      whole : (l : List ℕ) → i ≡ length l → take i l ≡ l
-      whole l h = rw h (take-length l)
+      (put-last (done ++ renamedRow cells q (take k (drop base ts))) l v room long o)
 
 -- ---- of a chart's transitions
 
-module _ (N : Numbering) (numbers : List ℕ) where
+-- the timers of the tests of the first i transitions of the rewritten chart
+abbrev pub timersTo : Chart → Numbering → ℕ → List ℕ
+timersTo c N i = map (λ (t : Test). t .timer) (allTests (map (newTransition N) (take i (c .transitions))))
+
+pub timers-all : (c : Chart) (N : Numbering) {i : ℕ} → i ≡ length (c .transitions) → timersTo c N i ≡ listsOf (rewrittenBy N c) .timers
+unfolding listsOf rewrittenBy
+timers-all c N e = rw (e, take-length)
+
+module _ (N : Numbering) (cells : List ℕ) where
   -- the cell of each timer that a test of the list reads is its number
   abbrev Read : (q : ℕ) → List Test → Type 0
-  Read q ts = (j : ℕ) → tested j ts ≡ true → (k : ℕ) × Has N q j k × (boardTimer (cellAt numbers q j) ≡ k)
+  Read q ts = (j : ℕ) → tested j ts ≡ true → (k : ℕ) × Has N q j k × (boardTimer (cellAt cells q j) ≡ k)
 
-  row-is : (q : ℕ) (ts : List Test) → Read q ts → renamedRow numbers q (map (λ (t : Test). t .timer) ts) ≡ map (λ (t : Test). t .timer) (newTests N q ts)
+  row-is : (q : ℕ) (ts : List Test) → Read q ts
+      → renamedRow cells q (map (λ (t : Test). t .timer) ts) ≡ map (λ (t : Test). t .timer) (newTests N q ts)
   unfolding renamedRow newTests filterMap
   row-is q [] h = refl
   row-is q (t ∷ ts) h =
       let x = h (t .timer) (tested-head t ts) in
       rw (tests-some N q t ts (x .1)) (ap₂ _∷_ (x .2) (row-is q ts (λ j m. h j (tested-tail j t ts m))))
 
-  timers-are : (rs : List Transition) (beyond : List ℕ) → ((i : ℕ) (r : Transition) → getElem? rs i ≡ some r → Read (r .source) (r .tests))
-      → renamedTimers numbers (map (λ (r : Transition). r .source) rs) (map (λ (r : Transition). length (r .tests)) rs)
-      (map (λ (t : Test). t .timer) (allTests rs) ++ beyond) ≡ map (λ (t : Test). t .timer) (allTests (map (newTransition N) rs))
-  unfolding renamedTimers allTests newTransition
-  timers-are [] beyond h = refl
-  timers-are (r ∷ rs) beyond h =
-      let e : length (map (λ (t : Test). t .timer) (r .tests)) ≡ length (r .tests) = length-map (r .tests) (λ (t : Test). t .timer) in
-      rw (map-append, append-assoc, take-at _ _ _ e, drop-at _ _ _ e, row-is (r .source) (r .tests) (h 0 r refl), timers-are rs beyond (λ i s n. h (suc i) s n), map-append)
+  -- each test of a list that is read has its renamed one
+  row-length : (q : ℕ) (ts : List Test) → Read q ts → length (newTests N q ts) ≡ length ts
+  unfolding renamedRow
+  row-length q ts h =
+      sym (length-map (newTests N q ts) (λ (t : Test). t .timer)) ∙ ap length (sym (row-is q ts h))
+      ∙ length-map (map (λ (t : Test). t .timer) ts) (λ j. boardTimer (cellAt cells q j)) ∙ length-map ts (λ (t : Test). t .timer)
 
-module _ {c : Chart} {ps : List Placed} {numbers : List ℕ} (cs : CellsOf c ps numbers) where
-  pub renamed-timers : (sources test-counts timers : List ℕ) → sources ≡ map (λ (r : Transition). r .source) (c .transitions)
-      → TestsOf (c .transitions) test-counts timers
-      → renamedTimers numbers sources test-counts timers ≡ map (λ (t : Test). t .timer) (allTests (map (newTransition (numbering ps)) (c .transitions)))
-  unfolding numbering
-  renamed-timers sources test-counts timers e t =
-      rw (e, t .test-counts-are, t .timers-are) (timers-are (numbering ps) numbers (c .transitions) (t .beyond) (λ i r n. read (record { there = n })))
-    where
-      read : {i : ℕ} {r : Transition} → Nth c i r → Read (numbering ps) numbers (r .source) (r .tests)
-      read {i} {r} n j m =
-          let x = cs .numbered i r n j m in
-          let small : j < 64 = omega (arith, cs .valid .few-timers, tested-below (cs .valid) j n m) in
-          let is : cellAt numbers (r .source) j ≡ x .0 = cell-number cs (r .source) j (nth-valid (cs .valid) n .source) small ∙ ap cell (x .1) in
-          (x .0, x .1, rw is (timer-yes (x .0) (number-small cs (r .source) j (x .0) (x .1))))
+module _ {W : ℕ} {c : Chart} (valid : Valid W c) {N : Numbering} {cells : List ℕ} (cs : CellsOf c N cells) where
+  read : {i : ℕ} {r : Transition} → Nth c i r → Read N cells (r .source) (r .tests)
+  read {i} {r} n j m =
+      let x = cs .numbered i r n j m in
+      let small : j < 64 = omega (arith, valid .few-timers, tested-below valid j n m) in
+      let is : cellAt cells (r .source) j ≡ x .0 = cell-number valid cs (r .source) j (nth-valid valid n .source) small ∙ ap cell (x .1) in
+      (x .0, x .1, rw is (timer-yes (x .0) (number-small valid cs (r .source) j (x .0) (x .1))))
+
+  module _ {i : ℕ} {r : Transition} (n : Nth c i r) where
+    new-next : allTests (map (newTransition N) (take (i + 1) (c .transitions)))
+        ≡ allTests (map (newTransition N) (take i (c .transitions))) ++ newTests N (r .source) (r .tests)
+    unfolding newTransition
+    new-next = rw (take-next n, map-append) (tests-more (map (newTransition N) (take i (c .transitions))) (newTransition N r))
+
+    pub new-length : length (timersTo c N i) ≡ testsBefore c i → length (timersTo c N (i + 1)) ≡ testsBefore c (i + 1)
+    new-length e =
+        let new : List Test = newTests N (r .source) (r .tests) in
+        let old : List Test = allTests (map (newTransition N) (take i (c .transitions))) in
+        let b : length (timersTo c N (i + 1)) ≡ length (old ++ new) =
+        ap (λ (ts : List Test). length (map (λ (t : Test). t .timer) ts)) new-next ∙ length-map (old ++ new) _ in
+        let s : length new ≡ length (r .tests) = row-length N cells (r .source) (r .tests) (read n) in
+        omega (arith, e, b, s, length-map old (λ (t : Test). t .timer), length-append old new, before-next n)
+
+    -- the next transition's timers stand behind the others
+    pub timers-more : {l : List ℕ} → Begins (listsOf c .timers) l
+        → timersTo c N i ++ renamedRow cells (r .source) (take (length (r .tests)) (drop (testsBefore c i) l)) ≡ timersTo c N (i + 1)
+    timers-more b = rw (timers-next n b, row-is N cells (r .source) (r .tests) (read n), new-next, map-append)
+
+-- the timers of the first i transitions' tests stand over the front of the list, and those of the next begin at base
+pub record TestsRenamed (c : Chart) (N : Numbering) (before after : List ℕ) (base i : ℕ) : Type 0 where
+  pub base-is : base ≡ testsBefore c i
+  pub long : length (timersTo c N i) ≡ testsBefore c i
+  pub renamed-are : after ≡ put (timersTo c N i) before
+
+pub tests-none : (c : Chart) (N : Numbering) (l : List ℕ) → TestsRenamed c N l l 0 0
+unfolding put allTests
+tests-none c N l = record { base-is = refl; long = refl; renamed-are = refl }
+
+-- the next row is written behind them
+pub tests-next : {W : ℕ} {c : Chart} → Valid W c → {N : Numbering} {cells : List ℕ} → CellsOf c N cells → {i : ℕ} {r : Transition} → Nth c i r
+    → {timers : List ℕ} → Begins (listsOf c .timers) timers → {before now after : List ℕ} {base q count : ℕ} → TestsRenamed c N before now base i
+    → q ≡ r .source → count ≡ length (r .tests) → length before ≡ length now
+    → ((done l : List ℕ) → length done ≡ base → length l ≡ length now → now ≡ put done l
+    → after ≡ put (done ++ renamedRow cells q (take count (drop base timers))) l)
+    → TestsRenamed c N before after (base + count) (i + 1)
+tests-next {c = c} valid {N} cs {i} n {timers} b {before} {now} {after} {base} {q} {count} s eq ec e row = record {
+  base-is = omega (arith, s .base-is, ec, before-next n);
+  long = new-length valid cs n (s .long);
+  renamed-are = row (timersTo c N i) before (s .long ∙ sym (s .base-is)) e (s .renamed-are) ∙ rw (eq, ec, s .base-is, timers-more valid cs n b);
+}

@@ -12,21 +12,25 @@ use Rattle.renaming.proofs.rename_row.Statement.{statement}
 use Rattle.renaming.proofs.rename_row.Tie as tie
 
 abbrev Inv-loop : tie.InvT-loop
-Inv-loop timers base count numbers q renamed₀ k₀ renamed k =
+Inv-loop timers base count cells q renamed₀ k₀ renamed k =
     (k ≤ count) × (length renamed ≡ length renamed₀)
     × ((done l : List ℕ) → length done ≡ base → length l ≡ length renamed₀ → renamed₀ ≡ put done l
-    → renamed ≡ put (done ++ renamedRow numbers q (take k (drop base timers))) l)
+    → renamed ≡ put (done ++ renamedRow cells q (take k (drop base timers))) l)
 
 abbrev μ-loop : tie.MeasureT-loop
-μ-loop timers base count numbers q renamed₀ k₀ renamed k = count - k
+μ-loop timers base count cells q renamed₀ k₀ renamed k = count - k
 
 loop-holds : tie.Need-loop-holds Inv-loop μ-loop
 unfolding renamedRow
 loop-holds c = (omega arith, refl, λ done l d e o. o ∙ ap (λ (x : List ℕ). put x l) (sym (append-nil done)))
 
 -- the next timer has a cell in the row
-small : (c : tie.After-shared-slice-known3 Inv-loop μ-loop) → getD (c .before .before .before .before .before .before .args .timers .now) (c .before .before .before .before .before .before .args .base + c .before .before .loop .k) 0 < 64
-small c = c .before .before .before .before .before .before .pre .1 _
+abbrev start : tie.At-loop Inv-loop μ-loop → tie.Start Inv-loop μ-loop
+start l = l .before .before .before .before
+
+small : (c : tie.After-shared-slice-known3 Inv-loop μ-loop) → let l = c .before .before in
+    getD (start l .args .timers .now) (start l .args .base + l .loop .k) 0 < 64
+small c = let l = c .before .before in start l .pre .1 (l .loop .k) (c .before .loop-test .taken)
 
 cast-x : tie.Need-cast-x Inv-loop μ-loop
 cast-x c = search needs
@@ -67,11 +71,12 @@ loop-less c = search needs
 loop-again : tie.Need-loop-again Inv-loop μ-loop
 loop-again c =
     let l = c .before .before .before .before .loop in
-    let a = c .before .before .before .before .before .before .before .before .args in (
+    let a = start (c .before .before .before .before) .args in (
       omega arith,
       length-set (l .renamed) (a .base + l .k) (c .board-timer .result) ∙ l .inv .1,
       λ done m d e o.
-          row-more (a .numbers .now) (a .q) (a .timers .now) (a .base) (l .k) (omega arith) done m d (omega arith) (l .inv .2 done m d e o) (c .board-timer .ensures),
+          row-more (a .cells .now) (a .q) (a .timers .now) (a .base) (l .k) (omega arith) done m d (omega arith) (l .inv .2 done m d e o)
+          (c .board-timer .ensures),
     )
 
 same-length : tie.Need-same-length Inv-loop μ-loop

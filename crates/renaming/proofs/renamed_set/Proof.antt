@@ -7,15 +7,16 @@ use borrow.Author.Tests.{eqb-true, eq-eqb, not-true, not-false}
 use Rattle.lists.proofs.Bools.{not-both}
 use Rattle.timer_set.proofs.LowestMember.{lowest-below, lowest-member, without-less}
 use Rattle.timer_set.proofs.Members.{removed-lt}
-use Rattle.renaming.proofs.Sets.{RenamedTo, renamed-none, renamed-more, renamed-all}
+use Rattle.renaming.specs.Renaming.{RenamedTo}
+use Rattle.renaming.proofs.Sets.{renamed-none, renamed-more}
 use Rattle.renaming.proofs.renamed_set.Statement.{statement}
 use Rattle.renaming.proofs.renamed_set.Tie as tie
 
 abbrev Inv-loop : tie.InvT-loop
-Inv-loop numbers q renamed₀ left₀ renamed left = (left .bits < 2 ^ 64) × RenamedTo numbers q (left₀ .bits) (left .bits) (renamed .bits)
+Inv-loop cells q renamed₀ left₀ renamed left = (left .bits < 2 ^ 64) × RenamedTo cells q (left₀ .bits) (left .bits) (renamed .bits)
 
 abbrev μ-loop : tie.MeasureT-loop
-μ-loop numbers q renamed₀ left₀ renamed left = left .bits
+μ-loop cells q renamed₀ left₀ renamed left = left .bits
 
 -- some timer is left in a turn, and the lowest is one of the 64
 some-left : (a : tie.After-lowest Inv-loop μ-loop) → a .before .before .before .loop .left .bits ≡ 0 → ⊥
@@ -69,7 +70,10 @@ loop-again c =
     )
 
 returns : tie.Need-returns Inv-loop μ-loop
-returns c = let l = c .before .before .loop in renamed-all _ _ _ _ _ (eqb-true _ _ (sym (c .before .is-empty .ensures) ∙ not-false _ (c .if1 .left))) (l .inv .1)
+returns c =
+    let l = c .before .before .loop in
+    let e : l .left .bits ≡ 0 = eqb-true _ _ (sym (c .before .is-empty .ensures) ∙ not-false _ (c .if1 .left)) in
+    rw e at (l .inv .1)
 
 pub renamed-set-spec : {M : Type 1} → statement M
 renamed-set-spec =
