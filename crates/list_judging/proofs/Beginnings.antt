@@ -12,7 +12,7 @@ use Rattle.list_judging.proofs.Items.{Each}
 
 -- at place i of a list
 module _ {x : ℕ} {xs : List ℕ} where
-  pub begins-cons : (w : List ℕ) (i : ℕ) → getElem? w i ≡ some x → Begins xs (drop (suc i) w) → Begins (x ∷ xs) (drop i w)
+  begins-cons : (w : List ℕ) (i : ℕ) → getElem? w i ≡ some x → Begins xs (drop (suc i) w) → Begins (x ∷ xs) (drop i w)
   begins-cons [] i e h = let z : _≡_ {A = ℕ} 0 1 = cc in absurd (omega arith)
   begins-cons (y ∷ w) zero e h = let q : y ≡ x = cc in record { is = rw (q, h .is) }
   begins-cons (y ∷ w) (suc i) e h = begins-cons w i e h

@@ -87,7 +87,7 @@ module _ (l : Lists) (locations timers i k : ℕ) (r : Transition) (e : transiti
   pub from-few : (length (r .starts) ≤ 64) × (length (r .tests) ≤ 8)
   from-few = let h = transition-of l locations timers i k r e in (rw (h .starts-are) (members-few (h .word)), h .few-tests)
 
-  pub from-most : transitionLength 2 r ≤ 105
+  from-most : transitionLength 2 r ≤ 105
   unfolding transitionLength recordLength
   from-most = omega (arith, from-few .0, from-few .1)
 

@@ -2,7 +2,7 @@
 use mathlib.Core.Path.{_≡_, refl, ap, _∙_}
 use mathlib.Core.Option.{some}
 use mathlib.Core.List.{List, [], _∷_, _++_, append-assoc}
-use Prim.Native.Nat.{ℕ, suc, _+_, _*_}
+use Prim.Native.Nat.{ℕ, suc, _+_}
 use native.Mathlib.Omega.{arith}
 use lib.ListN.{length, getD, getElem?, length-append}
 use Rattle.lists.specs.Lists.{gather}
@@ -10,7 +10,6 @@ use Rattle.lists.proofs.Growing.{gather-first}
 use Rattle.lists.proofs.Nth.{getD-nth}
 use Rattle.timer_set.specs.Members.{members}
 use Rattle.file_format.specs.Parse.{digits, writeAll}
-use Rattle.file_format.specs.Body.{recordLength}
 use Rattle.file_format.proofs.Lengths.{length-digits, length-numbers}
 use Rattle.chart_lists.specs.Lists.{Lists}
 use Rattle.writer.specs.Bytes.{testBytes, testAt, testsBytes, headBytes, recordBytes}
@@ -37,27 +36,27 @@ length-testAt l k = length-test _ _ _
 pub starts-bytes : (w : ℕ) → gather (λ i. digits 1 (getD (members w) i 0)) (length (members w)) ≡ writeAll (digits 1) (members w)
 starts-bytes w = gather-all (digits 1) (members w) _ (λ i j e. ap (digits 1) (getD-nth (members w) i 0 e))
 
-pub length-starts : (w : ℕ) → length (writeAll (digits 1) (members w)) ≡ length (members w)
+length-starts : (w : ℕ) → length (writeAll (digits 1) (members w)) ≡ length (members w)
 length-starts w = omega (arith, length-numbers 1 (members w))
 
 -- ---- a record
 
-pub length-head : (size source target event s : ℕ) → length (headBytes size source target event s) ≡ 8
+pub length-head : (source target event s g : ℕ) → length (headBytes source target event s g) ≡ 8
 unfolding headBytes
-length-head size source target event s = simp (length-append, length-digits)
+length-head source target event s g = simp (length-append, length-digits)
 
 -- its parts one after another, s being the number of started timers
 module _ (source target event w g s : ℕ) (e : s ≡ length (members w)) where
   abbrev head : List ℕ
-  head = headBytes (7 + s + 4 * g) source target event s
+  head = headBytes source target event s g
 
-  pub length-front : 8 + s ≡ length (head ++ writeAll (digits 1) (members w))
-  length-front = simp (length-append, length-head, length-starts) (omega arith)
+  pub length-started : 8 + s ≡ length (head ++ writeAll (digits 1) (members w))
+  length-started = simp (length-append, length-head, length-starts) (omega arith)
 
-  pub length-counted : 8 + s + 1 ≡ length ((head ++ writeAll (digits 1) (members w)) ++ digits 1 g)
-  length-counted = simp (length-append, length-head, length-starts, length-digits) (omega arith)
+  pub length-numbered : 8 + s + 1 ≡ length ((head ++ writeAll (digits 1) (members w)) ++ digits 1 g)
+  length-numbered = simp (length-append, length-head, length-starts, length-digits) (omega arith)
 
   pub record-parts : (l : Lists) (k : ℕ)
       → ((head ++ writeAll (digits 1) (members w)) ++ digits 1 g) ++ testsBytes l k g ≡ recordBytes source target event w l k g
-  unfolding recordBytes recordLength
+  unfolding recordBytes
   record-parts l k = rw e (simp append-assoc)

@@ -30,11 +30,11 @@ record Refuses {A : Type 0} (x : Answer A) : Type 0 where
 refuses-result : {A : Type 0} (a : A) → Refuses (result a)
 refuses-result a = record { only = λ n p e. absurd (result-refused refl e) }
 
-same-refusal : {A : Type 0} {n p m q : ℕ} → _≡_ {A = Answer A} (refused n p) (refused m q) → WriteRefusal n p → WriteRefusal m q
-same-refusal {n} {p} {m} {q} e w = let a : n ≡ m = cc in let b : p ≡ q = cc in rw (← a, ← b) w
+refusal-equal : {A : Type 0} {n p m q : ℕ} → _≡_ {A = Answer A} (refused n p) (refused m q) → WriteRefusal n p → WriteRefusal m q
+refusal-equal {n} {p} {m} {q} e w = let a : n ≡ m = cc in let b : p ≡ q = cc in rw (← a, ← b) w
 
 refuses-this : {A : Type 0} {n p : ℕ} → WriteRefusal n p → Refuses {A = A} (refused n p)
-refuses-this w = record { only = λ m q e. same-refusal e w }
+refuses-this w = record { only = λ m q e. refusal-equal e w }
 
 refuses-then : {A B : Type 0} (x : Answer A) (k : A → Answer B) → Refuses x → ((a : A) → x ≡ result a → Refuses (k a))
     → Refuses (then x k)

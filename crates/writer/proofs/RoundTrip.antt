@@ -22,7 +22,7 @@ use Rattle.list_judging.proofs.ValidFrom.{valid-from}
 use Rattle.writer.specs.Writing.{writeInto}
 
 module _ (room : ℕ) (m : Header) (l : Lists) (c : Chart) (e : writeInto room m l ≡ result c) where
-  pub into-from : (chartFrom m l ≡ result c) × (length (fileOf c) ≤ room)
+  into-from : (chartFrom m l ≡ result c) × (length (fileOf c) ≤ room)
   unfolding writeInto
   into-from =
       let a = then-result (chartFrom m l) _ e in

@@ -44,7 +44,7 @@ module _ (w : ℕ) (h : w < 2 ^ 64) (some : w ≡ 0 → ⊥) where
   first-or-other k (inl e) = rw e (ap (member w) (same-number e) ∙ lowest-member w h some)
   first-or-other k (inr e) = rw e (sym (and-true (member w k)))
 
-  pub members-first : members w ≡ lowestMember w ∷ members (removed w (lowestMember w))
+  members-first : members w ≡ lowestMember w ∷ members (removed w (lowestMember w))
   unfolding memb
   members-first = rising-same 64 64 0 (members w) (lowestMember w ∷ others) (members-rising w)
       ((omega arith, lowest-below w h some), rising-from 64 0 _ others (members-rising _) others-above)

@@ -35,16 +35,15 @@ testAt l k = testBytes (getD (l .timers) k 0) (getD (l .codes) k 0) (getD (l .co
 unfoldable pub testsBytes : Lists → (k g : ℕ) → List ℕ
 testsBytes l k g = gather (λ t. testAt l (k + t)) g
 
--- the first eight bytes of a record
-unfoldable pub headBytes : (size source target event s : ℕ) → List ℕ
-headBytes size source target event s =
-    digits 2 size ++ (digits 2 source ++ (digits 2 target ++ (digits 1 event ++ digits 1 s)))
+-- the first eight bytes of the record of a transition with s started timers and g tests
+unfoldable pub headBytes : (source target event s g : ℕ) → List ℕ
+headBytes source target event s g =
+    digits 2 (recordLength 2 s g) ++ (digits 2 source ++ (digits 2 target ++ (digits 1 event ++ digits 1 s)))
 
 -- the record of a transition that starts the timers of w and has g tests from place k on
 unfoldable pub recordBytes : (source target event w : ℕ) → Lists → (k g : ℕ) → List ℕ
 recordBytes source target event w l k g =
-    let s = length (members w) in
-    headBytes (recordLength 2 s g) source target event s ++ (writeAll (digits 1) (members w) ++ (digits 1 g ++ testsBytes l k g))
+    headBytes source target event (length (members w)) g ++ (writeAll (digits 1) (members w) ++ (digits 1 g ++ testsBytes l k g))
 
 -- version, length of what follows, and the header up to the accepting locations
 unfoldable pub frontBytes : (size : ℕ) → Header → List ℕ

@@ -62,12 +62,12 @@ fn put_starts(out: &mut [u8], set: TimerSet)
     }
 }
 
-// The first eight bytes of a record.
-fn put_head(out: &mut [u8], size: u16, source: u16, target: u16, event: u8, s: u8)
+// The first eight bytes of the record of a transition with s started timers and g tests.
+fn put_head(out: &mut [u8], source: u16, target: u16, event: u8, s: u8, g: u8)
     requires { ⌜ 8 ≤ length (now out) ⌝ }
-    ensures { λ _. ⌜ now (out .exit) ≡ put (headBytes size source target event s) (now (out .entry)) ⌝ }
+    ensures { λ _. ⌜ now (out .exit) ≡ put (headBytes source target event s g) (now (out .entry)) ⌝ }
 {
-    put_pair(out, size);
+    put_pair(out, 7 + (s as u16) + 4 * (g as u16));
     put_triple(&mut out[2..], source, target, event);
     put_byte(&mut out[7..], s);
 }
@@ -92,14 +92,7 @@ fn write_record<'a>(
         ≡ put (recordBytes source target event (set .bits) (testsAtEntry timers codes constants) k g) (now (out .entry)) ⌝ }
 {
     let s = set.count();
-    put_head(
-        out,
-        (7 + s + 4 * (g as u32)) as u16,
-        source,
-        target,
-        event,
-        s as u8,
-    );
+    put_head(out, source, target, event, s as u8, g);
     put_starts(&mut out[8..], set);
     let at = 8 + s as usize;
     put_byte(&mut out[at..], g);

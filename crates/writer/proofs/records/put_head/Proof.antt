@@ -2,11 +2,21 @@
 use mathlib.Core.List.{append-assoc}
 use lib.ListN.{length-append}
 use borrow.Author.Needs.{needs}
+use Rattle.file_format.specs.Body.{recordLength}
 use Rattle.file_format.proofs.Lengths.{length-digits}
 use Rattle.chart_lists.proofs.Fields.{fields-first, fields-next, fields-done}
 use Rattle.writer.specs.Bytes.{tripleBytes, headBytes}
 use Rattle.writer.proofs.records.put_head.Statement.{statement}
 use Rattle.writer.proofs.records.put_head.Tie as tie
+
+add-put-pair : tie.Need-add-put-pair
+add-put-pair c = search needs
+
+mul-put-pair : tie.Need-mul-put-pair
+mul-put-pair c = search needs
+
+add-put-pair-2 : tie.Need-add-put-pair-2
+add-put-pair-2 c = search needs
 
 put-pair-requires : tie.Need-put-pair-requires
 put-pair-requires c κs = search needs
@@ -39,7 +49,7 @@ same-length : tie.Need-same-length
 same-length c = search needs
 
 returns : tie.Need-returns
-unfolding tripleBytes headBytes
+unfolding tripleBytes headBytes recordLength
 returns c =
     let count = c .before .before in
     let ends = count .before .before .before .before in
@@ -53,6 +63,9 @@ pub put-head-spec : {M : Type 1} → statement M
 put-head-spec =
     tie.close
     (tie.spec
+    add-put-pair
+    mul-put-pair
+    add-put-pair-2
     put-pair-requires
     sub-put-triple
     part-put-triple-start

@@ -8,7 +8,7 @@ use borrow.Author.Needs.{needs}
 use Rattle.timer_set.specs.Members.{members}
 use Rattle.timer_set.proofs.Counts.{ones-members}
 use Rattle.chart_lists.proofs.Fields.{fields-first, fields-next, fields-done}
-use Rattle.writer.proofs.FieldBytes.{length-head, length-front, length-counted, record-parts}
+use Rattle.writer.proofs.FieldBytes.{length-head, length-started, length-numbered, record-parts}
 use Rattle.list_judging.proofs.Turns.{members-few}
 use Rattle.writer.proofs.records.write_record.Statement.{statement}
 use Rattle.writer.proofs.records.write_record.Tie as tie
@@ -35,20 +35,8 @@ counted-3 c = counted (c .before .before .before .before .before .before .before
 abbrev timers-put : tie.After-slice-known4 → tie.After-slice-known3
 timers-put c = c .before .before .before .before
 
-add-put-head : tie.Need-add-put-head
-add-put-head c = let s = counted (c .before) in omega arith
-
-mul-put-head : tie.Need-mul-put-head
-mul-put-head c = search needs
-
-add-put-head-2 : tie.Need-add-put-head-2
-add-put-head-2 c = let s = counted (c .before) in omega arith
-
 cast-put-head : tie.Need-cast-put-head
 cast-put-head c = let s = counted (c .before) in omega arith
-
-cast-put-head-2 : tie.Need-cast-put-head-2
-cast-put-head-2 c = let s = counted (c .before) in omega arith
 
 put-head-requires : tie.Need-put-head-requires
 put-head-requires c κs = search needs
@@ -115,8 +103,8 @@ returns c =
     let head = timers .before .before .before .before in
     let s = counted-3 (number .before .before) .is in
     let a = fields-next (fields-first (head .put-head .ensures)) 8 _ (sym (length-head _ _ _ _ _)) (timers .put-starts .ensures) in
-    let b = fields-next a _ _ (length-front _ _ _ _ _ _ s) (number .put-byte .ensures) in
-    let d = fields-next b _ _ (length-counted _ _ _ _ _ _ s) (tests .put-tests .ensures) in
+    let b = fields-next a _ _ (length-started _ _ _ _ _ _ s) (number .put-byte .ensures) in
+    let d = fields-next b _ _ (length-numbered _ _ _ _ _ _ s) (tests .put-tests .ensures) in
     (omega (arith, s), fields-done _ d (record-parts _ _ _ _ _ _ s _ _))
 
 pub write-record-spec : {M : Type 1} → statement M
@@ -124,11 +112,7 @@ write-record-spec =
     tie.close
     (tie.spec
     count-requires
-    add-put-head
-    mul-put-head
-    add-put-head-2
     cast-put-head
-    cast-put-head-2
     put-head-requires
     sub-put-starts
     part-put-starts-start
