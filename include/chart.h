@@ -1,25 +1,11 @@
 /* Timing charts: analysis, rewriting for a board of K timers, player. Link libexports.a (`rt staticlib exports`).
  *
- * A slice is a pointer and the number of its entries. Slices of one call must not overlap one that the call writes to, and nothing else may read or write
- * that one during the call. An empty slice is allowed; its pointer may then be null.
+ * A slice is a pointer and the number of its entries. Slices of one call must not overlap one that the call writes to, and nothing else may read or
+ * write that one during the call. An empty slice is allowed; its pointer may then be null.
  *
- * Every answer has a number: 0 where there is a result, else the number of a refusal, in the order of the reading and then the lowest that
- * applies. place is 0 with a result, else the refusal's place: a location, timer, transition or step from 0, or 65535 where there is no other.
- * With a refusal the result's fields are 0 and lent memory holds what it held before.
- *
- * The refusals, of the input:
- *    1  fewer than 5 bytes, or a wrong length in the file's head       9  a location that no path from the initial one reaches
- *    2  a version other than 1                                        10  a test of a timer that some path to it has not started
- *    3  a field cut off, bytes left over, a wrong record length       11  K over 64
- *    4  0 or too many locations, or too many of something else        12  counts not one for each timer, or one over 16777215
- *    5  a location number too large                                   13  step lists of different lengths
- *    6  a timer number too large                                      14  a step names no transition
- *    7  numbers not strictly rising                                   15  a step's time over 16777215
- *    8  a comparison code over 4
- * and of the state:
- *   20  K timers do not suffice                                       23  a step's time is before the present one
- *   21  a lent slice is too short for the result                      24  a test of the step is not met
- *   22  the step's transition does not leave the present location
+ * Every answer has a number: CHART_NO_REFUSAL where there is a result, else that of a refusal (chart_refusal), in the order of the reading and then
+ * the lowest that applies. place is 0 with a result, else the refusal's place: a location, timer, transition or step from 0, or CHART_NOWHERE where
+ * there is no other. With a refusal the result's fields are 0 and lent memory holds what it held before.
  */
 #ifndef CHART_H
 #define CHART_H
@@ -27,11 +13,56 @@
 #include <stddef.h>
 #include <stdint.h>
 
+/* The limits of a chart. A transition starts at most CHART_MOST_TIMERS timers, and a board has at most as many. */
+#define CHART_MOST_LOCATIONS 256
+#define CHART_MOST_TIMERS 64
+#define CHART_MOST_TRANSITIONS 512
+#define CHART_MOST_TESTS 8 /* of one transition */
+
+/* The bytes of the largest chart file. */
+#define CHART_LARGEST_FILE 54286
+
+/* The largest time of a step, and the largest starting count of a timer. */
+#define CHART_MOST_TICKS 16777215
+
+/* The place of a refusal that has no other. Step 65535 has the same number; a refusal of a step always has a place. */
+#define CHART_NOWHERE 65535
+
 #ifdef __cplusplus
 extern "C" {
 #endif
 
-/* used: the board timers that the chart takes; it may exceed 64. floor: the timers live at once where most are. */
+/* The numbers of an answer. */
+typedef enum chart_refusal {
+    CHART_NO_REFUSAL = 0, /* there is a result */
+
+    /* turned down because of the input */
+    CHART_REFUSED_WRONG_LENGTH = 1,        /* fewer than 5 bytes, or a wrong length in the file's head */
+    CHART_REFUSED_WRONG_VERSION = 2,       /* a version other than 1 */
+    CHART_REFUSED_CUT_OFF = 3,             /* a field cut off, bytes left over, or a wrong record length */
+    CHART_REFUSED_TOO_MANY = 4,            /* no location, or more of something than its limit above */
+    CHART_REFUSED_NO_SUCH_LOCATION = 5,    /* a location number not below the number of locations */
+    CHART_REFUSED_NO_SUCH_TIMER = 6,       /* a timer number not below the number of timers */
+    CHART_REFUSED_NOT_RISING = 7,          /* accepting locations or starts not strictly rising */
+    CHART_REFUSED_NO_SUCH_COMPARISON = 8,  /* a comparison code over 4 */
+    CHART_REFUSED_UNREACHED = 9,           /* a location that no path from the initial one reaches */
+    CHART_REFUSED_UNSTARTED = 10,          /* a test of a timer that some path to it has not started */
+    CHART_REFUSED_LIMIT_TOO_LARGE = 11,    /* K over CHART_MOST_TIMERS */
+    CHART_REFUSED_WRONG_COUNTS = 12,       /* starting counts not one for each timer, or one over CHART_MOST_TICKS */
+    CHART_REFUSED_UNEQUAL_LISTS = 13,      /* the lists of transitions and of times differ in length */
+    CHART_REFUSED_NO_SUCH_TRANSITION = 14, /* a step names no transition */
+    CHART_REFUSED_TIME_TOO_LARGE = 15,     /* a step's time is over CHART_MOST_TICKS */
+    CHART_REFUSED_INPUT_TOO_LONG = 16,     /* by the program `allocate` alone: its input is over 65536 bytes */
+
+    /* turned down because of the state */
+    CHART_REFUSED_BOARD_TOO_SMALL = 20,    /* K timers do not suffice */
+    CHART_REFUSED_NO_ROOM = 21,            /* a lent slice is too short for the result */
+    CHART_REFUSED_WRONG_SOURCE = 22,       /* the step's transition does not leave the present location */
+    CHART_REFUSED_TIME_BEFORE = 23,        /* a step's time is before the present one */
+    CHART_REFUSED_TEST_NOT_MET = 24        /* a test of the step is not met */
+} chart_refusal;
+
+/* used: the board timers that the chart takes; it may exceed CHART_MOST_TIMERS. floor: the timers live at once where most are. */
 typedef struct chart_analysis {
     uint64_t number;
     uint64_t place;
@@ -57,15 +88,17 @@ typedef struct chart_playing {
 } chart_playing;
 
 /* Analyses a chart file. Writes the live set of each location into live, location 0 first, timer j at bit j.
- * live needs one entry for each location, 256 always suffice; entries beyond the locations are untouched. Refusals: 1 to 10, 21. */
+ * live needs one entry for each location, CHART_MOST_LOCATIONS are always enough; entries beyond the locations are untouched.
+ * Refusals: 1 to 10, 21. */
 chart_analysis chart_analyse(const uint8_t *file, size_t file_length, uint64_t *live, size_t live_length);
 
 /* Rewrites a chart file for a board of k timers. Writes the new file into out.
- * out needs the new file's length, at most that of the largest file, 54286; bytes beyond it are untouched. Refusals: 1 to 11, 20, 21. */
+ * out needs the new file's length, CHART_LARGEST_FILE bytes are always enough; bytes beyond it are untouched.
+ * Refusals: 1 to 11, 20, 21. */
 chart_rewriting chart_rewrite(const uint8_t *file, size_t file_length, uint32_t k, uint8_t *out, size_t out_length);
 
 /* Plays a list of steps on a chart file, from a starting count for each timer: step i takes transitions[i] at tick times[i].
- * counts has one entry for each timer, at most 16777215; transitions and times have the same length, which has no limit.
+ * counts has one entry for each timer, at most CHART_MOST_TICKS; transitions and times have the same length, which has no limit.
  * Nothing is written. Refusals: 1 to 10, 12, 13 before the steps; then step by step 14, 15, 22, 23, 24, place is the step. */
 chart_playing chart_play(
     const uint8_t *file, size_t file_length,

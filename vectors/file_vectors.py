@@ -1,6 +1,6 @@
 """Vectors for the reader and the writer of chart files. The expected lines are written from document 01, not taken from a run.
 
-Each read vector: a comment, the nine lists' lengths (or LARGEST), the file's bytes, the expected lines. Each write vector: a comment, the numbers,
+Each read vector: a comment, the nine lists' lengths (or LARGEST), the file's bytes, the expected lines. Each write vector: a comment, the header,
 the nine lists, the room, the expected lines. `vectors/make` turns them into the input and the expected output of crates/vectors_file.
 
 What the program prints:
@@ -156,9 +156,9 @@ read('no list is needed', SMALL,
      ['locations 1 initial 0 timers 0 accepting 0 transitions 0 beyond 0', 'written 14 0100000009000100000000000000 next aa'], [0] * 9)
 
 
-# ---- the writer: numbers (locations, initial, timers, accepting, transitions), the nine lists, the room
-def write(comment, numbers, lists, room, lines):
-    WRITE.append((comment, numbers, lists, room, lines if isinstance(lines, list) else [lines]))
+# ---- the writer: the header (locations, initial, timers, accepting, transitions), the nine lists, the room
+def write(comment, header, lists, room, lines):
+    WRITE.append((comment, header, lists, room, lines if isinstance(lines, list) else [lines]))
 
 
 GOOD = (3, 1, 2, 2, 2)

@@ -23,7 +23,7 @@ static void analyse(size_t room) {
     for (size_t q = 0; q < LENGTH(live); q++)
         live[q] = UNTOUCHED;
     chart_analysis a = chart_analyse(B, sizeof B, live, room);
-    if (a.number != 0)
+    if (a.number != CHART_NO_REFUSAL)
         printf("refused %" PRIu64 " %" PRIu64 "\n", a.number, a.place);
     else
         printf("used %" PRIu64 " floor %" PRIu64 "\n", a.used, a.floor);
@@ -38,7 +38,7 @@ static size_t rewrite(uint32_t k, uint8_t *out, size_t room) {
     for (size_t i = 0; i < room; i++)
         out[i] = UNTOUCHED;
     chart_rewriting r = chart_rewrite(B, sizeof B, k, out, room);
-    if (r.number != 0) {
+    if (r.number != CHART_NO_REFUSAL) {
         printf("refused %" PRIu64 " %" PRIu64 "\n", r.number, r.place);
         return 0;
     }
@@ -52,7 +52,7 @@ static size_t rewrite(uint32_t k, uint8_t *out, size_t room) {
 static void play(const uint8_t *file, size_t length, const uint32_t *counts, size_t timers,
                  const uint32_t *transitions, const uint64_t *times, size_t steps) {
     chart_playing p = chart_play(file, length, counts, timers, transitions, steps, times, steps);
-    if (p.number != 0)
+    if (p.number != CHART_NO_REFUSAL)
         printf("refused %" PRIu64 " %" PRIu64 "\n", p.number, p.place);
     else
         printf("location %" PRIu64 " time %" PRIu64 " accepting %" PRIu64 "\n", p.location, p.time, p.accepting);
@@ -64,13 +64,13 @@ int main(void) {
 
     uint8_t board[64];
     rewrite(0, board, sizeof board);
-    rewrite(65, board, sizeof board);
+    rewrite(CHART_MOST_TIMERS + 1, board, sizeof board);
     rewrite(16, board, 1);
     size_t length = rewrite(16, board, sizeof board);
 
     const uint32_t transitions[] = {0, 1, 2};
     const uint64_t in_time[] = {5, 7, 8}, late[] = {5, 8}, back[] = {5, 4}, early[] = {5, 7, 7};
-    const uint32_t counts[] = {16777215, 0}, over[] = {16777216, 0};
+    const uint32_t counts[] = {CHART_MOST_TICKS, 0}, over[] = {CHART_MOST_TICKS + 1, 0};
 
     /* B as drawn, and as rewritten */
     for (int rewritten = 0; rewritten < 2; rewritten++) {

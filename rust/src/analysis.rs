@@ -1,16 +1,20 @@
 //! The analysis: reached, unstarted and live; families, their board numbers by first fit, used and floor.
 
 use crate::chart::{Chart, Transition};
+use crate::limits::{LOCATIONS, TIMERS, TRANSITIONS};
 use crate::refusal::{Answer, Refusal};
 use crate::sets::{LocationSet, TimerSet};
 
 /// One entry for each location that a chart can have; a location's byte is always inside.
-type ByLocation<T> = [T; 256];
+type ByLocation<T> = [T; LOCATIONS];
+
+/// The last position of an order of locations.
+const LAST: u8 = (LOCATIONS - 1) as u8;
 
 /// What the analysis returns beside the live sets.
 #[derive(Clone, Copy, Debug, PartialEq, Eq)]
 pub struct Analysis {
-    /// One more than the largest board number given, 0 if there is no family. It may exceed 64.
+    /// One more than the largest board number given, 0 if there is no family. It may exceed the timers of any board.
     pub used: u64,
     /// The size of the fullest live set of any location.
     pub floor: u64,
@@ -53,12 +57,12 @@ pub fn judge(chart: &Chart) -> Answer<Graph> {
 struct Grouped {
     /// Where each location's group ends in `transitions`; it begins where the one before ends.
     ends: ByLocation<u16>,
-    transitions: [u16; 512],
+    transitions: [u16; TRANSITIONS],
 }
 
 impl Grouped {
     fn by(chart: &Chart, end: impl Fn(&Transition) -> u8) -> Self {
-        let mut ends = [0; 256];
+        let mut ends = [0; LOCATIONS];
         for transition in chart.transitions() {
             ends[usize::from(end(transition))] += 1;
         }
@@ -68,7 +72,7 @@ impl Grouped {
             *entry = sum - *entry;
         }
         // Each entry is its group's first place now, and moves to its end as the group is filled.
-        let mut transitions = [0; 512];
+        let mut transitions = [0; TRANSITIONS];
         for (index, transition) in chart.transitions().iter().enumerate() {
             let place = &mut ends[usize::from(end(transition))];
             transitions[usize::from(*place)] = index as u16;
@@ -106,12 +110,12 @@ impl Graph {
     fn of(chart: &Chart) -> Self {
         let leaving = Grouped::by(chart, |transition| transition.source);
         let mut reached = LocationSet::EMPTY;
-        let mut order = [0; 256];
-        let mut position = [0; 256];
-        let mut path = [0; 256];
+        let mut order = [0; LOCATIONS];
+        let mut position = [0; LOCATIONS];
+        let mut path = [0; LOCATIONS];
         let mut depth = 0;
-        let mut next = [0; 256];
-        let mut free = 256;
+        let mut next = [0; LOCATIONS];
+        let mut free = LOCATIONS;
         let mut location = chart.initial();
         reached.add(location);
         next[usize::from(location)] = leaving.first(location);
@@ -145,7 +149,7 @@ impl Graph {
 
 /// Of each location the timers that some path to it from the initial location starts nowhere.
 fn unstarted_sets(chart: &Chart, graph: &Graph) -> ByLocation<TimerSet> {
-    let mut sets = [TimerSet::EMPTY; 256];
+    let mut sets = [TimerSet::EMPTY; LOCATIONS];
     sets[usize::from(chart.initial())] = TimerSet::below(chart.timers());
     let mut pending = LocationSet::EMPTY;
     pending.add(graph.position[usize::from(chart.initial())]);
@@ -175,25 +179,25 @@ pub struct Liveness {
 impl Liveness {
     /// A timer is live where a test of it leaves, and backwards along transitions that do not start it.
     pub fn of(chart: &Chart, graph: Graph) -> Self {
-        let mut sets = [TimerSet::EMPTY; 256];
+        let mut sets = [TimerSet::EMPTY; LOCATIONS];
         let mut pending = LocationSet::EMPTY;
         for transition in chart.transitions() {
             let source = &mut sets[usize::from(transition.source)];
             *source = source.joined(transition.tested);
             if !source.is_empty() {
-                pending.add(255 - graph.position[usize::from(transition.source)]);
+                pending.add(LAST - graph.position[usize::from(transition.source)]);
             }
         }
         let entering = Grouped::by(chart, |transition| transition.target);
         while let Some(position) = pending.take_lowest() {
-            let location = graph.order[usize::from(255 - position)];
+            let location = graph.order[usize::from(LAST - position)];
             let here = sets[usize::from(location)];
             for transition in entering.group(chart, location) {
                 let source = &mut sets[usize::from(transition.source)];
                 let joined = source.joined(here.minus(transition.starts));
                 if joined != *source {
                     *source = joined;
-                    pending.add(255 - graph.position[usize::from(transition.source)]);
+                    pending.add(LAST - graph.position[usize::from(transition.source)]);
                 }
             }
         }
@@ -228,13 +232,13 @@ pub struct Families(Vec<Family>);
 
 impl Families {
     /// Goes through the locations, rising. The live timers of a location that are in no family yet begin one family
-    /// each, and these spread over their links all at once, as one word at each location.
+    /// each, and these propagate along their links all at once, as one word at each location.
     pub fn of(chart: &Chart, liveness: &Liveness) -> Self {
         let mut families = Vec::new();
-        let mut spreading = Spreading::default();
-        let mut place = [0; 64];
+        let mut propagation = Propagation::default();
+        let mut place = [0; TIMERS];
         for (first, &live) in liveness.sets().iter().enumerate() {
-            let begun = live.minus(spreading.placed[first]);
+            let begun = live.minus(propagation.placed[first]);
             if begun.is_empty() {
                 continue;
             }
@@ -242,9 +246,9 @@ impl Families {
                 place[usize::from(timer)] = families.len();
                 families.push(Family { timer, locations: LocationSet::EMPTY });
             }
-            spreading.from(chart, liveness, first as u8, begun);
-            std::mem::take(&mut spreading.touched).iter().for_each(|location| {
-                for timer in std::mem::take(&mut spreading.members[usize::from(location)]) {
+            propagation.run(chart, liveness, first as u8, begun);
+            std::mem::take(&mut propagation.touched).iter().for_each(|location| {
+                for timer in std::mem::take(&mut propagation.members[usize::from(location)]) {
                     families[place[usize::from(timer)]].locations.add(location);
                 }
             });
@@ -260,14 +264,14 @@ impl Families {
     /// Gives each family the smallest number below `limit` that no earlier family which it meets holds; none if all
     /// are held for some family.
     pub fn first_fit(&self, limit: usize) -> Option<Vec<u16>> {
-        // Of each location the numbers held there, 64 to a row of words.
+        // Of each location the numbers held there, as many to a row as a word has bits.
         let mut held: Vec<ByLocation<u64>> = Vec::new();
         let mut numbers = Vec::with_capacity(self.0.len());
         for Family { locations, .. } in &self.0 {
             let mut row = 0;
             let free = loop {
                 let Some(words) = held.get(row) else {
-                    held.push([0; 256]);
+                    held.push([0; LOCATIONS]);
                     break 0;
                 };
                 let taken = locations.iter().fold(0, |taken, location| taken | words[usize::from(location)]);
@@ -276,7 +280,7 @@ impl Families {
                 }
                 row += 1;
             };
-            let number = 64 * row + free;
+            let number = u64::BITS as usize * row + free;
             if number >= limit {
                 return None;
             }
@@ -289,7 +293,7 @@ impl Families {
 }
 
 /// Families of different timers that are being found, all from one first location.
-struct Spreading {
+struct Propagation {
     /// At each location the timers that are in a family by now.
     placed: ByLocation<TimerSet>,
     /// At each location the timers that are in one of the families at hand.
@@ -300,20 +304,20 @@ struct Spreading {
     pending: LocationSet,
 }
 
-impl Default for Spreading {
+impl Default for Propagation {
     fn default() -> Self {
-        Spreading {
-            placed: [TimerSet::EMPTY; 256],
-            members: [TimerSet::EMPTY; 256],
+        Propagation {
+            placed: [TimerSet::EMPTY; LOCATIONS],
+            members: [TimerSet::EMPTY; LOCATIONS],
             touched: LocationSet::EMPTY,
             pending: LocationSet::EMPTY,
         }
     }
 }
 
-impl Spreading {
+impl Propagation {
     /// Follows the links of `begun` from their first location.
-    fn from(&mut self, chart: &Chart, liveness: &Liveness, first: u8, begun: TimerSet) {
+    fn run(&mut self, chart: &Chart, liveness: &Liveness, first: u8, begun: TimerSet) {
         self.add(first, begun);
         while let Some(location) = self.pending.take_lowest() {
             let members = self.members[usize::from(location)];

@@ -1,20 +1,15 @@
 //! The chart, its file, the reader and the writer.
 //!
-//! A [`Chart`] is only made by the reader, so it always keeps the limits of refusals 4 to 8. Locations are below 256 and
-//! fit a byte, which indexes tables of 256 entries.
+//! A [`Chart`] is only made by the reader, so it always keeps the limits of refusals 4 to 8. Locations are below
+//! [`MOST_LOCATIONS`] and fit a byte, which is always inside a table with an entry for each of them.
 
 use std::cmp::Ordering;
 
-use crate::refusal::{Answer, Refusal, NOWHERE};
+use crate::limits::{MOST_LOCATIONS, MOST_STARTS, MOST_TESTS, MOST_TIMERS, MOST_TRANSITIONS, NOWHERE};
+use crate::refusal::{Answer, Refusal};
 use crate::sets::{LocationSet, TimerSet};
 
-pub const MOST_LOCATIONS: u16 = 256;
-pub const MOST_TIMERS: u8 = 64;
-pub const MOST_TRANSITIONS: u16 = 512;
-pub const MOST_STARTS: u8 = 64;
-pub const MOST_TESTS: u8 = 8;
-
-/// How a timer's count is held to a test's constant. The values are the file's codes.
+/// How a timer's count is compared with a test's constant. The values are the file's codes.
 #[derive(Clone, Copy, Debug, PartialEq, Eq)]
 #[repr(u8)]
 pub enum Comparison {
@@ -89,7 +84,7 @@ pub struct Chart {
 }
 
 impl Chart {
-    /// The number of locations, 1 to 256.
+    /// The number of locations, 1 to [`MOST_LOCATIONS`].
     #[inline]
     pub fn locations(&self) -> u16 {
         self.locations
@@ -100,7 +95,7 @@ impl Chart {
         self.initial
     }
 
-    /// The number of timers, 0 to 64.
+    /// The number of timers, 0 to [`MOST_TIMERS`].
     #[inline]
     pub fn timers(&self) -> u8 {
         self.timers
@@ -301,7 +296,8 @@ fn read_body(fields: &mut Fields) -> Answer<Chart> {
     let accepting = read_accepting(fields, locations)?;
     let count = limited(fields.number()?, MOST_TRANSITIONS, NOWHERE)?;
     // No more tests can follow than the bytes allow.
-    let room = (fields.rest.len().saturating_sub(9 * usize::from(count)) / 4).min(8 * usize::from(count));
+    let most = usize::from(MOST_TESTS) * usize::from(count);
+    let room = (fields.rest.len().saturating_sub(9 * usize::from(count)) / 4).min(most);
     let mut chart = Chart {
         locations,
         initial,

@@ -1,7 +1,9 @@
 //! Random charts, damaged files and step lists from a seed. For tests and measurements.
 
 use crate::drawing::{Arrow, Drawing, AT_LEAST, AT_MOST, BELOW};
-use crate::player::LATEST;
+use crate::limits::{
+    LARGEST_CONSTANT, MOST_LOCATIONS, MOST_STARTS, MOST_TESTS, MOST_TICKS, MOST_TIMERS, MOST_TRANSITIONS, TIMERS,
+};
 
 /// A small generator of random numbers (SplitMix64).
 #[derive(Clone, Debug)]
@@ -80,32 +82,32 @@ impl Shape {
         let spare = random.pick(&[0, 1, u64::from(locations), 2 * u64::from(locations)]);
         let timers = match random.below(10) {
             0 => 0,
-            1 | 2 => 64,
-            3 => random.between(1, 64),
+            1 | 2 => u64::from(MOST_TIMERS),
+            3 => random.between(1, u64::from(MOST_TIMERS)),
             _ => random.between(1, 8),
         } as u8;
         Shape {
             locations,
             timers,
-            transitions: (u64::from(locations) - 1 + spare).min(512) as u16,
+            transitions: (u64::from(locations) - 1 + spare).min(u64::from(MOST_TRANSITIONS)) as u16,
             starting: random.pick(&[10, 30, 60, 90]),
-            starts: random.pick(&[(1, 1), (1, 2), (1, 3), (1, 8), (1, 64), (50, 64)]),
-            tests: random.pick(&[(0, 1), (0, 1), (0, 2), (1, 3), (0, 8), (8, 8)]),
+            starts: random.pick(&[(1, 1), (1, 2), (1, 3), (1, 8), (1, MOST_STARTS), (50, MOST_STARTS)]),
+            tests: random.pick(&[(0, 1), (0, 1), (0, 2), (1, 3), (0, MOST_TESTS), (MOST_TESTS, MOST_TESTS)]),
             start_all: random.chance(1, 2),
-            constant: random.pick(&[0, 3, 10, 10, 1_000, 65_535]),
+            constant: random.pick(&[0, 3, 10, 10, 1_000, LARGEST_CONSTANT]),
             cycle: random.chance(1, 3),
             lenient: random.chance(1, 4),
         }
     }
 
-    /// The largest chart: 256 locations, 512 transitions, 64 timers, 8 tests wherever they are surely started.
+    /// The largest chart: as many of each as there may be, tests wherever their timers are surely started.
     pub const LARGEST: Shape = Shape {
-        locations: 256,
-        timers: 64,
-        transitions: 512,
+        locations: MOST_LOCATIONS,
+        timers: MOST_TIMERS,
+        transitions: MOST_TRANSITIONS,
         starting: 40,
         starts: (1, 3),
-        tests: (8, 8),
+        tests: (MOST_TESTS, MOST_TESTS),
         start_all: true,
         constant: 20,
         cycle: false,
@@ -113,9 +115,9 @@ impl Shape {
     };
 
     /// Many timers live everywhere and most of them started anew everywhere: many small families, whose numbers often
-    /// exceed 64.
+    /// exceed those of any board.
     pub const SMALL_FAMILIES: Shape =
-        Shape { locations: 24, transitions: 300, starting: 100, starts: (54, 64), ..Shape::LARGEST };
+        Shape { locations: 24, transitions: 300, starting: 100, starts: (54, MOST_STARTS), ..Shape::LARGEST };
 }
 
 /// A chart that passes 1 to 10: each location is reached, and each test reads a timer started on every path to it.
@@ -167,10 +169,10 @@ pub fn accepted(random: &mut Random, shape: &Shape) -> Drawing {
             continue;
         }
         for _ in 0..random.between(u64::from(shape.tests.0), u64::from(shape.tests.1)) {
-            let most = if random.chance(1, 50) { 65_535 } else { u64::from(shape.constant) };
-            let constant = random.between(0, most) as u16;
+            let most = if random.chance(1, 50) { LARGEST_CONSTANT } else { shape.constant };
+            let constant = random.between(0, u64::from(most)) as u16;
             let (code, constant) = if shape.lenient {
-                random.pick(&[(AT_LEAST, 0), (AT_MOST, 65_535), (BELOW, 65_535)])
+                random.pick(&[(AT_LEAST, 0), (AT_MOST, LARGEST_CONSTANT), (BELOW, LARGEST_CONSTANT)])
             } else {
                 (random.below(5) as u8, constant)
             };
@@ -200,7 +202,7 @@ fn surely_started(drawing: &Drawing) -> Vec<u64> {
 }
 
 /// A chart for which first fit hands out `levels` times `half` numbers, with 2 times `half` timers. 3 to 17 levels,
-/// `half` at most 32 and at most 8 times `levels` less 16.
+/// `half` at most half of [`MOST_TIMERS`] and at most [`MOST_TESTS`] for each level but two.
 ///
 /// The timers are two halves, A and B. Each level has a group of families of A and one of B; but the last has no group
 /// of B, and so the last but one needs none of A. For any two different levels, a location has the A group of the one
@@ -230,7 +232,7 @@ pub fn many_numbers(levels: u16, half: u8) -> Drawing {
                 cycle.insert(0, 1);
             }
             let (tested, started) = if is_a { all.split_at(usize::from(half)) } else { swapped(&all, half) };
-            let mut tests = tested.chunks(8);
+            let mut tests = tested.chunks(usize::from(MOST_TESTS));
             for (index, &source) in cycle.iter().enumerate() {
                 let target = cycle[(index + 1) % cycle.len()];
                 let mut transition = Arrow::new(source, target).starts(started);
@@ -249,9 +251,9 @@ fn swapped(all: &[u8], half: u8) -> (&[u8], &[u8]) {
 }
 
 /// A chart of five locations for which first fit hands out 65 numbers: the second family of timer 0 meets all others
-/// at location 3 and, at location 4, a family of timer `other` that holds number 0. `other` is 1 to 63.
+/// at location 3 and, at location 4, a family of timer `other` that holds number 0. `other` is not 0.
 pub fn sixty_five_numbers(other: u8) -> Drawing {
-    let all: Vec<u8> = (0..64).collect();
+    let all: Vec<u8> = (0..MOST_TIMERS).collect();
     let mut transitions = vec![
         Arrow::new(0, 1).starts(&[other]),
         Arrow::new(1, 4).starts(&[0]),
@@ -259,29 +261,32 @@ pub fn sixty_five_numbers(other: u8) -> Drawing {
         Arrow::new(2, 3).tests(0, 2, 1).starts(&[0]),
         Arrow::new(4, 0).tests(0, 2, 1).tests(other, 2, 1),
     ];
-    for timers in all[1..].chunks(8) {
+    for timers in all[1..].chunks(usize::from(MOST_TESTS)) {
         let mut transition = Arrow::new(3, 4).starts(&[other]);
         transition.tests = timers.iter().map(|&timer| (timer, 2, 0)).collect();
         transitions.push(transition);
     }
-    Drawing::new(5, 64, transitions)
+    Drawing::new(5, MOST_TIMERS, transitions)
 }
 
 /// The longest file that passes 1 to 10, 54,254 bytes: all limits are reached, but the one transition that leaves the
 /// initial location has no tests.
 pub fn longest(random: &mut Random) -> Drawing {
-    let all: Vec<u8> = (0..64).collect();
-    let mut transitions: Vec<Arrow> = (0..255).map(|location| Arrow::new(location, location + 1)).collect();
-    while transitions.len() < 512 {
-        transitions.push(Arrow::new(random.between(1, 255) as u16, random.below(256) as u16));
+    let all: Vec<u8> = (0..MOST_TIMERS).collect();
+    let last = MOST_LOCATIONS - 1;
+    let mut transitions: Vec<Arrow> = (0..last).map(|location| Arrow::new(location, location + 1)).collect();
+    while transitions.len() < usize::from(MOST_TRANSITIONS) {
+        let source = random.between(1, u64::from(last)) as u16;
+        transitions.push(Arrow::new(source, random.between(0, u64::from(last)) as u16));
     }
     for transition in &mut transitions {
         transition.starts = all.clone();
         if transition.source != 0 {
-            transition.tests = (0..8).map(|_| (random.below(64) as u8, AT_MOST, 65_535)).collect();
+            let mut timer = || random.below(u64::from(MOST_TIMERS)) as u8;
+            transition.tests = (0..MOST_TESTS).map(|_| (timer(), AT_MOST, LARGEST_CONSTANT)).collect();
         }
     }
-    Drawing { locations: 256, initial: 0, timers: 64, accepting: (0..256).collect(), transitions }
+    Drawing { locations: MOST_LOCATIONS, initial: 0, timers: MOST_TIMERS, accepting: (0..=last).collect(), transitions }
 }
 
 /// A number of the chart spoilt, so that its file is refused by 4 to 10 or by 3, and perhaps by none; as a file.
@@ -289,13 +294,13 @@ pub fn spoilt(random: &mut Random, drawing: &Drawing) -> Vec<u8> {
     let mut drawing = drawing.clone();
     if random.chance(1, 3) || drawing.transitions.is_empty() {
         match random.below(8) {
-            0 => drawing.locations = random.pick(&[0, 257, 65_535]),
+            0 => drawing.locations = random.pick(&[0, MOST_LOCATIONS + 1, u16::MAX]),
             1 => drawing.locations = drawing.locations.saturating_add(1),
-            2 => drawing.initial = random.pick(&[drawing.locations, 256, 65_535]),
-            3 => drawing.timers = random.pick(&[65, 255, drawing.timers.saturating_sub(1)]),
-            4 => drawing.accepting.push(random.pick(&[0, drawing.locations, 65_535])),
+            2 => drawing.initial = random.pick(&[drawing.locations, MOST_LOCATIONS, u16::MAX]),
+            3 => drawing.timers = random.pick(&[MOST_TIMERS + 1, u8::MAX, drawing.timers.saturating_sub(1)]),
+            4 => drawing.accepting.push(random.pick(&[0, drawing.locations, u16::MAX])),
             5 => drawing.accepting.reverse(),
-            6 => drawing.transitions.resize(513, Arrow::new(0, 0)),
+            6 => drawing.transitions.resize(usize::from(MOST_TRANSITIONS) + 1, Arrow::new(0, 0)),
             _ => drawing.transitions.clear(),
         }
         return drawing.file();
@@ -303,21 +308,22 @@ pub fn spoilt(random: &mut Random, drawing: &Drawing) -> Vec<u8> {
     let index = random.below(drawing.transitions.len() as u64) as usize;
     let transition = &mut drawing.transitions[index];
     let mut length = (0, 0);
+    let no_location = [drawing.locations, drawing.locations + 1, MOST_LOCATIONS, u16::MAX];
     match random.below(13) {
-        0 => transition.source = random.pick(&[drawing.locations, drawing.locations + 1, 256, 65_535]),
-        1 => transition.target = random.pick(&[drawing.locations, drawing.locations + 1, 256, 65_535]),
-        2 => transition.starts.push(random.pick(&[drawing.timers, 63, 64, 255])),
+        0 => transition.source = random.pick(&no_location),
+        1 => transition.target = random.pick(&no_location),
+        2 => transition.starts.push(random.pick(&[drawing.timers, MOST_TIMERS - 1, MOST_TIMERS, u8::MAX])),
         3 => transition.starts.push(0),
         4 => transition.starts.reverse(),
-        5 => transition.starts = (0..random.between(65, 80)).map(|timer| timer as u8).collect(),
-        6 => transition.tests.resize(random.between(9, 12) as usize, (0, 0, 0)),
+        5 => transition.starts = (0..MOST_STARTS + random.between(1, 16) as u8).collect(),
+        6 => transition.tests.resize(usize::from(MOST_TESTS) + random.between(1, 4) as usize, (0, 0, 0)),
         7 => {
-            transition.tests.resize(9, (0, 0, 0));
+            transition.tests.resize(usize::from(MOST_TESTS) + 1, (0, 0, 0));
             length = (index + 1, random.between(0, 50) as u16);
         }
-        8 => transition.tests.push((random.pick(&[drawing.timers, 64, 255]), 0, 0)),
-        9 => transition.tests.push((0, random.between(5, 255) as u8, 0)),
-        10 => length = (index + 1, random.pick(&[1, 4, 65_535])),
+        8 => transition.tests.push((random.pick(&[drawing.timers, MOST_TIMERS, u8::MAX]), 0, 0)),
+        9 => transition.tests.push((0, random.between(5, u64::from(u8::MAX)) as u8, 0)),
+        10 => length = (index + 1, random.pick(&[1, 4, u16::MAX])),
         11 => transition.starts.clear(),
         _ => {
             // Two failures: the first field of them counts.
@@ -346,7 +352,9 @@ pub fn damaged(random: &mut Random, file: &[u8]) -> Vec<u8> {
         match random.below(6) {
             0 if at < file.len() => file[at] = random.word() as u8,
             1 if at < file.len() => file[at] ^= 1 << random.below(8),
-            2 if at < file.len() => file[at] = random.pick(&[0, 1, 4, 5, 8, 9, 64, 65, 255]),
+            2 if at < file.len() => {
+                file[at] = random.pick(&[0, 1, 4, 5, MOST_TESTS, MOST_TESTS + 1, MOST_TIMERS, MOST_TIMERS + 1, u8::MAX])
+            }
             3 => file.truncate(at),
             4 => {
                 let count = random.between(1, 9) as usize;
@@ -395,7 +403,7 @@ pub fn run(random: &mut Random, drawing: &Drawing, most: usize, wait: u64, due: 
     let mut location = drawing.initial;
     let mut now = 0;
     // A timer is only tested once it was started, so starting counts do not matter.
-    let mut started = [0_u64; 64];
+    let mut started = [0_u64; TIMERS];
     'steps: while steps.times.len() < most {
         let choices = &leaving[usize::from(location)];
         if choices.is_empty() {
@@ -421,7 +429,7 @@ pub fn run(random: &mut Random, drawing: &Drawing, most: usize, wait: u64, due: 
                     _ => count == constant,
                 }
             };
-            if time <= u64::from(LATEST) && transition.tests.iter().all(met) {
+            if time <= u64::from(MOST_TICKS) && transition.tests.iter().all(met) {
                 for &timer in &transition.starts {
                     started[usize::from(timer)] = time;
                 }
@@ -443,8 +451,8 @@ pub fn lengthen(random: &mut Random, drawing: &Drawing, steps: &mut Steps) {
     let choices: Vec<u32> = (0..drawing.transitions.len() as u32).filter(leaving).collect();
     if !choices.is_empty() {
         let last = steps.times.last().copied().unwrap_or(0);
-        let late = u64::from(LATEST) + 1;
-        let time = random.pick(&[last, last, last + 1, last + 2, last + 5, last + 100, last.saturating_sub(1), late]);
+        let over = u64::from(MOST_TICKS) + 1;
+        let time = random.pick(&[last, last, last + 1, last + 2, last + 5, last + 100, last.saturating_sub(1), over]);
         steps.push(random.pick(&choices), time);
     }
 }
@@ -455,15 +463,16 @@ pub fn spoil_steps(random: &mut Random, steps: &mut Steps, transitions: u32) {
     let count = steps.times.len() as u64;
     let at = random.below(count + 1) as usize;
     let last = steps.times.last().copied().unwrap_or(0);
+    let most = u64::from(MOST_TICKS);
     match random.below(12) {
         10 | 11 => {
             // Often two failures at once.
             let transition = random.pick(&[any, any, any, transitions]);
-            steps.push(transition, random.pick(&[0, last.saturating_sub(1), last, u64::from(LATEST) + 1]));
+            steps.push(transition, random.pick(&[0, last.saturating_sub(1), last, most + 1]));
         }
         0 => steps.push(any, last + random.below(5)),
-        1 => steps.push(random.pick(&[transitions, transitions + 1, 65_536 + any, u32::MAX]), last),
-        2 => steps.push(any, random.pick(&[16_777_215, 16_777_216, 1 << 24 | last, 1 << 32 | last, u64::MAX])),
+        1 => steps.push(random.pick(&[transitions, transitions + 1, (1 << 16) + any, u32::MAX]), last),
+        2 => steps.push(any, random.pick(&[most, most + 1, 1 << 24 | last, 1 << 32 | last, u64::MAX])),
         3 => drop(steps.times.pop()),
         4 => steps.times.push(0),
         _ if at == steps.times.len() => steps.push(any, last),
@@ -471,7 +480,7 @@ pub fn spoil_steps(random: &mut Random, steps: &mut Steps, transitions: u32) {
         6 => steps.times[at] += random.between(1, 3),
         7 => steps.transitions[at] = any,
         8 => steps.transitions[at] = transitions,
-        _ => steps.times[at] = random.pick(&[16_777_215, 16_777_216]),
+        _ => steps.times[at] = random.pick(&[most, most + 1]),
     }
 }
 
@@ -479,22 +488,22 @@ pub fn spoil_steps(random: &mut Random, steps: &mut Steps, transitions: u32) {
 pub fn counts(random: &mut Random, timers: usize, good: bool) -> Vec<u32> {
     let mut counts: Vec<u32> = (0..timers)
         .map(|_| match random.below(4) {
-            0 => LATEST,
+            0 => MOST_TICKS,
             1 => random.below(20) as u32,
             2 => 0,
-            _ => random.between(0, u64::from(LATEST)) as u32,
+            _ => random.between(0, u64::from(MOST_TICKS)) as u32,
         })
         .collect();
     if good {
         return counts;
     }
     match random.below(4) {
-        0 => counts.push(random.pick(&[0, LATEST + 1])),
+        0 => counts.push(random.pick(&[0, MOST_TICKS + 1])),
         1 if timers > 0 => drop(counts.pop()),
         _ if timers > 0 => {
             for _ in 0..random.between(1, 3) {
                 let timer = random.below(timers as u64) as usize;
-                counts[timer] = random.pick(&[LATEST + 1, u32::MAX, 1 << 31]);
+                counts[timer] = random.pick(&[MOST_TICKS + 1, u32::MAX, 1 << 31]);
             }
         }
         _ => {}

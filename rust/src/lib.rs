@@ -8,7 +8,8 @@
 //! - [`analysis`]: reached, unstarted and live; families, their board numbers, used and floor;
 //! - [`rewriting`]: the chart's file for a board of K timers;
 //! - [`player`]: a step list, played on a file;
-//! - [`listing`]: the program's text from its whole input.
+//! - [`listing`]: the program's text from its whole input;
+//! - [`limits`]: the numbers that limit all of these.
 //!
 //! Every entry point takes bytes and answers with a result or one [`Refusal`]; on a refusal lent memory is untouched.
 //!
@@ -21,6 +22,7 @@ pub mod analysis;
 pub mod chart;
 pub mod drawing;
 pub mod generator;
+pub mod limits;
 pub mod listing;
 pub mod lists;
 pub mod player;
@@ -33,4 +35,5 @@ mod ffi;
 #[cfg(feature = "library")]
 pub mod library;
 
-pub use refusal::{Answer, Refusal, NOWHERE};
+pub use limits::NOWHERE;
+pub use refusal::{Answer, Refusal};

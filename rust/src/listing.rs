@@ -1,10 +1,8 @@
 //! The program's text from its whole input: a byte K, then a chart file.
 
+use crate::limits::MOST_INPUT;
 use crate::refusal::{Answer, Refusal};
 use crate::rewriting::Plan;
-
-/// The most bytes of input that are judged further.
-pub const MOST_INPUT: usize = 65_536;
 
 /// What the program prints for its input.
 pub fn listing(input: &[u8]) -> String {

@@ -1,13 +1,13 @@
-//! The reader and the writer over lent lists, in the layout of docs/LISTS.md: five numbers and nine lists.
+//! The reader and the writer over lent lists, in the layout of docs/LISTS.md: a header and nine lists.
 
 use crate::chart::{limited, location, locations, timer, Chart, Comparison, Output};
-use crate::chart::{MOST_TESTS, MOST_TIMERS, MOST_TRANSITIONS};
-use crate::refusal::{Answer, Refusal, NOWHERE};
+use crate::limits::{MOST_TESTS, MOST_TIMERS, MOST_TRANSITIONS, NOWHERE};
+use crate::refusal::{Answer, Refusal};
 use crate::sets::TimerSet;
 
-/// The chart's numbers, which travel beside its lists.
+/// The chart's header, which travels beside its lists: its numbers and its initial location.
 #[derive(Clone, Copy, Debug, PartialEq, Eq)]
-pub struct Numbers {
+pub struct Header {
     pub locations: u16,
     pub initial: u16,
     pub timers: u8,
@@ -25,7 +25,7 @@ pub struct Lists<'a> {
     /// Of each transition the set of the timers that it starts: timer j is bit j.
     pub starts: &'a [u64],
     /// Of each transition the number of its tests; the tests of all transitions stand packed in the last three lists.
-    pub counts: &'a [u8],
+    pub test_counts: &'a [u8],
     pub timers: &'a [u8],
     pub codes: &'a [u8],
     pub constants: &'a [u16],
@@ -39,20 +39,20 @@ pub struct LentLists<'a> {
     pub targets: &'a mut [u16],
     pub events: &'a mut [u8],
     pub starts: &'a mut [u64],
-    pub counts: &'a mut [u8],
+    pub test_counts: &'a mut [u8],
     pub timers: &'a mut [u8],
     pub codes: &'a mut [u8],
     pub constants: &'a mut [u16],
 }
 
 /// Reads a chart file into lent lists. Judges 1 to 8, then 21.
-pub fn read(file: &[u8], lent: &mut LentLists) -> Answer<Numbers> {
+pub fn read(file: &[u8], lent: &mut LentLists) -> Answer<Header> {
     let chart = Chart::read(file)?;
     let accepting = chart.accepting().count();
     let transitions = chart.transitions().len();
     let tests: usize = chart.transitions().iter().map(|transition| chart.tests(transition).len()).sum();
     let per_transition =
-        [lent.sources.len(), lent.targets.len(), lent.events.len(), lent.starts.len(), lent.counts.len()];
+        [lent.sources.len(), lent.targets.len(), lent.events.len(), lent.starts.len(), lent.test_counts.len()];
     let per_test = [lent.timers.len(), lent.codes.len(), lent.constants.len()];
     if lent.accepting.len() < usize::from(accepting)
         || per_transition.iter().any(|&length| length < transitions)
@@ -70,7 +70,7 @@ pub fn read(file: &[u8], lent: &mut LentLists) -> Answer<Numbers> {
         lent.targets[index] = u16::from(transition.target);
         lent.events[index] = transition.event;
         lent.starts[index] = transition.starts.word();
-        lent.counts[index] = tests.len() as u8;
+        lent.test_counts[index] = tests.len() as u8;
         for test in tests {
             lent.timers[next] = test.timer;
             lent.codes[next] = test.comparison as u8;
@@ -78,7 +78,7 @@ pub fn read(file: &[u8], lent: &mut LentLists) -> Answer<Numbers> {
             next += 1;
         }
     }
-    Ok(Numbers {
+    Ok(Header {
         locations: chart.locations(),
         initial: u16::from(chart.initial()),
         timers: chart.timers(),
@@ -94,22 +94,22 @@ fn due<T: Copy>(list: &[T], index: usize) -> Answer<T> {
 }
 
 /// Judges the lists in the order of the file's fields, 3 to 8, and returns the length of the file.
-fn judge(numbers: &Numbers, lists: &Lists) -> Answer<usize> {
-    let locations = locations(numbers.locations)?;
-    location(numbers.initial, locations, NOWHERE)?;
-    let timers = limited(numbers.timers, MOST_TIMERS, NOWHERE)?;
+fn judge(header: &Header, lists: &Lists) -> Answer<usize> {
+    let locations = locations(header.locations)?;
+    location(header.initial, locations, NOWHERE)?;
+    let timers = limited(header.timers, MOST_TIMERS, NOWHERE)?;
     let mut lowest = 0;
-    for index in 0..usize::from(numbers.accepting) {
+    for index in 0..usize::from(header.accepting) {
         let accepting = u16::from(location(due(lists.accepting, index)?, locations, NOWHERE)?);
         if accepting < lowest {
             return Err(Refusal::nowhere(7));
         }
         lowest = accepting + 1;
     }
-    limited(numbers.transitions, MOST_TRANSITIONS, NOWHERE)?;
-    let mut length = 14 + 2 * usize::from(numbers.accepting);
+    limited(header.transitions, MOST_TRANSITIONS, NOWHERE)?;
+    let mut length = 14 + 2 * usize::from(header.accepting);
     let mut next = 0;
-    for index in 0..usize::from(numbers.transitions) {
+    for index in 0..usize::from(header.transitions) {
         let place = index as u64;
         location(due(lists.sources, index)?, locations, place)?;
         location(due(lists.targets, index)?, locations, place)?;
@@ -118,7 +118,7 @@ fn judge(numbers: &Numbers, lists: &Lists) -> Answer<usize> {
         if !starts.minus(TimerSet::below(timers)).is_empty() {
             return Err(Refusal::at(6, place));
         }
-        let count = limited(due(lists.counts, index)?, MOST_TESTS, place)?;
+        let count = limited(due(lists.test_counts, index)?, MOST_TESTS, place)?;
         for test in next..next + usize::from(count) {
             timer(due(lists.timers, test)?, timers, place)?;
             Comparison::from_code(due(lists.codes, test)?).ok_or(Refusal::at(8, place))?;
@@ -132,26 +132,26 @@ fn judge(numbers: &Numbers, lists: &Lists) -> Answer<usize> {
 
 /// Writes a chart's lists as a file to the front of `out` and returns its length. Judges 3 to 8 in the order of the
 /// file's fields, then 21, all before the first byte is written.
-pub fn write(numbers: &Numbers, lists: &Lists, out: &mut [u8]) -> Answer<usize> {
-    let length = judge(numbers, lists)?;
+pub fn write(header: &Header, lists: &Lists, out: &mut [u8]) -> Answer<usize> {
+    let length = judge(header, lists)?;
     let Some(file) = out.get_mut(..length) else {
         return Err(Refusal::nowhere(21));
     };
     let mut output = Output::new(file);
     output.put([1]);
     output.put(((length - 5) as u32).to_be_bytes());
-    output.put(numbers.locations.to_be_bytes());
-    output.put(numbers.initial.to_be_bytes());
-    output.put([numbers.timers]);
-    output.put(numbers.accepting.to_be_bytes());
-    for accepting in &lists.accepting[..usize::from(numbers.accepting)] {
+    output.put(header.locations.to_be_bytes());
+    output.put(header.initial.to_be_bytes());
+    output.put([header.timers]);
+    output.put(header.accepting.to_be_bytes());
+    for accepting in &lists.accepting[..usize::from(header.accepting)] {
         output.put(accepting.to_be_bytes());
     }
-    output.put(numbers.transitions.to_be_bytes());
+    output.put(header.transitions.to_be_bytes());
     let mut next = 0;
-    for index in 0..usize::from(numbers.transitions) {
+    for index in 0..usize::from(header.transitions) {
         let starts = TimerSet::from_word(lists.starts[index]);
-        let count = lists.counts[index];
+        let count = lists.test_counts[index];
         let record = 7 + starts.len() as u16 + 4 * u16::from(count);
         output.put(record.to_be_bytes());
         output.put(lists.sources[index].to_be_bytes());

@@ -2,10 +2,8 @@
 
 use crate::analysis::judge;
 use crate::chart::Chart;
+use crate::limits::{MOST_TICKS, MOST_TIMERS, TIMERS};
 use crate::refusal::{Answer, Refusal};
-
-/// The largest starting count and the largest time of a step.
-pub const LATEST: u32 = 16_777_215;
 
 /// Where a step list ends.
 #[derive(Clone, Copy, Debug, PartialEq, Eq)]
@@ -23,7 +21,7 @@ pub fn play(file: &[u8], counts: &[u32], transitions: &[u32], times: &[u64]) -> 
     if counts.len() != usize::from(chart.timers()) {
         return Err(Refusal::nowhere(12));
     }
-    if let Some(timer) = counts.iter().position(|&count| count > LATEST) {
+    if let Some(timer) = counts.iter().position(|&count| count > MOST_TICKS) {
         return Err(Refusal::at(12, timer as u64));
     }
     if transitions.len() != times.len() {
@@ -42,13 +40,13 @@ struct Player<'a> {
     location: u8,
     time: u32,
     /// Of each timer the time at which its count was 0, wrapping below tick 0 for the starting counts. A count is the
-    /// present time less this one, and stays below 2 times 2^24.
-    zero: [u32; 64],
+    /// present time less this one: at most 2 times [`MOST_TICKS`].
+    zero: [u32; TIMERS],
 }
 
 impl<'a> Player<'a> {
     fn new(chart: &'a Chart, counts: &[u32]) -> Self {
-        let mut zero = [0; 64];
+        let mut zero = [0; TIMERS];
         for (zero, count) in zero.iter_mut().zip(counts) {
             *zero = count.wrapping_neg();
         }
@@ -61,7 +59,7 @@ impl<'a> Player<'a> {
         let Some(transition) = self.chart.transitions().get(transition as usize) else {
             return Err(14);
         };
-        if time > u64::from(LATEST) {
+        if time > u64::from(MOST_TICKS) {
             return Err(15);
         }
         if transition.source != self.location {
@@ -72,7 +70,7 @@ impl<'a> Player<'a> {
             return Err(23);
         }
         for test in self.chart.tests(transition) {
-            let count = time.wrapping_sub(self.zero[usize::from(test.timer & 63)]);
+            let count = time.wrapping_sub(self.zero[usize::from(test.timer % MOST_TIMERS)]);
             if !test.comparison.met(count, test.constant) {
                 return Err(24);
             }

@@ -2,10 +2,9 @@
 
 use std::fmt;
 
-/// The place of a refusal that points at no location, transition, timer or step.
-pub const NOWHERE: u64 = 65_535;
+use crate::limits::NOWHERE;
 
-/// Why a call was turned down, and where. The place is never cut: a step list may be longer than 65,535 steps.
+/// Why a call was turned down, and where. The place is never cut: a step list may have more than [`NOWHERE`] steps.
 #[derive(Clone, Copy, Debug, PartialEq, Eq)]
 pub struct Refusal {
     pub number: u64,

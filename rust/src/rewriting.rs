@@ -1,7 +1,8 @@
 //! The rewriting of a chart for a board of K timers.
 
 use crate::analysis::{judge, used, Families, Liveness};
-use crate::chart::{Chart, Transition, MOST_TIMERS};
+use crate::chart::{Chart, Transition};
+use crate::limits::{MOST_TIMERS, TIMERS};
 use crate::refusal::{Answer, Refusal};
 use crate::sets::TimerSet;
 
@@ -19,8 +20,14 @@ pub struct Plan {
     chart: Chart,
     liveness: Liveness,
     used: u8,
-    /// At 64 times the location plus the timer; 0 where the timer is not live.
+    /// By [`pair`]; 0 where the timer is not live.
     numbers: Vec<u8>,
+}
+
+/// The place of a location and a timer in a list of all pairs.
+#[inline]
+fn pair(location: u8, timer: u8) -> usize {
+    TIMERS * usize::from(location) + usize::from(timer)
 }
 
 impl Plan {
@@ -34,16 +41,16 @@ impl Plan {
         let liveness = Liveness::of(&chart, graph);
         let families = Families::of(&chart, &liveness);
         let given = families.first_fit(k as usize).ok_or(Refusal::nowhere(20))?;
-        let mut numbers = vec![0; 64 * usize::from(chart.locations())];
+        let mut numbers = vec![0; TIMERS * usize::from(chart.locations())];
         for (family, &number) in families.list().iter().zip(&given) {
             family.locations.iter().for_each(|location| {
-                numbers[64 * usize::from(location) + usize::from(family.timer)] = number as u8;
+                numbers[pair(location, family.timer)] = number as u8;
             });
         }
         Ok(Plan { chart, liveness, used: used(&given) as u8, numbers })
     }
 
-    /// One more than the largest number given: at most 64.
+    /// One more than the largest number given: at most [`MOST_TIMERS`].
     pub fn used(&self) -> u8 {
         self.used
     }
@@ -61,7 +68,7 @@ impl Plan {
     /// The board number of the family of a timer that is live at the location.
     #[inline]
     pub fn number(&self, location: u8, timer: u8) -> u8 {
-        self.numbers[64 * usize::from(location) + usize::from(timer)]
+        self.numbers[pair(location, timer)]
     }
 
     /// Writes the rewritten chart's file to the front of `out` and returns its length. Judges 21.

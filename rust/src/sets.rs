@@ -1,5 +1,16 @@
 //! Sets of timers (one 64-bit word) and of locations (four words).
 
+use crate::limits::{LOCATIONS, MOST_TIMERS};
+
+/// The bits of a word.
+const BITS: u8 = u64::BITS as u8;
+
+/// The words of a set of locations.
+const WORDS: usize = LOCATIONS / BITS as usize;
+
+// A word has a bit for each timer.
+const _: () = assert!(MOST_TIMERS == BITS);
+
 /// A set of timers: timer j is bit j.
 #[derive(Clone, Copy, Debug, Default, PartialEq, Eq)]
 pub struct TimerSet(u64);
@@ -13,13 +24,13 @@ impl TimerSet {
         TimerSet(word)
     }
 
-    /// The timers below `count`, which is at most 64.
+    /// The timers below `count`, which is at most [`MOST_TIMERS`].
     #[inline]
     pub const fn below(count: u8) -> Self {
         if count == 0 {
             TimerSet::EMPTY
         } else {
-            TimerSet(u64::MAX >> (64 - count))
+            TimerSet(u64::MAX >> (BITS - count))
         }
     }
 
@@ -111,30 +122,33 @@ impl Iterator for Members {
     }
 }
 
-/// A set of locations 0 to 255.
+/// A set of locations: location q is bit q modulo 64 of word q / 64.
 #[derive(Clone, Copy, Debug, Default, PartialEq, Eq)]
-pub struct LocationSet([u64; 4]);
+pub struct LocationSet([u64; WORDS]);
 
 impl LocationSet {
-    pub const EMPTY: LocationSet = LocationSet([0; 4]);
+    pub const EMPTY: LocationSet = LocationSet([0; WORDS]);
 
-    /// The locations below `count`, which is at most 256.
+    /// The locations below `count`, which is at most [`MOST_LOCATIONS`](crate::limits::MOST_LOCATIONS).
     pub fn below(count: u16) -> Self {
         let mut set = LocationSet::EMPTY;
-        for (word, base) in set.0.iter_mut().zip([0, 64, 128, 192]) {
-            *word = TimerSet::below(count.saturating_sub(base).min(64) as u8).word();
+        let mut left = count;
+        for word in &mut set.0 {
+            let here = left.min(u16::from(BITS));
+            *word = TimerSet::below(here as u8).word();
+            left -= here;
         }
         set
     }
 
     #[inline]
     pub fn has(&self, location: u8) -> bool {
-        self.0[usize::from(location >> 6)] >> (location & 63) & 1 != 0
+        self.0[usize::from(location / BITS)] >> (location % BITS) & 1 != 0
     }
 
     #[inline]
     pub fn add(&mut self, location: u8) {
-        self.0[usize::from(location >> 6)] |= 1 << (location & 63);
+        self.0[usize::from(location / BITS)] |= 1 << (location % BITS);
     }
 
     /// The number of locations in the set.
@@ -144,9 +158,9 @@ impl LocationSet {
 
     /// The lowest location that is in the set and not in `other`.
     pub fn lowest_beyond(&self, other: &LocationSet) -> Option<u8> {
-        (0..4).find_map(|word| {
+        (0..WORDS).find_map(|word| {
             let rest = self.0[word] & !other.0[word];
-            (rest != 0).then(|| (64 * word) as u8 + rest.trailing_zeros() as u8)
+            (rest != 0).then(|| BITS * word as u8 + rest.trailing_zeros() as u8)
         })
     }
 
@@ -157,7 +171,7 @@ impl LocationSet {
             if *word != 0 {
                 let lowest = word.trailing_zeros();
                 *word &= *word - 1;
-                return Some((64 * index) as u8 + lowest as u8);
+                return Some(BITS * index as u8 + lowest as u8);
             }
         }
         None
@@ -166,7 +180,7 @@ impl LocationSet {
     /// The locations of the set, rising.
     #[inline]
     pub fn iter(&self) -> impl Iterator<Item = u8> + '_ {
-        self.0.iter().enumerate().flat_map(|(index, &word)| Members(word).map(move |bit| (64 * index) as u8 + bit))
+        self.0.iter().enumerate().flat_map(|(index, &word)| Members(word).map(move |bit| BITS * index as u8 + bit))
     }
 }
 

@@ -1,4 +1,4 @@
-//! The crate held to a second implementation that spells out the definitions of document 01 one by one, on random
+//! The crate compared with a second implementation that spells out the definitions of document 01 one by one, on random
 //! charts.
 
 use std::collections::BTreeSet;
@@ -7,10 +7,11 @@ use timing_chart::analysis::{analyse, Analysis};
 use timing_chart::chart::Chart;
 use timing_chart::drawing::{chart_a, chart_b, chart_c, Arrow, Drawing};
 use timing_chart::generator::*;
-use timing_chart::lists::{self, LentLists, Lists, Numbers};
+use timing_chart::limits::{LOCATIONS, MOST_TESTS, MOST_TICKS, TRANSITIONS};
+use timing_chart::lists::{self, Header, LentLists, Lists};
 use timing_chart::player::{play, Playing};
 use timing_chart::rewriting::{rewrite, Rewriting};
-use timing_chart::{Answer, Refusal};
+use timing_chart::{Answer, Refusal, NOWHERE};
 
 /// The locations that paths from `from` reach by transitions that pass, the empty path among them.
 fn reached(drawing: &Drawing, from: u16, passes: impl Fn(&Arrow) -> bool) -> BTreeSet<u16> {
@@ -43,8 +44,11 @@ fn judged(drawing: &Drawing) -> Answer<()> {
 }
 
 fn is_live(drawing: &Drawing, location: u16, timer: u8) -> bool {
-    let quiet = reached(drawing, location, |transition| !transition.is_start(timer));
-    drawing.transitions.iter().any(|transition| quiet.contains(&transition.source) && transition.is_test(timer))
+    let before_a_start = reached(drawing, location, |transition| !transition.is_start(timer));
+    drawing
+        .transitions
+        .iter()
+        .any(|transition| before_a_start.contains(&transition.source) && transition.is_test(timer))
 }
 
 /// A pair of a location and a timer, ordered as 64 times the location plus the timer.
@@ -118,13 +122,13 @@ impl Planned {
 
 fn played(drawing: &Drawing, counts: &[u32], steps: &Steps) -> Answer<Playing> {
     if counts.len() != usize::from(drawing.timers) {
-        return Err(Refusal { number: 12, place: 65_535 });
+        return Err(Refusal { number: 12, place: NOWHERE });
     }
-    if let Some(place) = counts.iter().position(|&count| count > 16_777_215) {
+    if let Some(place) = counts.iter().position(|&count| count > MOST_TICKS) {
         return Err(Refusal { number: 12, place: place as u64 });
     }
     if steps.transitions.len() != steps.times.len() {
-        return Err(Refusal { number: 13, place: 65_535 });
+        return Err(Refusal { number: 13, place: NOWHERE });
     }
     let mut counts: Vec<u64> = counts.iter().map(|&count| u64::from(count)).collect();
     let (mut location, mut now) = (drawing.initial, 0);
@@ -134,7 +138,7 @@ fn played(drawing: &Drawing, counts: &[u32], steps: &Steps) -> Answer<Playing> {
             return refused(14);
         }
         let transition = &drawing.transitions[transition as usize];
-        if time > 16_777_215 {
+        if time > u64::from(MOST_TICKS) {
             return refused(15);
         }
         if transition.source != location {
@@ -205,7 +209,7 @@ fn check_analysis_and_rewriting(random: &mut Random, drawing: &Drawing) -> Optio
     assert_eq!(live, sets);
     let k = random.below(65) as u32;
     if used > k as usize {
-        assert_eq!(rewrite(&file, k, &mut out), Err(Refusal { number: 20, place: 65_535 }));
+        assert_eq!(rewrite(&file, k, &mut out), Err(Refusal { number: 20, place: NOWHERE }));
     }
     if used > 64 {
         return None;
@@ -277,7 +281,7 @@ fn files_survive_reading_and_writing() {
                 continue;
             };
             let mut out = vec![3; file.len() + 1];
-            assert_eq!(chart.write(&mut out[..file.len() - 1]), Err(Refusal { number: 21, place: 65_535 }));
+            assert_eq!(chart.write(&mut out[..file.len() - 1]), Err(Refusal { number: 21, place: NOWHERE }));
             assert!(out.iter().all(|&byte| byte == 3));
             assert_eq!(chart.write(&mut out), Ok(file.len()));
             assert_eq!(out.pop(), Some(3));
@@ -286,6 +290,9 @@ fn files_survive_reading_and_writing() {
     }
 }
 
+/// The most tests of all transitions together.
+const TESTS: usize = TRANSITIONS * MOST_TESTS as usize;
+
 /// Nine lists of full length.
 struct Owned {
     accepting: Vec<u16>,
@@ -293,7 +300,7 @@ struct Owned {
     targets: Vec<u16>,
     events: Vec<u8>,
     starts: Vec<u64>,
-    counts: Vec<u8>,
+    test_counts: Vec<u8>,
     timers: Vec<u8>,
     codes: Vec<u8>,
     constants: Vec<u16>,
@@ -302,15 +309,15 @@ struct Owned {
 impl Owned {
     fn new() -> Self {
         Owned {
-            accepting: vec![9; 256],
-            sources: vec![9; 512],
-            targets: vec![9; 512],
-            events: vec![9; 512],
-            starts: vec![9; 512],
-            counts: vec![9; 512],
-            timers: vec![9; 4_096],
-            codes: vec![9; 4_096],
-            constants: vec![9; 4_096],
+            accepting: vec![9; LOCATIONS],
+            sources: vec![9; TRANSITIONS],
+            targets: vec![9; TRANSITIONS],
+            events: vec![9; TRANSITIONS],
+            starts: vec![9; TRANSITIONS],
+            test_counts: vec![9; TRANSITIONS],
+            timers: vec![9; TESTS],
+            codes: vec![9; TESTS],
+            constants: vec![9; TESTS],
         }
     }
 
@@ -321,7 +328,7 @@ impl Owned {
             targets: &mut self.targets,
             events: &mut self.events,
             starts: &mut self.starts,
-            counts: &mut self.counts,
+            test_counts: &mut self.test_counts,
             timers: &mut self.timers,
             codes: &mut self.codes,
             constants: &mut self.constants,
@@ -335,7 +342,7 @@ impl Owned {
             targets: &self.targets,
             events: &self.events,
             starts: &self.starts,
-            counts: &self.counts,
+            test_counts: &self.test_counts,
             timers: &self.timers,
             codes: &self.codes,
             constants: &self.constants,
@@ -350,14 +357,14 @@ fn charts_survive_lists() {
         let shape = Shape::random(&mut random, 40);
         let file = accepted(&mut random, &shape).file();
         let mut owned = Owned::new();
-        let numbers = lists::read(&file, &mut owned.lent()).unwrap();
+        let header = lists::read(&file, &mut owned.lent()).unwrap();
         let mut out = vec![7; file.len() + 1];
-        assert_eq!(lists::write(&numbers, &owned.lists(), &mut out[1..]), Ok(file.len()));
+        assert_eq!(lists::write(&header, &owned.lists(), &mut out[1..]), Ok(file.len()));
         assert_eq!(out[1..], file);
         let short = file.len() - 1;
         assert_eq!(
-            lists::write(&numbers, &owned.lists(), &mut out[..short]),
-            Err(Refusal { number: 21, place: 65_535 })
+            lists::write(&header, &owned.lists(), &mut out[..short]),
+            Err(Refusal { number: 21, place: NOWHERE })
         );
     }
 }
@@ -366,50 +373,49 @@ fn charts_survive_lists() {
 fn lists_are_judged_in_the_order_of_the_fields() {
     let file = chart_b().file();
     let mut owned = Owned::new();
-    let numbers = lists::read(&file, &mut owned.lent()).unwrap();
-    assert_eq!(numbers, Numbers { locations: 4, initial: 0, timers: 2, accepting: 1, transitions: 3 });
-    assert_eq!(owned.counts[..4], [0, 1, 1, 9]);
+    let header = lists::read(&file, &mut owned.lent()).unwrap();
+    assert_eq!(header, Header { locations: 4, initial: 0, timers: 2, accepting: 1, transitions: 3 });
+    assert_eq!(owned.test_counts[..4], [0, 1, 1, 9]);
     assert_eq!(owned.starts[..4], [1, 2, 0, 9]);
     let lists = owned.lists();
     let refused = |number, place| Err(Refusal { number, place });
     let mut out = [8; 100];
-    let mut write = |numbers: Numbers, lists: Lists| {
-        let answer = lists::write(&numbers, &lists, &mut out);
+    let mut write = |header: Header, lists: Lists| {
+        let answer = lists::write(&header, &lists, &mut out);
         if answer.is_err() {
             assert_eq!(out, [8; 100]);
         }
         out = [8; 100];
         answer.map(|_| ())
     };
-    assert_eq!(write(numbers, lists), Ok(()));
-    let nowhere = 65_535;
-    assert_eq!(write(Numbers { locations: 0, initial: 9, ..numbers }, lists), refused(4, nowhere));
-    assert_eq!(write(Numbers { locations: 257, ..numbers }, lists), refused(4, nowhere));
-    assert_eq!(write(Numbers { initial: 4, timers: 99, ..numbers }, lists), refused(5, nowhere));
-    assert_eq!(write(Numbers { timers: 65, ..numbers }, lists), refused(4, nowhere));
-    assert_eq!(write(numbers, Lists { accepting: &[], ..lists }), refused(3, nowhere));
-    assert_eq!(write(numbers, Lists { accepting: &[4], ..lists }), refused(5, nowhere));
-    assert_eq!(write(Numbers { accepting: 2, ..numbers }, Lists { accepting: &[1, 1], ..lists }), refused(7, nowhere));
+    assert_eq!(write(header, lists), Ok(()));
+    assert_eq!(write(Header { locations: 0, initial: 9, ..header }, lists), refused(4, NOWHERE));
+    assert_eq!(write(Header { locations: 257, ..header }, lists), refused(4, NOWHERE));
+    assert_eq!(write(Header { initial: 4, timers: 99, ..header }, lists), refused(5, NOWHERE));
+    assert_eq!(write(Header { timers: 65, ..header }, lists), refused(4, NOWHERE));
+    assert_eq!(write(header, Lists { accepting: &[], ..lists }), refused(3, NOWHERE));
+    assert_eq!(write(header, Lists { accepting: &[4], ..lists }), refused(5, NOWHERE));
+    assert_eq!(write(Header { accepting: 2, ..header }, Lists { accepting: &[1, 1], ..lists }), refused(7, NOWHERE));
     assert_eq!(
-        write(Numbers { accepting: 65_535, ..numbers }, Lists { accepting: &[1, 2], ..lists }),
-        refused(3, nowhere)
+        write(Header { accepting: 65_535, ..header }, Lists { accepting: &[1, 2], ..lists }),
+        refused(3, NOWHERE)
     );
-    assert_eq!(write(Numbers { transitions: 513, ..numbers }, Lists { sources: &[], ..lists }), refused(4, nowhere));
-    assert_eq!(write(numbers, Lists { sources: &[0, 1], ..lists }), refused(3, nowhere));
-    assert_eq!(write(numbers, Lists { sources: &[0, 9], ..lists }), refused(5, 1));
-    assert_eq!(write(numbers, Lists { sources: &[0], targets: &[9], ..lists }), refused(5, 0));
-    assert_eq!(write(numbers, Lists { targets: &[1], ..lists }), refused(3, nowhere));
-    assert_eq!(write(numbers, Lists { events: &[1], ..lists }), refused(3, nowhere));
-    assert_eq!(write(numbers, Lists { starts: &[1], ..lists }), refused(3, nowhere));
-    assert_eq!(write(numbers, Lists { starts: &[1, 1 << 63, 0], ..lists }), refused(6, 1));
-    assert_eq!(write(numbers, Lists { starts: &[1, 4, 0], counts: &[9], ..lists }), refused(4, 0));
-    assert_eq!(write(numbers, Lists { counts: &[0, 9], ..lists }), refused(4, 1));
-    assert_eq!(write(numbers, Lists { counts: &[0, 1], ..lists }), refused(3, nowhere));
-    assert_eq!(write(numbers, Lists { timers: &[0], ..lists }), refused(3, nowhere));
-    assert_eq!(write(numbers, Lists { timers: &[2], codes: &[], ..lists }), refused(6, 1));
-    assert_eq!(write(numbers, Lists { codes: &[0, 5], constants: &[0], ..lists }), refused(8, 2));
-    assert_eq!(write(numbers, Lists { codes: &[0], ..lists }), refused(3, nowhere));
-    assert_eq!(write(numbers, Lists { constants: &[0], ..lists }), refused(3, nowhere));
+    assert_eq!(write(Header { transitions: 513, ..header }, Lists { sources: &[], ..lists }), refused(4, NOWHERE));
+    assert_eq!(write(header, Lists { sources: &[0, 1], ..lists }), refused(3, NOWHERE));
+    assert_eq!(write(header, Lists { sources: &[0, 9], ..lists }), refused(5, 1));
+    assert_eq!(write(header, Lists { sources: &[0], targets: &[9], ..lists }), refused(5, 0));
+    assert_eq!(write(header, Lists { targets: &[1], ..lists }), refused(3, NOWHERE));
+    assert_eq!(write(header, Lists { events: &[1], ..lists }), refused(3, NOWHERE));
+    assert_eq!(write(header, Lists { starts: &[1], ..lists }), refused(3, NOWHERE));
+    assert_eq!(write(header, Lists { starts: &[1, 1 << 63, 0], ..lists }), refused(6, 1));
+    assert_eq!(write(header, Lists { starts: &[1, 4, 0], test_counts: &[9], ..lists }), refused(4, 0));
+    assert_eq!(write(header, Lists { test_counts: &[0, 9], ..lists }), refused(4, 1));
+    assert_eq!(write(header, Lists { test_counts: &[0, 1], ..lists }), refused(3, NOWHERE));
+    assert_eq!(write(header, Lists { timers: &[0], ..lists }), refused(3, NOWHERE));
+    assert_eq!(write(header, Lists { timers: &[2], codes: &[], ..lists }), refused(6, 1));
+    assert_eq!(write(header, Lists { codes: &[0, 5], constants: &[0], ..lists }), refused(8, 2));
+    assert_eq!(write(header, Lists { codes: &[0], ..lists }), refused(3, NOWHERE));
+    assert_eq!(write(header, Lists { constants: &[0], ..lists }), refused(3, NOWHERE));
 }
 
 #[test]
@@ -423,7 +429,7 @@ fn lent_lists_too_short_are_21_and_stay_as_they_were() {
         |lent| lent.targets = &mut [],
         |lent| lent.events = &mut [],
         |lent| lent.starts = &mut [],
-        |lent| lent.counts = &mut [],
+        |lent| lent.test_counts = &mut [],
         |lent| lent.timers = &mut [],
         |lent| lent.codes = &mut [],
         |lent| lent.constants = &mut [],
@@ -431,9 +437,9 @@ fn lent_lists_too_short_are_21_and_stay_as_they_were() {
     for shorten in shortened {
         let mut lent = owned.lent();
         shorten(&mut lent);
-        assert_eq!(lists::read(&file, &mut lent), Err(Refusal { number: 21, place: 65_535 }));
+        assert_eq!(lists::read(&file, &mut lent), Err(Refusal { number: 21, place: NOWHERE }));
         assert!(owned.sources.iter().chain(&owned.constants).all(|&entry| entry == 9));
-        assert!(owned.starts.iter().all(|&entry| entry == 9) && owned.counts.iter().all(|&entry| entry == 9));
+        assert!(owned.starts.iter().all(|&entry| entry == 9) && owned.test_counts.iter().all(|&entry| entry == 9));
     }
-    assert_eq!(lists::read(&file[..9], &mut owned.lent()), Err(Refusal { number: 1, place: 65_535 }));
+    assert_eq!(lists::read(&file[..9], &mut owned.lent()), Err(Refusal { number: 1, place: NOWHERE }));
 }

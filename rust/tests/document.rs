@@ -4,6 +4,7 @@ use timing_chart::analysis::{self, analyse, Analysis};
 use timing_chart::chart::{Chart, Comparison};
 use timing_chart::drawing::*;
 use timing_chart::generator::{longest, many_numbers, sixty_five_numbers, Random};
+use timing_chart::limits::LARGEST_FILE;
 use timing_chart::listing::listing;
 use timing_chart::player::{play, Playing};
 use timing_chart::rewriting::{rewrite, Rewriting};
@@ -379,9 +380,10 @@ fn the_largest_file_has_54_286_bytes() {
     };
     let file = drawing.file();
     assert_eq!(file.len(), 54_286);
+    assert_eq!(LARGEST_FILE, 54_286);
     let chart = Chart::read(&file).unwrap();
-    let mut out = vec![0; 54_286];
-    assert_eq!(chart.write(&mut out), Ok(54_286));
+    let mut out = vec![0; LARGEST_FILE];
+    assert_eq!(chart.write(&mut out), Ok(LARGEST_FILE));
     assert_eq!(out, file);
     assert_eq!(analyse(&file, &mut [0; 256]), refused(9, 1));
     // The longest one that is judged to the end is shorter: the initial location's transition cannot have tests.

@@ -1,5 +1,5 @@
 //! The proved library through its wrapper: a few cases of document 01, values and lent memory. The differential test
-//! holds it to this crate at large.
+//! compares it with this crate at large.
 
 #![cfg(feature = "library")]
 

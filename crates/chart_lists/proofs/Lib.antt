@@ -3,9 +3,9 @@ pub mod Tests
 pub mod Part
 pub mod Begins
 pub mod Holds
-pub mod Locations
-pub mod Fronts
 pub mod Fields
 pub mod PutLoop
 pub mod Overwritten
+pub mod Locations
+pub mod Fronts
 pub mod InTurn

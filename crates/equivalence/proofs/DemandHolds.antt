@@ -1,4 +1,5 @@
--- Demand 3 holds of a chart and its rewriting by any plan of at most 64 numbers, and of a file and what the rewriting returns for it. Assumes nothing.
+-- Demand 3 holds of a chart and its rewriting by any plan of at most 64 numbers, and of a file and what the rewriting returns for it. The hard parts
+-- are laws of other crates (equal runs, the rewritten chart is accepted, files survive); here they meet. Assumes nothing.
 use mathlib.Core.Path.{_≡_, sym, ap, _∙_, subst}
 use mathlib.Core.List.{List}
 use Prim.Native.Nat.{ℕ, _≤_}
@@ -15,7 +16,8 @@ use Rattle.model.proofs.EqualRuns.{plan-alike}
 use Rattle.model.proofs.RewrittenValid.{rewritten-valid}
 use Rattle.model.proofs.RewritingAlike.{rewriting-is}
 use Rattle.model.proofs.EqualAnswers.{rewritten-judged, equal-behaviour, rewriting-judged}
-use Rattle.model.proofs.PlayerLaws.{CountsAllowed, alike-played}
+use Rattle.model.specs.PlayerTerms.{CountsAllowed}
+use Rattle.model.proofs.PlayerLaws.{alike-played}
 use Rattle.model.proofs.PlayerAnswer.{player-answer}
 use Rattle.file_format.specs.File.{chartIn, fileOf}
 use Rattle.file_format.proofs.File.{chart-survives, file-survives, reads-valid}
@@ -41,7 +43,8 @@ plan-demand c N valid j P few =
     demand-of c (rewrittenBy N c) valid j (plan-alike c N P) (rewritten-valid c N P 2 valid few) (rewritten-judged 2 c N P valid few j)
 
 -- a file, the chart that it holds, and what the rewriting returns for it
-module _ (K room : ℕ) (bs : List ℕ) (bytes : Bytes bs) (c : Chart) (reads : chartIn bs ≡ result c) (x : Rewriting) (e : rewriteInto K room bs ≡ result x) where
+module _ (K room : ℕ) (bs : List ℕ) (bytes : Bytes bs) (c : Chart) (reads : chartIn bs ≡ result c) (x : Rewriting)
+    (e : rewriteInto K room bs ≡ result x) where
   made : rewriting K c ≡ result x
   made = let o = rewriting-of K room bs x e in
       subst (λ (d : Chart). rewriting K d ≡ result x) (result-same (sym (o .reads) ∙ reads)) (o .made)
@@ -52,7 +55,8 @@ module _ (K room : ℕ) (bs : List ℕ) (bytes : Bytes bs) (c : Chart) (reads : 
       let b = equal-behaviour 2 K c valid x made in
       demand-of c (x .chart) valid (rewriting-is K c x made .accepted) (b .alike) (b .valid 2 valid) (rewriting-judged 2 K c valid x made)
 
-  -- the player gives one answer on the bytes that were handed in and on those that came back
-  pub first-fit-plays : (v w is ts : List ℕ) → CountsAllowed c v → CountsAllowed (x .chart) w → playAnswer bs v is ts ≡ playAnswer (fileOf (x .chart)) w is ts
+  -- the player gives one answer on the bytes of the file and on those that came back
+  pub first-fit-plays : (v w is ts : List ℕ) → CountsAllowed c v → CountsAllowed (x .chart) w
+      → playAnswer bs v is ts ≡ playAnswer (fileOf (x .chart)) w is ts
   first-fit-plays v w is ts a b =
       ap (λ (y : List ℕ). playAnswer y v is ts) (sym (file-survives bs c bytes reads)) ∙ first-fit-demand .plays v w is ts a b

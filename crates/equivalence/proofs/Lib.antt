@@ -1,3 +1,4 @@
 pub mod DemandHolds
 pub mod RewrittenFile
 pub mod Points
+pub mod OnFiles

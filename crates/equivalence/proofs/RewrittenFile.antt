@@ -1,11 +1,12 @@
--- The player called on a file and on what the rewriting left of it in a buffer answers as Demand 3 on files says. Assumes nothing.
+-- The player called on a file and on what the rewriting left of it in a buffer answers as demand 3 on files says. The buffer has room for every file:
+-- the rewritten chart is valid, and no valid chart's file is longer. Assumes nothing.
 use mathlib.Core.Path.{_≡_, refl, sym, ap, ap₂, _∙_}
 use mathlib.Core.List.{List}
 use Prim.Native.Nat.{ℕ, _≤_}
 use native.Mathlib.Omega.{arith}
 use lib.Dec.{leb}
 use lib.ListN.{length, take, replicate}
-use borrow.Author.Tests.{leb-true, le-leb}
+use borrow.Author.Tests.{le-leb}
 use Rattle.model.specs.Answer.{Answer, result, refused, then, unless, nowhere}
 use Rattle.model.specs.Chart.{Chart}
 use Rattle.model.specs.Valid.{Valid}
@@ -15,15 +16,34 @@ use Rattle.file_format.specs.Parse.{Bytes}
 use Rattle.model.proofs.Answers.{not-result, result-same, refused-same}
 use Rattle.model.proofs.EqualAnswers.{equal-behaviour}
 use Rattle.file_format.specs.File.{chartIn, fileOf}
-use Rattle.file_format.proofs.Answers.{then-result, unless-result}
+use Rattle.file_format.specs.Lengths.{largestFile}
 use Rattle.file_format.proofs.File.{reads-valid}
 use Rattle.file_format.proofs.Lengths.{largest-file}
-use Rattle.judgement.proofs.Fronts.{front, front-length}
+use Rattle.chart_lists.proofs.Begins.{begins-put, begins-take, begins-room}
 use Rattle.rewriting.specs.Rewriting.{Figures, figuresOf, rewriteInto, rewriteAnswer, bufferAfter}
 use Rattle.player.specs.Playing.{playAnswer, playedAs}
-use Rattle.equivalence.specs.Both.{Claim, largestFile, boardAnswer, boardAs}
+use Rattle.equivalence.specs.Both.{Claim, boardAnswer, boardAs}
 use Rattle.equivalence.specs.declared.Both.{Both}
 use Rattle.equivalence.proofs.DemandHolds.{first-fit-plays}
+
+-- there is always room: the second answer is never 21
+module _ (K : ℕ) where
+  abbrev intoBuffer : Rewriting → Answer Rewriting
+  intoBuffer x = unless (leb (length (fileOf (x .chart))) largestFile) 21 nowhere (result x)
+
+  room-for : (c : Chart) → Valid 2 c → (y : Answer Rewriting) → rewriting K c ≡ y → then y intoBuffer ≡ y
+  room-for c valid (result x) e =
+      let fits = largest-file (x .chart) (equal-behaviour 2 K c valid x e .valid 2 valid) in
+      rw (le-leb (length (fileOf (x .chart))) largestFile fits) refl
+  room-for c valid (refused n p) e = refl
+
+  room-enough : (bs : List ℕ) → Bytes bs → rewriteInto K largestFile bs ≡ then (chartIn bs) (rewriting K)
+  unfolding rewriteInto
+  room-enough bs bytes = go (chartIn bs) refl
+    where
+      go : (z : Answer Chart) → chartIn bs ≡ z → then z (λ (c : Chart). then (rewriting K c) intoBuffer) ≡ then z (rewriting K)
+      go (result c) e = room-for c (reads-valid bs c bytes e) (rewriting K c) refl
+      go (refused n p) e = refl
 
 -- the two answers are all that the claim asks: that they are equal is the law on files
 pub claim-of : (K : ℕ) (bs v w is ts : List ℕ) (r : Both) → Bytes bs → playedAs (r .drawn) ≡ playAnswer bs v is ts
@@ -32,34 +52,9 @@ unfolding boardAnswer
 claim-of K bs v w is ts r bytes d b = record {
   drawn = d;
   board = b;
+  room = room-enough K bs bytes;
   alike = λ c x reads e p q. b ∙ rw e (ap result (sym (first-fit-plays K largestFile bs bytes c reads x e v w is ts p q) ∙ sym d));
 }
-
--- a file that is returned has room in the buffer
-fits-room : (K room : ℕ) (bs : List ℕ) (x : Rewriting) → rewriteInto K room bs ≡ result x → length (fileOf (x .chart)) ≤ room
-unfolding rewriteInto
-fits-room K room bs x e =
-    let a = then-result (chartIn bs) _ e in
-    let b = then-result (rewriting K (a .0)) _ (a .2) in
-    let d = unless-result (leb (length (fileOf (b .0 .chart))) room) 21 nowhere (result (b .0)) (b .2) in
-    let q : b .0 ≡ x = cc in
-    leb-true (length (fileOf (x .chart))) room (ap (λ (y : Rewriting). leb (length (fileOf (y .chart))) room) (sym q) ∙ d .0)
-
--- and there is always room: the second answer is never 21
-pub room-enough : (K : ℕ) (bs : List ℕ) → Bytes bs → rewriteInto K largestFile bs ≡ then (chartIn bs) (rewriting K)
-unfolding rewriteInto
-room-enough K bs bytes = go (chartIn bs) refl
-  where
-    inner : (c : Chart) → Valid 2 c → (y : Answer Rewriting) → rewriting K c ≡ y
-        → then y (λ (x : Rewriting). unless (leb (length (fileOf (x .chart))) largestFile) 21 nowhere (result x)) ≡ y
-    inner c valid (result x) e = rw (le-leb (length (fileOf (x .chart))) largestFile (largest-file (x .chart) (equal-behaviour 2 K c valid x e .valid 2 valid))) refl
-    inner c valid (refused n p) e = refl
-
-    go : (z : Answer Chart) → chartIn bs ≡ z
-        → then z (λ (c : Chart). then (rewriting K c) (λ (x : Rewriting). unless (leb (length (fileOf (x .chart))) largestFile) 21 nowhere (result x)))
-        ≡ then z (rewriting K)
-    go (result c) e = inner c (reads-valid bs c bytes e) (rewriting K c) refl
-    go (refused n p) e = refl
 
 module _ (K : ℕ) (bs : List ℕ) where
   -- what the rewriting returned, at the front of the buffer
@@ -70,18 +65,16 @@ module _ (K : ℕ) (bs : List ℕ) where
     pub front-is : take n out ≡ fileOf (rewriting-is .chart)
 
   pub left : (u n : ℕ) (out : List ℕ) → result (record { used = u; length = n }) ≡ rewriteAnswer K largestFile bs
-      → out ≡ bufferAfter (rewriteInto K largestFile bs) (replicate 54286 0) → Left n out
+      → out ≡ bufferAfter (rewriteInto K largestFile bs) (replicate largestFile 0) → Left n out
   unfolding rewriteAnswer figuresOf
   left u n out e f = go (rewriteInto K largestFile bs) refl e f
     where
       go : (y : Answer Rewriting) → rewriteInto K largestFile bs ≡ y → result (record { used = u; length = n }) ≡ then y (λ x. result (figuresOf x))
-          → out ≡ bufferAfter y (replicate 54286 0) → Left n out
+          → out ≡ bufferAfter y (replicate largestFile 0) → Left n out
       go (result x) q e f =
-          let l : length (fileOf (x .chart)) ≡ n = sym (ap (λ (y : Figures). y .length) (result-same e)) in
-          let h = fits-room K largestFile bs x q in
-          let g : n ≤ 54286 = omega arith in
-          let s : length out ≡ 54286 = front-length (fileOf (x .chart)) 54286 l g f in
-          record { rewriting-is = x; made = q; room = omega arith; front-is = front (fileOf (x .chart)) 54286 l g f }
+          let l : n ≡ length (fileOf (x .chart)) = ap (λ (y : Figures). y .length) (result-same e) in
+          let b = begins-put (fileOf (x .chart)) (replicate largestFile 0) f in
+          record { rewriting-is = x; made = q; room = omega (arith, begins-room b); front-is = begins-take b l }
       go (refused m p) q e f = absurd (not-result (sym e))
 
   module _ (w is ts : List ℕ) where
@@ -94,6 +87,7 @@ module _ (K : ℕ) (bs : List ℕ) where
         go (result x) e = absurd (not-result e)
         go (refused m i) e = let z = refused-same e in ap₂ refused (z .0) (z .1)
 
-    pub board-played : {n : ℕ} {out : List ℕ} → Left n out → {y : Answer Arrival} → y ≡ playAnswer (take n out) w is ts → result y ≡ boardAnswer K bs w is ts
+    pub board-played : {n : ℕ} {out : List ℕ} → Left n out → {y : Answer Arrival} → y ≡ playAnswer (take n out) w is ts
+        → result y ≡ boardAnswer K bs w is ts
     unfolding boardAnswer
     board-played l e = rw (l .made) (ap result (e ∙ ap (λ (b : List ℕ). playAnswer b w is ts) (l .front-is)))

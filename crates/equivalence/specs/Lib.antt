@@ -1,2 +1,4 @@
 pub mod Both
 pub mod Demand
+pub mod Points
+pub mod OnFiles

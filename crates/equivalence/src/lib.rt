@@ -1,5 +1,7 @@
-// Rewrites a chart file for a board and plays a step list on both files: demand 3 on files.
+// Rewrites a chart file for a board and plays a step list on both files: demand 3 on files. The cases that document 01 marks ★, asked of the entry
+// points' definitions on files, stand in specs/OnFiles.
 ghost use Rattle.equivalence.specs.Both.{Claim};
+use file_format::LARGEST_FILE;
 use player::Played;
 use refusal::Refusal;
 use rewriting::Rewritten;
@@ -25,10 +27,11 @@ pub fn rewrite_and_play(
     transitions: &[u32],
     times: &[u64],
 ) -> Both
-    ensures { λ r. ⌜ Claim k (now (file .entry)) (now (counts .entry)) (now («board_counts» .entry)) (now (transitions .entry)) (now (times .entry)) r ⌝ }
+    ensures { λ r. ⌜ Claim k (now (file .entry)) (now (counts .entry)) (now («board_counts» .entry))
+        (now (transitions .entry)) (now (times .entry)) r ⌝ }
 {
     let drawn = player::play(file, counts, transitions, times);
-    let mut out = [0u8; 54286];
+    let mut out = [0u8; LARGEST_FILE];
     let a = rewriting::rewrite(file, k, &mut out);
     match a {
         Rewritten::Refused(f) => Both {

@@ -1,4 +1,4 @@
--- Whether a number is in a list, one element a turn. Assumes nothing.
+-- Whether a number is in a list, one element a turn. Nothing is hard: what is left of the list decides. Assumes nothing.
 use mathlib.Core.Path.{_≡_, refl, sym}
 use mathlib.Core.Bool.{true, false}
 use mathlib.Core.List.{List}

@@ -1,4 +1,5 @@
--- What the last state, or the refusal of a step, says of the whole list of steps. Assumes nothing.
+-- What the last state, or the refusal of a step, says of the whole list of steps. Nothing is hard: both by the cases of the run's answer. Assumes
+-- nothing.
 use mathlib.Core.Path.{_≡_, ap, ap₂}
 use mathlib.Core.List.{List}
 use Prim.Native.Nat.{ℕ}

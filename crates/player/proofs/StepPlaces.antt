@@ -1,4 +1,5 @@
--- A list of steps is refused with 14, 15, 22, 23 or 24, at the number of one of its steps. Assumes nothing.
+-- A list of steps is refused with 14, 15, 22, 23 or 24, at the number of one of its steps. Nothing is hard: the bounds widen step by step. Assumes
+-- nothing.
 use mathlib.Core.Path.{_≡_, refl}
 use mathlib.Core.Bool.{Bool, true, false}
 use mathlib.Core.Option.{Option, none, some}
@@ -58,7 +59,7 @@ module _ (c : Chart) where
       then-place k (k + suc (length es)) (attempt playerTime c k s e) _
       (wider k (suc k) k (k + suc (length es)) (attempt playerTime c k s e) (omega arith) (omega arith) (attempt-place k s e))
       (λ s′. wider (suc k) (suc k + length es) k (k + suc (length es)) (steps playerTime c (suc k) s′ es) (omega arith) (omega arith)
-          (steps-place es (suc k) s′))
+      (steps-place es (suc k) s′))
 
   pub answer-place : (v : Counts) (es : List Step) → StepRefusal 0 (length es) (answerOf playerTime c v es)
   unfolding answerOf outcome arrival

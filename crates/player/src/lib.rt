@@ -95,10 +95,10 @@ fn play_chart<'a>(
 ) -> Played
     requires { ⌜ ((c : Chart) × (header ≡ headerOf c)
         × Holds c (playLists c (now accepting) (now sources) (now targets) (now starts) (now «test_counts»)
-            (now timers) (now codes) (now constants))) ⌝ }
+        (now timers) (now codes) (now constants))) ⌝ }
     ensures { λ r. ⌜ ((c : Chart) → header ≡ headerOf c
         → Holds c (playLists c (now (accepting .entry)) (now (sources .entry)) (now (targets .entry)) (now (starts .entry))
-            (now («test_counts» .entry)) (now (timers .entry)) (now (codes .entry)) (now (constants .entry)))
+        (now («test_counts» .entry)) (now (timers .entry)) (now (codes .entry)) (now (constants .entry)))
         → playedAs r ≡ playedOn (now (counts .entry)) (now (transitions .entry)) (now (times .entry)) c) ⌝ }
 {
     if counts.len() != header.timers as usize {

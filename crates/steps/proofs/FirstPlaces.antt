@@ -1,4 +1,5 @@
--- The places where the tests of the transitions begin, found by adding up the numbers of tests, one transition a turn. Assumes nothing.
+-- The places where the tests of the transitions begin, found by adding up the numbers of tests, one transition a turn. Nothing is hard: a sum over
+-- a front grows by the next number. Assumes nothing.
 use mathlib.Core.Path.{_≡_, refl, _∙_}
 use mathlib.Core.List.{List, [], _∷_, map}
 use Prim.Native.Nat.{ℕ, zero, suc, _+_, _≤_, _<_}

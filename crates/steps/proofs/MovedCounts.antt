@@ -1,4 +1,5 @@
--- The counts of a step: each is grown, one a turn, then those of the started timers become 0, one a turn. Assumes nothing.
+-- The counts of a step: each is grown, one a turn, then those of the started timers become 0, one a turn. Hard: a timer that was started is no longer
+-- among those that are left, so what is known is that starting the rest gives the same as starting all. Assumes nothing.
 use mathlib.Core.Path.{_≡_, refl, sym, ap, _∙_}
 use mathlib.Core.Logic.{_⊎_, inl, inr}
 use mathlib.Core.Bool.{Bool, true, false, _&&_, not, and-true}
@@ -89,7 +90,7 @@ module _ (starts : ℕ) (before : List ℕ) where
           rw p (gone ∙ ap (λ (x : ℕ). x + 0) stored ∙ sym (count-started left 0 i _ m))
       at j (inr e) =
           let kept : member (removed left i) j ≡ member left j =
-              member-removed left i j ∙ ap (λ (b : Bool). member left j && not b) e ∙ and-true (member left j) in
+          member-removed left i j ∙ ap (λ (b : Bool). member left j && not b) e ∙ and-true (member left j) in
           let other = getD-set-other after i j 0 0 (λ p. not-both (eq-eqb j i p) e) in
           count-same (removed left i) 0 j _ left kept ∙ ap (countAfter left 0 j) other
 

@@ -1,4 +1,5 @@
--- A list of steps, one a turn: the state that the turns so far have left, and what the rest comes to from it. Assumes nothing.
+-- A list of steps, one a turn: the state that the turns so far have left, and what the rest comes to from it. Hard: the run's state is not the
+-- code's, so it is carried along, shown by the code's. Assumes nothing.
 use mathlib.Core.Path.{_≡_, refl, sym, ap, subst, _∙_}
 use mathlib.Core.List.{List}
 use Prim.Native.Nat.{ℕ, suc, _+_, _≤_, _<_}
@@ -34,7 +35,7 @@ module _ (c : Chart) (is ts : List ℕ) where
   turn : (k : ℕ) (s : Run·State) → k < length is → k < length ts
       → steps playerTime c k s (stepsOf (drop k is) (drop k ts))
       ≡ then (attempt playerTime c k s (stepAt (getD is k 0) (getD ts k 0)))
-          (λ s′. steps playerTime c (suc k) s′ (stepsOf (drop (suc k) is) (drop (suc k) ts)))
+      (λ s′. steps playerTime c (suc k) s′ (stepsOf (drop (suc k) is) (drop (suc k) ts)))
   unfolding steps stepsOf
   turn k s h l = rw (drop-cons is k 0 h, drop-cons ts k 0 l) refl
 

@@ -1,4 +1,5 @@
--- The tests of one transition, one a turn: what is left of them decides. Assumes nothing.
+-- The tests of one transition, one a turn: what is left of them decides. Hard: the code counts places among all tests, the definition those of the
+-- transition alone. Assumes nothing.
 use mathlib.Core.Path.{_≡_, refl, sym, ap, ap₂, subst, _∙_}
 use mathlib.Core.Bool.{Bool, true, false, _&&_}
 use mathlib.Core.Option.{Option·some-injective, Option·none-ne-some}
@@ -62,9 +63,9 @@ module _ {c : Chart} {l : Lists} (h : Holds c l) {firsts : List ℕ} (f : FirstT
         let t = e .0 in
         let a : TestAt t (first + m) l = test-at h n f m t (e .1) in
         let same : getD counts (getD (l .timers) (first + m) 0) 0 ≡ v (t .timer) =
-            ap (λ (j : ℕ). getD counts j 0) (a .timer) ∙ agree .same (t .timer) (a .below) in
+        ap (λ (j : ℕ). getD counts j 0) (a .timer) ∙ agree .same (t .timer) (a .below) in
         let q : b ≡ met (t .comparison) (v (t .timer)) (t .constant) =
-            decides (t .comparison) (a .code) ∙ ap₂ (λ (x k : ℕ). met (t .comparison) x k) same (a .constant) in
+        decides (t .comparison) (a .code) ∙ ap₂ (λ (x k : ℕ). met (t .comparison) x k) same (a .constant) in
         rw (e .2, q) refl
 
     -- the tests of which k - first are done: the next one is met, and the rest decide

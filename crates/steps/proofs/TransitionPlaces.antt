@@ -109,9 +109,9 @@ module _ {c : Chart} {l : Lists} (h : Holds c l) {i : ℕ} {r : Transition} (n :
       let same : r ≡ d .0 = Option·some-injective _ _ (sym (n .there) ∙ d .1) in
       let others = allTests (drop (suc i) rs) in
       let rest : allTests (drop i rs) ≡ r .tests ++ others =
-          ap allTests (d .2) ∙ ap (λ (q : Transition). q .tests ++ others) (sym same) in
+      ap allTests (d .2) ∙ ap (λ (q : Transition). q .tests ++ others) (sym same) in
       let all : allTests rs ≡ allTests (take i rs) ++ (r .tests ++ others) =
-          ap allTests (sym (take-append-drop i rs)) ∙ tests-append (take i rs) (drop i rs) ∙ ap (λ (q : List Test). allTests (take i rs) ++ q) rest in
+      ap allTests (sym (take-append-drop i rs)) ∙ tests-append (take i rs) (drop i rs) ∙ ap (λ (q : List Test). allTests (take i rs) ++ q) rest in
       rw all (nth-right (allTests (take i rs)) (r .tests ++ others) m ∙ nth-left (r .tests) others m f)
 
   pub test-at : {firsts : List ℕ} → FirstTests c firsts → (m : ℕ) (t : Test) → getElem? (r .tests) m ≡ some t → TestAt t (getD firsts i 0 + m) l
@@ -119,7 +119,7 @@ module _ {c : Chart} {l : Lists} (h : Holds c l) {i : ℕ} {r : Transition} (n :
   test-at {firsts} f m t g =
       let all = allTests (c .transitions) in
       let e : getElem? all (getD firsts i 0 + m) ≡ some t =
-          ap (λ (p : ℕ). getElem? all (p + m)) (f .place i (below-nth (c .transitions) i (n .there))) ∙ nth-test m t g in
+      ap (λ (p : ℕ). getElem? all (p + m)) (f .place i (below-nth (c .transitions) i (n .there))) ∙ nth-test m t g in
       let small = all-nth (ValidTest (h .width) (c .timers)) (r .tests) m (nth-valid (h .valid) n .tests) g in
       record {
         timer-within = entry-within _ all (h .timers) _ e;

@@ -9,13 +9,13 @@ ghost use Rattle.chart_lists.specs.Holds.{Holds};
 ghost use Rattle.steps.specs.StepLists.{FirstTests, stepLists};
 ghost use Rattle.steps.specs.Counts.{Allowed};
 ghost use Rattle.steps.specs.Stepping.{Shows, Small, Answered, stepAt, refusedAt};
-use chart_lists::Header;
-use chart_lists::MOST_TRANSITIONS;
 use crate::counts::grown;
 use crate::counts::started;
 use crate::counts::starting_counts;
 use crate::tests::enabled;
 use crate::tests::find_firsts;
+use chart_lists::Header;
+use chart_lists::MOST_TRANSITIONS;
 use model::LARGEST_TIME;
 use refusal::Refusal;
 
@@ -69,7 +69,7 @@ pub fn step<'a>(
     requires { ⌜ Small state ⌝ }
     ensures answer { λ r. ⌜ ((c : Chart) → n ≡ length (c .transitions) → FirstTests c (now (firsts .entry))
         → Holds c (stepLists c (now (sources .entry)) (now (targets .entry)) (now (starts .entry)) (now («test_counts» .entry))
-            (now (timers .entry)) (now (codes .entry)) (now (constants .entry)))
+        (now (timers .entry)) (now (codes .entry)) (now (constants .entry)))
         → (s : Run·State) → Shows state s → Answered r (attempt playerTime c k s (stepAt transition time))) ⌝ }
     ensures small { λ r. ⌜ Small (r .state) ⌝ }
 {
@@ -124,7 +124,7 @@ pub fn take_steps<'a>(
     requires { ⌜ length (now times) ≡ length (now transitions) ⌝ }
     ensures { λ r. ⌜ ((c : Chart) → n ≡ length (c .transitions) → FirstTests c (now (firsts .entry))
         → Holds c (stepLists c (now (sources .entry)) (now (targets .entry)) (now (starts .entry)) (now («test_counts» .entry))
-            (now (timers .entry)) (now (codes .entry)) (now (constants .entry)))
+        (now (timers .entry)) (now (codes .entry)) (now (constants .entry)))
         → (s : Run·State) → Shows first s
         → Answered r (steps playerTime c 0 s (stepsOf (now (transitions .entry)) (now (times .entry))))) ⌝ }
 {
@@ -180,7 +180,7 @@ pub fn play_steps<'a>(
     requires { ⌜ length (now times) ≡ length (now transitions) ⌝ }
     ensures { λ r. ⌜ ((c : Chart) → header ≡ headerOf c
         → Holds c (stepLists c (now (sources .entry)) (now (targets .entry)) (now (starts .entry)) (now («test_counts» .entry))
-            (now (timers .entry)) (now (codes .entry)) (now (constants .entry)))
+        (now (timers .entry)) (now (codes .entry)) (now (constants .entry)))
         → Answered r (outcome playerTime c (λ j. getD (now (counts .entry)) j 0) (stepsOf (now (transitions .entry)) (now (times .entry))))) ⌝ }
 {
     let n = header.transitions as usize;

@@ -1,5 +1,5 @@
-//! Holds the proved library and the program `allocate` to this crate, on random files, limits, lent memory and step
-//! lists from a seed.
+//! Compares the proved library and the program `allocate` with this crate, on random files, limits, lent memory and
+//! step lists from a seed.
 //!
 //! usage: differential [ROUNDS] [SEED] [--without-program]
 //!
@@ -15,36 +15,45 @@ use timing_chart::analysis::{self, Analysis};
 use timing_chart::chart::Chart;
 use timing_chart::drawing::*;
 use timing_chart::generator::*;
+use timing_chart::limits::{
+    MOST_INPUT, MOST_LOCATIONS, MOST_STARTS, MOST_TESTS, MOST_TICKS, MOST_TIMERS, NOWHERE, TIMERS,
+};
 use timing_chart::listing::listing;
-use timing_chart::player::{self, LATEST};
+use timing_chart::player;
 use timing_chart::rewriting::{self, Rewriting};
 use timing_chart::{library, Answer, Refusal};
 
-/// The numbers that calls of the library bring; the program brings 16 besides.
-const EXPECTED: [u64; 20] = [1, 2, 3, 4, 5, 6, 7, 8, 9, 10, 11, 12, 13, 14, 15, 20, 21, 22, 23, 24];
+/// The numbers that calls of the library bring, each of which must come.
+const EXPECTED: [usize; 20] = [1, 2, 3, 4, 5, 6, 7, 8, 9, 10, 11, 12, 13, 14, 15, 20, 21, 22, 23, 24];
+
+/// The number that the program alone brings.
+const OF_PROGRAM: usize = 16;
+
+/// How often each number came; 0 is a result.
+type ByNumber = [u64; 25];
 
 /// How often what came.
 #[derive(Default)]
 struct Tally {
     /// Refusals of each call by number.
-    analyses: [u64; 25],
-    rewritings: [u64; 25],
-    playings: [u64; 25],
+    analyses: ByNumber,
+    rewritings: ByNumber,
+    playings: ByNumber,
     /// The program's, the number taken from its text.
-    listings: [u64; 25],
+    listings: ByNumber,
     steps_taken: u64,
-    used_over_64: u64,
+    used_over_most: u64,
     largest: u64,
 }
 
 impl Tally {
-    fn all(&self) -> [(&'static str, &[u64; 25]); 4] {
-        [
-            ("analysis", &self.analyses),
-            ("rewriting", &self.rewritings),
-            ("player", &self.playings),
-            ("program", &self.listings),
-        ]
+    fn all(&self) -> [&ByNumber; 4] {
+        [&self.analyses, &self.rewritings, &self.playings, &self.listings]
+    }
+
+    /// Whether some call brought the number.
+    fn came(&self, number: usize) -> bool {
+        self.all().iter().any(|numbers| numbers[number] > 0)
     }
 }
 
@@ -83,7 +92,7 @@ impl Trial {
             differ("analysis, lent list", file, &before, &proved, &rust);
         }
         self.tally.analyses[number_of(&answer)] += 1;
-        self.tally.used_over_64 += u64::from(answer.is_ok_and(|answer| answer.used > 64));
+        self.tally.used_over_most += u64::from(answer.is_ok_and(|answer| answer.used > u64::from(MOST_TIMERS)));
         answer
     }
 
@@ -143,8 +152,9 @@ impl Trial {
         let room = self.random.below(locations as u64) as usize;
         let _ = self.analyse(file, room);
         let extra = self.random.pick(&[0, 0, 1, 300]);
+        let most = u32::from(MOST_TIMERS);
         let analysis = self.analyse(file, locations + extra);
-        let used = analysis.map_or(3, |analysis| analysis.used.min(64) as u32);
+        let used = analysis.map_or(3, |analysis| analysis.used.min(u64::from(most)) as u32);
 
         let board = self.rewrite(file, used, file.len() + extra);
         if let Ok(board) = &board {
@@ -152,9 +162,9 @@ impl Trial {
                 let _ = self.rewrite(file, used, length);
             }
         }
-        let any = self.random.below(65) as u32;
-        let beyond = self.random.pick(&[65, 128, 255, 256, 65_536, 1 << 31, u32::MAX]);
-        for k in [used.saturating_sub(1), any, 64, beyond] {
+        let any = self.random.between(0, u64::from(most)) as u32;
+        let beyond = self.random.pick(&[most + 1, 2 * most, 255, 256, 1 << 16, 1 << 31, u32::MAX]);
+        for k in [used.saturating_sub(1), any, most, beyond] {
             let length = if self.random.chance(1, 4) { 0 } else { file.len() };
             let _ = self.rewrite(file, k, length);
         }
@@ -171,7 +181,7 @@ impl Trial {
                     }
                     if self.random.chance(1, 8) {
                         // The same steps as late as can be.
-                        let late = u64::from(LATEST) - steps.times.last().unwrap_or(&0);
+                        let late = u64::from(MOST_TICKS) - steps.times.last().unwrap_or(&0);
                         steps.times.iter_mut().for_each(|time| *time += late);
                     }
                     steps
@@ -215,13 +225,13 @@ impl Trial {
                 started_anew,
             ])(),
             80..=85 => {
-                let shape = Shape::random(random, 256);
+                let shape = Shape::random(random, MOST_LOCATIONS);
                 accepted(random, &shape)
             }
             86 => accepted(random, &Shape::LARGEST),
             87 if random.chance(1, 2) => longest(random),
             87 => {
-                let starts = random.pick(&[(1, 1), (10, 40), (40, 64)]);
+                let starts = random.pick(&[(1, 1), (10, 40), (40, MOST_STARTS)]);
                 accepted(random, &Shape { cycle: true, starting: 90, starts, ..Shape::LARGEST })
             }
             88..=91 => {
@@ -231,12 +241,13 @@ impl Trial {
             }
             92..=95 => {
                 let levels = random.between(3, 17);
-                many_numbers(levels as u16, random.between(1, (8 * levels - 16).min(32)) as u8)
+                let most = (u64::from(MOST_TESTS) * (levels - 2)).min(u64::from(MOST_TIMERS) / 2);
+                many_numbers(levels as u16, random.between(1, most) as u8)
             }
-            _ => sixty_five_numbers(random.between(1, 63) as u8),
+            _ => sixty_five_numbers(random.between(1, u64::from(MOST_TIMERS) - 1) as u8),
         };
         if !drawing.transitions.is_empty() && random.chance(1, 4) {
-            // A transition turned: often it is then in the way of 9 or 10, or families change.
+            // One transition is changed: often 9 or 10 then applies, or the families are others.
             let transition = random.below(drawing.transitions.len() as u64) as usize;
             let transition = &mut drawing.transitions[transition];
             match random.below(4) {
@@ -266,7 +277,8 @@ impl Trial {
         }
         if round.is_multiple_of(20) {
             let random = &mut self.random;
-            let k = random.pick(&[0, 1, 2, 3, 8, 16, 63, 64, 64, 65, 255]);
+            let most = MOST_TIMERS;
+            let k = random.pick(&[0, 1, 2, 3, 8, 16, most - 1, most, most, most + 1, u8::MAX]);
             let mut file = if random.chance(2, 3) { good } else { damaged(random, &good) };
             file.insert(0, k);
             self.print(&file);
@@ -280,14 +292,15 @@ impl Trial {
         let file = drawing.file();
         let steps = run(&mut self.random, &drawing, 70_000, 0, false);
         assert_eq!(steps.times.len(), 70_000, "the chart's runs do not end");
-        let board = self.rewrite(&file, 64, file.len()).expect("the chart fits a board of 64");
+        let board = self.rewrite(&file, u32::from(MOST_TIMERS), file.len()).expect("the chart fits the largest board");
         let used = self.analyse(&file, 9).map_or(0, |analysis| analysis.used as usize);
-        for at in [None, Some(65_534), Some(65_535), Some(65_536), Some(69_999)] {
+        let cut = NOWHERE as usize;
+        for at in [None, Some(cut - 1), Some(cut), Some(cut + 1), Some(69_999)] {
             let mut steps = steps.clone();
             if let Some(at) = at {
                 steps.transitions[at] = 30;
             }
-            for (file, timers) in [(&file, 64), (&board, used)] {
+            for (file, timers) in [(&file, TIMERS), (&board, used)] {
                 let counts = counts(&mut self.random, timers, true);
                 let answer = self.play(file, &counts, &steps);
                 assert_eq!(answer.err(), at.map(|at| Refusal { number: 14, place: at as u64 }));
@@ -297,11 +310,11 @@ impl Trial {
 
     /// Inputs of the program about its limits of length.
     fn input_lengths(&mut self) {
-        let with_k = |file: Vec<u8>| [vec![64], file].concat();
+        let with_k = |file: Vec<u8>| [vec![MOST_TIMERS], file].concat();
         self.print(&[]);
-        self.print(&[64]);
+        self.print(&[MOST_TIMERS]);
         self.print(&with_k(chart_b().file()));
-        for length in [65_535, 65_536, 65_537, 65_538, 70_000, 200_000] {
+        for length in [MOST_INPUT - 1, MOST_INPUT, MOST_INPUT + 1, MOST_INPUT + 2, 70_000, 200_000] {
             let mut body = chart_b().file()[5..].to_vec();
             body.resize(length - 6, 0);
             self.print(&with_k(enclosed(&body)));
@@ -356,22 +369,21 @@ fn main() {
 
     let tally = &trial.tally;
     println!("rounds {rounds}, seed {seed}; largest chart {} bytes", tally.largest);
-    println!("charts with used over 64: {}; steps taken: {}", tally.used_over_64, tally.steps_taken);
+    println!("charts with used over {MOST_TIMERS}: {}; steps taken: {}", tally.used_over_most, tally.steps_taken);
     println!("how often each answer came (0: a result)");
     println!("{:>6} {:>10} {:>10} {:>10} {:>10}", "number", "analysis", "rewriting", "player", "program");
-    for number in (0..=16).chain(20..=24) {
-        let [a, b, c, d] = tally.all().map(|(_, counts)| counts[number]);
-        println!("{number:>6} {a:>10} {b:>10} {c:>10} {d:>10}");
+    for number in 0..ByNumber::default().len() {
+        if number == 0 || number == OF_PROGRAM || EXPECTED.contains(&number) || tally.came(number) {
+            let [a, b, c, d] = tally.all().map(|numbers| numbers[number]);
+            println!("{number:>6} {a:>10} {b:>10} {c:>10} {d:>10}");
+        }
     }
-    let came = |number: u64| tally.all().iter().any(|(_, counts)| counts[number as usize] > 0);
-    let mut missing: Vec<u64> = EXPECTED.into_iter().filter(|&number| !came(number)).collect();
-    if trial.program.is_some() && !came(16) {
-        missing.push(16);
-    }
-    if !missing.is_empty() || tally.used_over_64 == 0 {
-        println!("never came: {missing:?}; charts with used over 64: {}", tally.used_over_64);
+    let program = trial.program.is_some().then_some(OF_PROGRAM);
+    let missing: Vec<usize> = EXPECTED.into_iter().chain(program).filter(|&number| !tally.came(number)).collect();
+    if !missing.is_empty() || tally.used_over_most == 0 {
+        println!("never came: {missing:?}; charts with used over {MOST_TIMERS}: {}", tally.used_over_most);
         exit(2);
     }
-    let calls: u64 = tally.all().iter().map(|(_, counts)| counts.iter().sum::<u64>()).sum();
+    let calls: u64 = tally.all().into_iter().flatten().sum();
     println!("all {calls} calls agree");
 }

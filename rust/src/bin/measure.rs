@@ -9,6 +9,7 @@ use timing_chart::analysis::{self, Analysis};
 use timing_chart::chart::Chart;
 use timing_chart::drawing::{chart_a, Drawing};
 use timing_chart::generator::{accepted, longest, many_numbers, run, Random, Shape, Steps};
+use timing_chart::limits::{LOCATIONS, MOST_TIMERS, MOST_TRANSITIONS};
 use timing_chart::player::{self, Playing};
 use timing_chart::rewriting::{self, Rewriting};
 use timing_chart::{library, Answer};
@@ -16,8 +17,8 @@ use timing_chart::{library, Answer};
 /// The steps of a long list.
 const LONG: usize = 100_000;
 
-/// A board of this many timers is the limit of every rewriting.
-const K: u32 = 64;
+/// The board of every rewriting.
+const K: u32 = MOST_TIMERS as u32;
 
 type Analyse = fn(&[u8], &mut [u64]) -> Answer<Analysis>;
 type Rewrite = fn(&[u8], u32, &mut [u8]) -> Answer<Rewriting>;
@@ -94,11 +95,11 @@ fn heading(title: &str) {
     println!("{:<22} {:<28} {:>12} {:>12} {:>8}", "call", "chart", "proved µs", "Rust µs", "ratio");
 }
 
-/// A chart of the shape that fits a board of 64 timers.
+/// A chart of the shape that fits the board.
 fn fitting(shape: &Shape) -> Drawing {
     let fits = |seed| {
         let drawing = accepted(&mut Random::new(seed), shape);
-        let used = analysis::analyse(&drawing.file(), &mut [0; 256]).expect("the chart is accepted").used;
+        let used = analysis::analyse(&drawing.file(), &mut [0; LOCATIONS]).expect("the chart is accepted").used;
         (used <= u64::from(K)).then_some(drawing)
     };
     (1..).find_map(fits).expect("some seed gives such a chart")
@@ -123,7 +124,7 @@ fn largest(transitions: u16) -> Drawing {
 }
 
 fn analyses(repetitions: usize, file: &[u8]) -> (f64, f64) {
-    let mut live = [0; 256];
+    let mut live = [0; LOCATIONS];
     medians(repetitions, |calls| {
         black_box((calls.analyse)(black_box(file), black_box(&mut live)).expect("the chart is accepted"));
     })
@@ -157,7 +158,7 @@ fn steps_of(drawing: &Drawing, most: usize) -> Steps {
 
 /// Both must answer alike, or a comparison of times says nothing.
 fn check(file: &[u8]) {
-    let (mut a, mut b) = ([0; 256], [0; 256]);
+    let (mut a, mut b) = ([0; LOCATIONS], [0; LOCATIONS]);
     assert_eq!(library::analyse(file, &mut a), analysis::analyse(file, &mut b));
     assert_eq!(a, b);
     let (mut a, mut b) = (vec![0; file.len()], vec![0; file.len()]);
@@ -167,7 +168,7 @@ fn check(file: &[u8]) {
 
 fn describe(name: &str, drawing: &Drawing) {
     let file = drawing.file();
-    let answer = analysis::analyse(&file, &mut [0; 256]).expect("the chart is accepted");
+    let answer = analysis::analyse(&file, &mut [0; LOCATIONS]).expect("the chart is accepted");
     let tests: usize = drawing.transitions.iter().map(|transition| transition.tests.len()).sum();
     println!(
         "{name}: {} locations, {} transitions, {} timers, {tests} tests, {} bytes; used {}, floor {}",
@@ -191,7 +192,7 @@ fn main() {
     let charts = [
         ("small (chart A)", small),
         ("typical", typical()),
-        ("largest", largest(512)),
+        ("largest", largest(MOST_TRANSITIONS)),
         ("longest file", longest(&mut Random::new(1))),
     ];
     for (name, drawing) in &charts {
@@ -218,7 +219,7 @@ fn main() {
 
     heading("Growth: locations half the transitions, 64 timers, 8 tests where 10 allows");
     let mut before: Option<[(f64, f64); 3]> = None;
-    for transitions in [64, 128, 256, 512] {
+    for transitions in [8, 4, 2, 1].map(|part| MOST_TRANSITIONS / part) {
         let drawing = largest(transitions);
         let file = drawing.file();
         check(&file);

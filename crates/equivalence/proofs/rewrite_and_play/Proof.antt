@@ -25,7 +25,8 @@ answered c = c .before .before .before .before
 abbrev size : tie.After-known-told2 → ℕ
 size c = c .before .a2 .given .0 .1 .0
 
-written : (c : tie.After-known-told2) → Left (start (answered c) .args .k) (start (answered c) .args .file .now) (size c) (answered c .rewrite .last .1 .1 .0)
+written : (c : tie.After-known-told2) → let x = start (answered c) .args in
+    Left (x .k) (x .file .now) (size c) (answered c .rewrite .last .1 .1 .0)
 written c = let r = answered c .rewrite in
     left _ _ _ _ _ (sym (ap rewrittenAs (c .before .a2 .given .1)) ∙ r .ensures .0) (r .ensures .1)
 

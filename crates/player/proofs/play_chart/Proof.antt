@@ -1,4 +1,4 @@
--- `play_chart` judges 12 and 13, then the steps decide. Assumes nothing.
+-- `play_chart` judges 12 and 13, then the steps decide. Nothing is hard: the laws of 12 and 13 take the code's tests as they are. Assumes nothing.
 use mathlib.Core.Path.{_≡_, sym, _∙_}
 use lib.ListN.{length, take}
 use borrow.Author.Needs.{needs}

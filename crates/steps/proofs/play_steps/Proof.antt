@@ -1,4 +1,5 @@
--- `play_steps` finds where the tests begin and takes the steps from tick 0 on. Assumes nothing.
+-- `play_steps` finds where the tests begin and takes the steps from tick 0 on. Nothing is hard: each callee is asked for the same chart. Assumes
+-- nothing.
 use native.Mathlib.Omega.{arith}
 use borrow.Author.Needs.{needs}
 use Rattle.model.specs.Run.{outcome}

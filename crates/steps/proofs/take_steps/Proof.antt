@@ -1,4 +1,4 @@
--- `take_steps` takes one step a turn. Assumes nothing.
+-- `take_steps` takes one step a turn. Nothing is hard: the laws of a list of steps say what each turn leaves. Assumes nothing.
 use mathlib.Core.Path.{_≡_, refl}
 use Prim.Native.Nat.{_-_, _≤_, _<_, _^_}
 use native.Mathlib.Omega.{arith}

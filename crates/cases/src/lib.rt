@@ -1,1 +1,0 @@
-// No code: the cases that document 01 marks ★, asked of the entry points' definitions on files.

@@ -1,0 +1,47 @@
+-- The cases that document 01 marks ★ hold of the entry points' definitions too: the same list, the same replies, from files. Nothing is hard: both
+-- sides are computed, once every definition on the way may be unfolded. Assumes nothing.
+use mathlib.Core.Path.{_≡_, refl}
+use mathlib.Core.List.{_++_, map, filterMap}
+use lib.Count.{ones, onesIn}
+use Rattle.lists.specs.Lists.{memb, anyOf, firstOf, lowest, gather, upTo, pick, top}
+use Rattle.timer_set.specs.Members.{member, joined, common, minus, added, everyTimer, setOf}
+use Rattle.comparison.specs.Comparison.{met, comparisonOf, codeOf}
+use Rattle.model.specs.Run.{grown, restarted, allMet, after, enabled, attempt, steps, begin, outcome, playerTime, accepts}
+use Rattle.model.specs.Flow.{brings, made, round, roundsOf, sameSets, changing, settled}
+use Rattle.model.specs.Live.{startsSet, testsSet, atInitial, liveFlow, unstartedFlow, reachedFlow, liveSets, unstartedSets, reachedSets}
+use Rattle.model.specs.Live.{isEmpty, firstUnreached, firstUnstarted}
+use Rattle.model.specs.Family.{isPair, livePairs, familyNumber, linkFlow, familyOf, familyFrom, families, meets}
+use Rattle.model.specs.FirstFit.{held, free, place, firstFit, usedBy, numberAt, allHeld, blocked, fullest, floor, board, used}
+use Rattle.model.specs.Rewrite.{numbering, renamed, newTests, newStarts, newTransition, rewrittenBy}
+use Rattle.model.specs.Judge.{judged, fitted, rewriting}
+use Rattle.model.specs.Player.{arrival, answerOf, tooLarge, countsJudged, stepsOf, played}
+use Rattle.model.specs.Cases.{arrow, test, drawn, A, B, C, selfLoop, neverStarted, restart, ownStart, B′, C′, selfLoop′, boardNumbers}
+use Rattle.model.specs.Cases.{Case, case, starred, unnoticed}
+use Rattle.file_format.specs.Parse.{number, below, many, entry, rising, digits, writeAll}
+use Rattle.file_format.specs.Body.{readComparison, readTest, readTests, recordLength, readTransition, readTransitions, readHeader, chartOf, readBody}
+use Rattle.file_format.specs.Body.{writeTest, writeTransition, writeHeader, writeBody}
+use Rattle.file_format.specs.File.{readFrame, judgeFrame, readFile, writeFile, chartIn, fileOf}
+use Rattle.chart_lists.specs.Lists.{put}
+use Rattle.judgement.specs.Judging.{judgedIn}
+use Rattle.analysis.specs.Analysing.{analysedChart, analysedIn, figuresOf, analyseAnswer}
+use Rattle.rewriting.specs.Rewriting.{rewriteInto}
+use Rattle.player.specs.Playing.{playAnswer}
+use Rattle.equivalence.specs.OnFiles.{analysedList, askFile}
+
+pub starred-on-files : map (λ (x : Case). askFile (x .question)) (starred ++ unnoticed) ≡ map (λ (x : Case). x .reply) (starred ++ unnoticed)
+unfolding arrow test drawn A B C selfLoop neverStarted restart ownStart B′ C′ selfLoop′ boardNumbers case starred unnoticed
+    member joined common minus added everyTimer setOf met comparisonOf codeOf ones onesIn filterMap
+    memb anyOf firstOf lowest gather upTo pick top
+    grown restarted allMet after enabled attempt steps begin outcome playerTime accepts
+    brings made round roundsOf sameSets changing settled
+    startsSet testsSet atInitial liveFlow unstartedFlow reachedFlow liveSets unstartedSets reachedSets isEmpty firstUnreached firstUnstarted
+    isPair livePairs familyNumber linkFlow familyOf familyFrom families meets
+    held free place firstFit usedBy numberAt allHeld blocked fullest floor board used
+    numbering renamed newTests newStarts newTransition rewrittenBy
+    judged fitted rewriting arrival answerOf tooLarge countsJudged stepsOf played
+    number below many entry rising digits writeAll
+    readComparison readTest readTests recordLength readTransition readTransitions readHeader chartOf readBody
+    writeTest writeTransition writeHeader writeBody
+    readFrame judgeFrame readFile writeFile chartIn fileOf put
+    judgedIn analysedChart analysedIn figuresOf analyseAnswer rewriteInto playAnswer analysedList askFile
+starred-on-files = refl

@@ -1,0 +1,68 @@
+// The calls on files: analysis, rewriting and player.
+use crate::input::*;
+use crate::lent::*;
+use crate::show::*;
+
+pub fn analyse(file: &[u8], values: &[u8]) {
+    let mut list = [FILLED64; 256];
+    let n = count(values, 0, 256);
+    let live = &mut list[0..n];
+    let answer = analysis::analyse(file, live);
+    match answer {
+        analysis::Analysis::Refused(r) => refusal(r, changed64(live, 0)),
+        analysis::Analysis::Found { used, floor } => {
+            let locations = count(values, 1, 256);
+            item(b"used ", used as u64);
+            item(b" floor ", floor as u64);
+            item(b" beyond ", changed64(live, locations) as u64);
+            text(b"\nlive");
+            sets(live, locations);
+            text(b"\n");
+        }
+    }
+}
+
+// The first n live sets: those of locations 0 to 7, and the last.
+fn sets(live: &[u64], n: usize) {
+    for i in 0..n {
+        entry(entry64(live, i), is_shown(i, n, 8));
+    }
+}
+
+pub fn rewrite(input: &[u8], values: &[u8]) {
+    let mut buffer = [FILLED8; 65536];
+    let n = count(values, 1, 65536);
+    let out = &mut buffer[0..n];
+    let answer = rewriting::rewrite(input, low32(number(values, 0)), out);
+    match answer {
+        rewriting::Rewritten::Refused(r) => refusal(r, changed8(out, 0)),
+        rewriting::Rewritten::File { used, length } => {
+            item(b"used ", used as u64);
+            file(b" length ", out, length);
+        }
+    }
+}
+
+pub fn play(file: &[u8], values: &[u8], vector: &[u8]) {
+    let zeros = count(values, 0, 70016);
+    let mut counts = [0u32; 64];
+    let a = list32(field(vector, 3), 0, &mut counts);
+    let mut transitions = [0u32; 70016];
+    let b = list32(field(vector, 4), zeros, &mut transitions);
+    let mut times = [0u64; 70016];
+    let c = list64(field(vector, 5), zeros, &mut times);
+    let answer = player::play(file, a, b, c);
+    match answer {
+        player::Played::Refused(r) => refusal(r, 0),
+        player::Played::Arrived {
+            location,
+            time,
+            accepting,
+        } => {
+            item(b"location ", location as u64);
+            item(b" time ", time);
+            item(b" accepting ", accepting as u64);
+            text(b"\n");
+        }
+    }
+}

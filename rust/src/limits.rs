@@ -1,0 +1,40 @@
+//! The limits that document 01 sets: to a chart, its file, its step lists, the program's input and a refusal's place.
+
+/// The most locations of a chart.
+pub const MOST_LOCATIONS: u16 = 256;
+
+/// The most timers of a chart and of a board.
+pub const MOST_TIMERS: u8 = 64;
+
+/// The most transitions of a chart.
+pub const MOST_TRANSITIONS: u16 = 512;
+
+/// The most timers that a transition starts.
+pub const MOST_STARTS: u8 = MOST_TIMERS;
+
+/// The most tests of a transition.
+pub const MOST_TESTS: u8 = 8;
+
+/// The largest constant of a test.
+pub const LARGEST_CONSTANT: u16 = 65_535;
+
+/// The bytes of the largest chart file.
+pub const LARGEST_FILE: usize = 54_286;
+
+/// The largest time of a step, and the largest starting count of a timer.
+pub const MOST_TICKS: u32 = 16_777_215;
+
+/// The most bytes of the program's input that are judged further.
+pub const MOST_INPUT: usize = 65_536;
+
+/// The place of a refusal that points at no location, transition, timer or step.
+pub const NOWHERE: u64 = 65_535;
+
+/// The entries of a table with one for each location that a chart can have.
+pub const LOCATIONS: usize = MOST_LOCATIONS as usize;
+
+/// The entries of a table with one for each timer that a chart can have.
+pub const TIMERS: usize = MOST_TIMERS as usize;
+
+/// The entries of a table with one for each transition that a chart can have.
+pub const TRANSITIONS: usize = MOST_TRANSITIONS as usize;
