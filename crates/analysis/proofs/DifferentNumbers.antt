@@ -41,11 +41,14 @@ module _ (g : ℕ → ℕ) where
         new : memb (g x) (map g l) ≡ true → ⊥
         new m =
             let y = memb-map l (g x) m in
-            omega (arith, a x (y .0) (memb-head x x l refl) (memb-tail (y .0) x l (y .1)) (sym (y .2)), rising-below limit (suc x) l (r .1) (y .0) (y .1) .0)
+            let same = a x (y .0) (memb-head x x l refl) (memb-tail (y .0) x l (y .1)) (sym (y .2)) in
+            omega (arith, same, rising-below limit (suc x) l (r .1) (y .0) (y .1) .0)
 
         go : (setOf (map g l) ≡ setOf (map g (x ∷ l))) ⊎ (ones (setOf (map g l)) < ones (setOf (map g (x ∷ l)))) → length l ≤ ones (setOf (map g l))
             → suc (length l) ≤ ones (setOf (map g (x ∷ l)))
-        go (inl e) h = absurd (new (sym (member-setOf (map g l) (g x)) ∙ ap (λ (w : ℕ). member w (g x)) e ∙ member-setOf (map g (x ∷ l)) (g x) ∙ memb-head (g x) (g x) (map g l) refl))
+        go (inl e) h =
+            let in-both = ap (λ (w : ℕ). member w (g x)) e ∙ member-setOf (map g (x ∷ l)) (g x) ∙ memb-head (g x) (g x) (map g l) refl in
+            absurd (new (sym (member-setOf (map g l) (g x)) ∙ in-both))
         go (inr h) k = omega arith
 
     pub few-numbers : (limit lo : ℕ) (l : List ℕ) → Rising limit lo l → ((j : ℕ) → memb j l ≡ true → g j < n)

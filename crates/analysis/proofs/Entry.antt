@@ -1,38 +1,16 @@
--- What the analysis answers and leaves, on plain values: of a chart, and of a file that is judged. Assumes nothing.
-use mathlib.Core.Path.{_≡_, sym, ap, _∙_}
-use mathlib.Core.List.{List, _++_}
-use Prim.Native.Nat.{ℕ, _*_, _≤_, _<_}
-use native.Mathlib.Omega.{arith}
-use lib.ListN.{length, take, drop}
-use lib.Seq.{take-at}
+-- What the analysis answers and leaves of a file, on plain values: by the judgement's answer, and by the room that is lent. Assumes nothing.
+use mathlib.Core.Path.{_≡_}
+use mathlib.Core.List.{List}
+use Prim.Native.Nat.{ℕ, _≤_, _<_}
+use lib.ListN.{length}
 use borrow.Author.Tests.{le-leb, lt-leb}
-use Rattle.model.specs.Answer.{Answer, result, refused, nowhere}
+use Rattle.model.specs.Answer.{result, refused, nowhere}
 use Rattle.model.specs.Chart.{Chart}
-use Rattle.model.specs.Live.{liveFlow, liveSets}
-use Rattle.model.specs.FirstFit.{used, fullest, floor}
-use Rattle.model.proofs.Settled.{length-settled}
-use Rattle.chart_lists.specs.Lists.{put}
-use Rattle.chart_lists.specs.Header.{headerOf}
-use Rattle.chart_lists.specs.declared.Header.{Header}
-use Rattle.judgement.specs.Judging.{judgedIn, judgedHeader}
-use Rattle.judgement.proofs.Judging.{listed}
-use Rattle.judgement.proofs.Fronts.{drawn}
-use Rattle.judgement.proofs.Handed.{HandedOn, judged-refused}
-use Rattle.numbering.specs.Numbered.{ListsFor, OfChart}
-use Rattle.analysis.specs.Analysing.{Figures, figuresOf, figuresIn, analysedChart, analysedIn, analyseAnswer, listAfter}
-
--- ---- a chart
-
-pub length-live : (c : Chart) → length (liveSets c) ≡ c .locations
-unfolding liveSets liveFlow
-length-live c = length-settled (liveFlow c)
-
--- the number of locations is that of the part of the list that is lent
-pub lent-lists : {c : Chart} {s t w u : List ℕ} {timers n k : ℕ} → k ≡ n → ListsFor c s t w u timers n → ListsFor c s t w u timers k
-lent-lists e l = rw e l
-
-pub few-cells : {s t w u : List ℕ} {timers n : ℕ} → OfChart s t w u timers n → 64 * n ≤ 16384
-few-cells o = omega (arith, o .lists .locations-are, o .lists .valid .few-locations)
+use Rattle.model.specs.Live.{liveSets}
+use Rattle.model.specs.FirstFit.{used, floor}
+use Rattle.chart_lists.specs.Lists.{put, overwritten}
+use Rattle.judgement.specs.Judging.{judgedIn}
+use Rattle.analysis.specs.Analysing.{valuesOf, analysedChart, analysedIn, analyseAnswer}
 
 module _ (c : Chart) (room : ℕ) where
   pub short : room < c .locations → analysedChart room c ≡ refused 21 nowhere
@@ -43,77 +21,35 @@ module _ (c : Chart) (room : ℕ) where
   unfolding analysedChart
   long-enough h = rw (le-leb (c .locations) room h)
 
-module _ (c : Chart) (before : List ℕ) {n : ℕ} (e : n ≡ c .locations) where
-  module _ (h : length before < n) where
-    is-short : analysedChart (length before) c ≡ refused 21 nowhere
-    is-short = short c (length before) (omega (arith, e))
-
-    pub short-answer : refused 21 nowhere ≡ figuresIn (analysedChart (length before) c)
-    short-answer = rw is-short
-
-    pub short-list : before ≡ listAfter (analysedChart (length before) c) before
-    short-list = rw is-short
-
-  module _ {live : List ℕ} (l : live ≡ liveSets c) where
-    made-length : length live ≡ n
-    made-length = ap length l ∙ length-live c ∙ sym e
-
-    -- the front of the list is looked at again
-    seen : (rest : List ℕ) → take n (live ++ rest) ≡ live
-    seen rest = take-at live rest n made-length
-
-    pub seen-length : (rest : List ℕ) → length (take n (live ++ rest)) ≡ n
-    seen-length rest = ap length (seen rest) ∙ made-length
-
-    module _ (h : n ≤ length before) where
-      is-long : analysedChart (length before) c ≡ result c
-      is-long = long-enough c (length before) (omega (arith, e))
-
-      pub found-answer : {u f : ℕ} (rest : List ℕ) → u ≡ used c → f ≡ fullest (take n (live ++ rest))
-          → result (record { used = u; floor = f }) ≡ figuresIn (analysedChart (length before) c)
-      unfolding figuresOf floor
-      found-answer rest x y = let z = y ∙ ap fullest (seen rest ∙ l) in rw (is-long, x, z)
-
-      pub found-list : live ++ drop n before ≡ listAfter (analysedChart (length before) c) before
-      unfolding put
-      found-list = rw (is-long, l, e ∙ sym (length-live c))
-
--- ---- a file
-
 module _ (bs before : List ℕ) where
-  module _ {n p : ℕ} (e : refused n p ≡ judgedHeader bs) where
-    passed-on : analysedIn (length before) bs ≡ refused n p
-    unfolding analysedIn
-    passed-on = rw (judged-refused bs e)
-
+  -- a refusal of the judgement stands
+  module _ {n p : ℕ} (e : judgedIn bs ≡ refused n p) where
     pub refused-answer : refused n p ≡ analyseAnswer (length before) bs
-    unfolding analyseAnswer
-    refused-answer = rw passed-on
+    unfolding analyseAnswer analysedIn
+    refused-answer = rw e
 
-    pub refused-list : before ≡ listAfter (analysedIn (length before) bs) before
-    refused-list = rw passed-on
+    pub refused-list : before ≡ overwritten liveSets (analysedIn (length before) bs) before
+    unfolding analysedIn
+    refused-list = rw e
 
   module _ {c : Chart} (e : judgedIn bs ≡ result c) where
-    of-chart : analysedIn (length before) bs ≡ analysedChart (length before) c
-    unfolding analysedIn
-    of-chart = rw e
+    -- 21
+    module _ (h : length before < c .locations) where
+      pub short-answer : refused 21 nowhere ≡ analyseAnswer (length before) bs
+      unfolding analyseAnswer analysedIn
+      short-answer = rw (e, short c (length before) h)
 
-    pub chart-answer : {a : Answer Figures} → a ≡ figuresIn (analysedChart (length before) c) → a ≡ analyseAnswer (length before) bs
-    unfolding analyseAnswer
-    chart-answer f = rw of-chart f
+      pub short-list : before ≡ overwritten liveSets (analysedIn (length before) bs) before
+      unfolding analysedIn
+      short-list = rw (e, short c (length before) h)
 
-    pub chart-list : {after : List ℕ} → after ≡ listAfter (analysedChart (length before) c) before → after ≡ listAfter (analysedIn (length before) bs) before
-    chart-list f = rw of-chart f
+    -- the chart's values, and its live sets over the front
+    module _ (h : c .locations ≤ length before) where
+      pub found-answer : {u f : ℕ} → u ≡ used c → f ≡ floor c → result (record { used = u; floor = f }) ≡ analyseAnswer (length before) bs
+      unfolding analyseAnswer analysedIn valuesOf
+      found-answer x y = rw (e, long-enough c (length before) h, x, y)
 
--- what is handed on is what the analysis of a chart asks for
-module _ {bs : List ℕ} {m : Header} {sources targets starts test-counts timers tested : List ℕ} (h : HandedOn bs m sources targets starts test-counts timers tested) where
-  pub chart-lists : ListsFor (h .held .chart) (take (m .transitions) sources) (take (m .transitions) targets) (take (m .transitions) starts)
-      (take (m .transitions) tested) (m .timers) (m .locations)
-  unfolding headerOf
-  chart-lists = let d = drawn (h .held) (h .tested-are) in record {
-    width = d .width;
-    valid = d .valid;
-    listed = listed d;
-    timers-are = ap (λ (k : Header). k .timers) (h .held .numbers-are);
-    locations-are = d .locations-are;
-  }
+      pub found-list : {after sets : List ℕ} → sets ≡ liveSets c → after ≡ put sets before
+          → after ≡ overwritten liveSets (analysedIn (length before) bs) before
+      unfolding analysedIn
+      found-list l x = rw (e, long-enough c (length before) h, x, l)

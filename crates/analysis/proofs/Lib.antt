@@ -1,5 +1,5 @@
 pub mod Entry
 pub mod Refusals
 pub mod DifferentNumbers
-pub mod Figures
-pub mod FoundFigures
+pub mod Values
+pub mod FoundValues

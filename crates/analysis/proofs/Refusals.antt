@@ -1,5 +1,5 @@
 -- Which refusals the analysis returns: 1 to 10 are those of the judgement, 21 comes exactly where an accepted chart has more locations than the
--- list has entries; else the chart's figures. Assumes nothing.
+-- list has entries; else the chart's values. Assumes nothing.
 use mathlib.Core.Path.{_≡_, refl, sym, ap, ap₂, _∙_}
 use mathlib.Core.Logic.{_⊎_, inl, inr, _↔_, Iff·trans}
 use mathlib.Core.List.{List}
@@ -10,38 +10,27 @@ use Rattle.lists.proofs.Bools.{lt-or-le}
 use Rattle.model.specs.Answer.{Answer, result, refused, nowhere}
 use Rattle.model.specs.Chart.{Chart}
 use Rattle.model.proofs.Answers.{not-result, result-same, refused-same}
-use Rattle.model.proofs.Judgement.{LowestUnreached, LowestUnstarted}
+use Rattle.model.specs.Places.{LowestUnreached, LowestUnstarted}
 use Rattle.file_format.specs.File.{chartIn}
 use Rattle.judgement.specs.Judging.{judgedIn}
 use Rattle.judgement.specs.Refusals.{RefusalOfJudgement}
 use Rattle.judgement.specs.Refusals.RefusalOfJudgement.{of-file, of-unreached, of-unstarted}
-use Rattle.judgement.proofs.Corollaries.{HoldsChart, Accepts, judged-9, judged-10, judged-1-to-8, judged-result, refusals-of-judgedIn}
-use Rattle.analysis.specs.Analysing.{Figures, figuresOf, analysedIn, analyseAnswer}
-use Rattle.analysis.specs.Refusals.{RefusalOfAnalysis}
+use Rattle.judgement.specs.Charts.{HoldsChart, Accepts}
+use Rattle.judgement.proofs.Corollaries.{judged-9, judged-10, judged-1-to-8, judged-result, refusals-of-judgedIn}
+use Rattle.analysis.specs.Analysing.{AnalysisValues, valuesOf, analysedIn, analyseAnswer}
+use Rattle.analysis.specs.Found.{Analysed}
+use Rattle.analysis.specs.Refusals.{RefusalOfAnalysis, TooShort}
 use Rattle.analysis.specs.Refusals.RefusalOfAnalysis.{of-judgement, of-short-list}
 use Rattle.analysis.proofs.Entry.{short, long-enough}
 
--- the file holds an accepted chart with more locations than there is room
-pub record TooShort (room : ℕ) (bs : List ℕ) : Type 0 where
-  pub chart : Chart
-  pub accepts : Accepts bs chart
-  pub more : room < chart .locations
-
--- the file holds an accepted chart, there is room, and these are its figures
-pub record Analysed (room : ℕ) (bs : List ℕ) (f : Figures) : Type 0 where
-  pub chart : Chart
-  pub accepts : Accepts bs chart
-  pub room-for : chart .locations ≤ room
-  pub figures-are : f ≡ figuresOf chart
-
 -- what the analysis can answer
-pub data AnalysisOf (room : ℕ) (bs : List ℕ) : Type 0 where
+data AnalysisOf (room : ℕ) (bs : List ℕ) : Type 0 where
   is-refused : (n p : ℕ) → judgedIn bs ≡ refused n p → analyseAnswer room bs ≡ refused n p → AnalysisOf room bs
   is-short : (c : Chart) → judgedIn bs ≡ result c → room < c .locations → analyseAnswer room bs ≡ refused 21 nowhere → AnalysisOf room bs
-  is-found : (c : Chart) → judgedIn bs ≡ result c → c .locations ≤ room → analyseAnswer room bs ≡ result (figuresOf c) → AnalysisOf room bs
+  is-found : (c : Chart) → judgedIn bs ≡ result c → c .locations ≤ room → analyseAnswer room bs ≡ result (valuesOf c) → AnalysisOf room bs
 
 module _ (room : ℕ) (bs : List ℕ) where
-  pub analysis-cases : AnalysisOf room bs
+  analysis-cases : AnalysisOf room bs
   unfolding analyseAnswer analysedIn
   analysis-cases = go (judgedIn bs) refl
     where
@@ -106,15 +95,15 @@ module _ (room : ℕ) (bs : List ℕ) where
         back t (is-short c e l f) = f
         back t (is-found c e l f) = absurd (omega (arith, ap (λ (d : Chart). d .locations) (same-chart e (t .accepts)), t .more))
 
-    pub analysis-result : (g : Figures) → (analyseAnswer room bs ≡ result g) ↔ Analysed room bs g
+    pub analysis-result : (g : AnalysisValues) → (analyseAnswer room bs ≡ result g) ↔ Analysed room bs g
     analysis-result g = (λ x. out x analysis-cases, λ a. back a analysis-cases)
       where
         out : analyseAnswer room bs ≡ result g → AnalysisOf room bs → Analysed room bs g
         out x (is-refused m q e f) = absurd (not-result (sym f ∙ x))
         out x (is-short c e l f) = absurd (not-result (sym f ∙ x))
-        out x (is-found c e l f) = record { chart = c; accepts = judged-result bs bytes c .0 e; room-for = l; figures-are = result-same (sym x ∙ f) }
+        out x (is-found c e l f) = record { chart = c; accepts = judged-result bs bytes c .0 e; room-for = l; values-are = result-same (sym x ∙ f) }
 
         back : Analysed room bs g → AnalysisOf room bs → analyseAnswer room bs ≡ result g
         back a (is-refused m q e f) = absurd (not-result (sym e ∙ judged-result bs bytes (a .chart) .1 (a .accepts)))
         back a (is-short c e l f) = absurd (omega (arith, ap (λ (d : Chart). d .locations) (same-chart e (a .accepts)), a .room-for))
-        back a (is-found c e l f) = f ∙ ap result (ap figuresOf (same-chart e (a .accepts)) ∙ sym (a .figures-are))
+        back a (is-found c e l f) = f ∙ ap result (ap valuesOf (same-chart e (a .accepts)) ∙ sym (a .values-are))

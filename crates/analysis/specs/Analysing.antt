@@ -1,12 +1,10 @@
--- What the analysis of a chart file answers, and what it leaves in the lent list. Assumes nothing.
+-- What the analysis of a chart file answers; in the lent list it leaves the live sets (`overwritten liveSets`). Assumes nothing.
 use mathlib.Core.List.{List}
 use Prim.Native.Nat.{ℕ}
 use lib.Dec.{leb}
-use Rattle.model.specs.Answer.{Answer, result, refused, then, unless, nowhere}
+use Rattle.model.specs.Answer.{Answer, result, then, unless, nowhere}
 use Rattle.model.specs.Chart.{Chart}
-use Rattle.model.specs.Live.{liveSets}
 use Rattle.model.specs.FirstFit.{used, floor}
-use Rattle.chart_lists.specs.Lists.{put}
 use Rattle.refusal.specs.Refused.{refusedAs}
 use Rattle.judgement.specs.Judging.{judgedIn}
 use Rattle.analysis.specs.declared.Analysis.{Analysis}
@@ -20,25 +18,20 @@ analysedChart room c = unless (leb (c .locations) room) 21 nowhere (result c)
 unfoldable pub analysedIn : (room : ℕ) → List ℕ → Answer Chart
 analysedIn room bs = then (judgedIn bs) (analysedChart room)
 
-pub record Figures : Type 0 where
+-- how many timers the board numbers use, and how many are live at once at the fullest location
+pub record AnalysisValues : Type 0 where
   pub used : ℕ
   pub floor : ℕ
 
-unfoldable pub figuresOf : Chart → Figures
-figuresOf c = record { used = used c; floor = floor c }
+-- those of a chart
+unfoldable pub valuesOf : Chart → AnalysisValues
+valuesOf c = record { used = used c; floor = floor c }
 
-abbrev pub figuresIn : Answer Chart → Answer Figures
-figuresIn x = then x (λ c. result (figuresOf c))
-
-unfoldable pub analyseAnswer : (room : ℕ) → List ℕ → Answer Figures
-analyseAnswer room bs = figuresIn (analysedIn room bs)
-
--- the lent list afterwards: the live set of each location over its front, or as it was
-abbrev pub listAfter : Answer Chart → List ℕ → List ℕ
-listAfter (result c) l = put (liveSets c) l
-listAfter (refused n p) l = l
+-- what is answered
+unfoldable pub analyseAnswer : (room : ℕ) → List ℕ → Answer AnalysisValues
+analyseAnswer room bs = then (analysedIn room bs) (λ c. result (valuesOf c))
 
 -- what an answer of the code means
-abbrev pub analysisAs : Analysis → Answer Figures
+abbrev pub analysisAs : Analysis → Answer AnalysisValues
 analysisAs (analysis.Found u f) = result (record { used = u; floor = f })
 analysisAs (analysis.Refused f) = refusedAs f

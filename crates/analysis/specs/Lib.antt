@@ -1,2 +1,3 @@
 pub mod Analysing
 pub mod Refusals
+pub mod Found

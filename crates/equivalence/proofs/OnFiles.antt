@@ -23,7 +23,7 @@ use Rattle.file_format.specs.Body.{writeTest, writeTransition, writeHeader, wri
 use Rattle.file_format.specs.File.{readFrame, judgeFrame, readFile, writeFile, chartIn, fileOf}
 use Rattle.chart_lists.specs.Lists.{put}
 use Rattle.judgement.specs.Judging.{judgedIn}
-use Rattle.analysis.specs.Analysing.{analysedChart, analysedIn, figuresOf, analyseAnswer}
+use Rattle.analysis.specs.Analysing.{analysedChart, analysedIn, valuesOf, analyseAnswer}
 use Rattle.rewriting.specs.Rewriting.{rewriteInto}
 use Rattle.player.specs.Playing.{playAnswer}
 use Rattle.equivalence.specs.OnFiles.{analysedList, askFile}
@@ -43,5 +43,5 @@ unfolding arrow test drawn A B C selfLoop neverStarted restart ownStart B′ C�
     readComparison readTest readTests recordLength readTransition readTransitions readHeader chartOf readBody
     writeTest writeTransition writeHeader writeBody
     readFrame judgeFrame readFile writeFile chartIn fileOf put
-    judgedIn analysedChart analysedIn figuresOf analyseAnswer rewriteInto playAnswer analysedList askFile
+    judgedIn analysedChart analysedIn valuesOf analyseAnswer rewriteInto playAnswer analysedList askFile
 starred-on-files = refl

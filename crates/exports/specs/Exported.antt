@@ -9,7 +9,7 @@ use Rattle.exports.specs.declared.chart_analysis.{«chart_analysis»}
 use Rattle.exports.specs.declared.chart_rewriting.{«chart_rewriting»}
 use Rattle.exports.specs.declared.chart_playing.{«chart_playing»}
 
-abbrev pub analysisOf : Answer analysis.Figures → «chart_analysis»
+abbrev pub analysisOf : Answer analysis.AnalysisValues → «chart_analysis»
 analysisOf (result f) = record { number = 0; place = 0; used = f .used; floor = f .floor }
 analysisOf (refused n p) = record { number = n; place = p; used = 0; floor = 0 }
 

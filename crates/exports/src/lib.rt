@@ -1,7 +1,9 @@
 // The three calls as C sees them: a slice is a pointer and a length, an answer a struct by value whose number is 0 where there is a result.
 ghost use mathlib.Core.Path.{_≡_};
 ghost use lib.ListN.{length};
-ghost use Rattle.analysis.specs.Analysing.{analysedIn, analyseAnswer, listAfter};
+ghost use Rattle.model.specs.Live.{liveSets};
+ghost use Rattle.chart_lists.specs.Lists.{overwritten};
+ghost use Rattle.analysis.specs.Analysing.{analysedIn, analyseAnswer};
 ghost use Rattle.rewriting.specs.Rewriting.{rewriteInto, rewriteAnswer, bufferAfter};
 ghost use Rattle.player.specs.Playing.{playAnswer};
 ghost use Rattle.exports.specs.Exported.{analysisOf, rewritingOf, playingOf};
@@ -41,7 +43,8 @@ pub struct chart_playing {
 #[no_mangle]
 pub extern "C" fn chart_analyse(file: &[u8], live: &mut [u64]) -> chart_analysis
     ensures answer { λ r. ⌜ r ≡ analysisOf (analyseAnswer (length (now (live .entry))) (now (file .entry))) ⌝ }
-    ensures lent { λ _. ⌜ now (live .exit) ≡ listAfter (analysedIn (length (now (live .entry))) (now (file .entry))) (now (live .entry)) ⌝ }
+    ensures lent { λ _. ⌜ now (live .exit)
+        ≡ overwritten liveSets (analysedIn (length (now (live .entry))) (now (file .entry))) (now (live .entry)) ⌝ }
 {
     let a = analysis::analyse(file, live);
     match a {

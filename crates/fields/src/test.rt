@@ -3,13 +3,13 @@ ghost use mathlib.Core.Path.{_≡_};
 ghost use lib.ListN.{drop};
 ghost use Rattle.file_format.specs.Body.{readTest};
 ghost use Rattle.fields.specs.Meaning.{testAs, testRefusal};
-use comparison::Comparison;
-use comparison::Decoded;
 use crate::Field;
 use crate::byte_at;
 use crate::byte_below;
 use crate::pair_at;
 use crate::refusal_of;
+use comparison::Comparison;
+use comparison::Decoded;
 use refusal::Refusal;
 
 // One test, with the place after it.

@@ -5,8 +5,8 @@ mod records;
 ghost use mathlib.Core.Path.{_≡_};
 ghost use Rattle.file_format.specs.File.{readFrame, judgeFrame};
 ghost use Rattle.file_judging.specs.Meaning.{frameAs, JudgesFile, judgedRefusal};
-use chart_lists::Header;
 use crate::header::HeaderField;
+use chart_lists::Header;
 use fields::Field;
 use refusal::Refusal;
 

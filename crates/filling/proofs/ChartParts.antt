@@ -109,14 +109,14 @@ module _ (s : List ℕ) {body : List ℕ} (e₀ : judgeFrame 1 (readFrame s) ≡
       transitions-are =
           let p = file-parts in
           let z : readTransitions 2 (m .locations) (m .timers) (m .transitions) (p .rest) ≡ value (c .transitions) (p .end) =
-              subst (λ (y : Header). readTransitions 2 (y .locations) (y .timers) (y .transitions) (p .rest) ≡ value (c .transitions) (p .end))
-              (same-header .0) (p .transitions-are) in
+          subst (λ (y : Header). readTransitions 2 (y .locations) (y .timers) (y .transitions) (p .rest) ≡ value (c .transitions) (p .end))
+          (same-header .0) (p .transitions-are) in
           (p .end, rw (same-header .1) at z)
 
       pub count-is : m .transitions ≡ length (c .transitions)
       count-is = sym (transitions-length _ _ _ _ (transitions-are .1))
 
--- ---- the room that the parts of the walk ask for
+  -- ---- the room that the parts of the walk ask for
 
   module _ {l : Lists} (room : RoomToFill s l) where
     pub accepting-fit : AcceptingFit body (length (l .accepting))

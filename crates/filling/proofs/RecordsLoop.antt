@@ -85,16 +85,20 @@ module _ {locations timers n k base : ℕ} {start bs : List ℕ} (p : TestsCount
         omega (arith, tests-front (p .done ++ (y .0 ∷ [])) (f .0) (f .2))
 
   record-room : {a b c : ℕ} → TestsFit locations timers n start a b c → RecordFits locations timers k base bs a b c
-  record-room (of-any e) = record { fits = λ x t q. record {
-    timers = most-any (e .timers) x t q;
-    codes = most-any (e .codes) x t q;
-    constants = most-any (e .constants) x t q;
-  } }
-  record-room (of-these rs t w e) = record { fits = λ x t q. record {
-    timers = most-these w (e .timers) x t q;
-    codes = most-these w (e .codes) x t q;
-    constants = most-these w (e .constants) x t q;
-  } }
+  record-room (of-any e) = record {
+    fits = λ x t q. record {
+      timers = most-any (e .timers) x t q;
+      codes = most-any (e .codes) x t q;
+      constants = most-any (e .constants) x t q;
+    };
+  }
+  record-room (of-these rs t w e) = record {
+    fits = λ x t q. record {
+      timers = most-these w (e .timers) x t q;
+      codes = most-these w (e .codes) x t q;
+      constants = most-these w (e .constants) x t q;
+    };
+  }
 
   -- the lists of a turn are as long as those that were lent
   pub record-fits : {a b c a′ b′ c′ : ℕ} → TestsFit locations timers n start a b c → a′ ≡ a → b′ ≡ b → c′ ≡ c

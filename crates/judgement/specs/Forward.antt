@@ -37,8 +37,8 @@ firstEmpty sets = lowest (λ q. isEmpty (getD sets q 0)) (length sets)
 unfoldable pub unreachedIn : (timers initial : ℕ) → (sources targets unstarted : List ℕ) → ℕ
 unreachedIn timers initial sources targets unstarted =
     elim (ltb timers 64) [
-      true ↦ firstEmpty unstarted
-    | false ↦ firstEmpty (forwardSets initial (length unstarted) sources targets (replicate (length sources) 0))
+      | true ↦ firstEmpty unstarted
+      | false ↦ firstEmpty (forwardSets initial (length unstarted) sources targets (replicate (length sources) 0))
     ]
 
 -- 9, then 10, else the header

@@ -16,8 +16,11 @@ use Rattle.model.proofs.BoardPlan.{board-blocked}
 use Rattle.model.proofs.PlayerNumbers.{judged-is}
 use Rattle.file_format.specs.File.{chartIn}
 use Rattle.judgement.specs.Judging.{judgedIn}
-use Rattle.listing.specs.Listing.{accepted, answerText, refusedText, textOf}
-use Rattle.listing.specs.Cells.{listedChart}
+use Rattle.refusal.specs.Refused.{refusedAs}
+use Rattle.refusal.specs.declared.Refusal.{Refusal}
+use Rattle.numbering.specs.Limits.{LimitJudged}
+use Rattle.numbering.specs.declared.Limit.the-variants as limit
+use Rattle.listing.specs.Listing.{largestInput, accepted, listedChart, answerText, refusedText, textOf}
 
 module _ (K : ℕ) (c : Chart) where
   pub listed-11 : 64 < K → listedChart K c ≡ refused 11 nowhere
@@ -31,10 +34,21 @@ module _ (K : ℕ) (c : Chart) where
 
     pub listed-text : used c ≤ K → listedChart K c ≡ result c
     unfolding listedChart fitted
-    listed-text l = let e : blocked K (board c) ≡ false = is-no (blocked K (board c)) (λ t. omega (arith, board-blocked K c .0 t)) in rw (le-leb K 64 h, e)
+    listed-text l =
+        let e : blocked K (board c) ≡ false = is-no (blocked K (board c)) (λ t. omega (arith, board-blocked K c .0 t)) in
+        rw (le-leb K 64 h, e)
+
+  -- the same as the code judges them
+  pub listed-refused : {u : ℕ} {f : Refusal} → LimitJudged K u (limit.Refused f) → u ≡ used c → listedChart K c ≡ refusedAs f
+  unfolding listedChart
+  listed-refused j e = rw (← j .answer c e)
+
+  pub listed-enough : {u : ℕ} → LimitJudged K u limit.Enough → u ≡ used c → listedChart K c ≡ result c
+  unfolding listedChart
+  listed-enough j e = rw (← j .answer c e)
 
 -- the judgement first, then 11 and 20
-pub accepted-is : (K : ℕ) (file : List ℕ) → accepted K file ≡ then (judgedIn file) (listedChart K)
+accepted-is : (K : ℕ) (file : List ℕ) → accepted K file ≡ then (judgedIn file) (listedChart K)
 unfolding accepted judgedIn rewriting listedChart
 accepted-is K file = go (chartIn file) refl
   where
@@ -42,7 +56,8 @@ accepted-is K file = go (chartIn file) refl
     of c (result d) e = let same : d ≡ c = result-same (sym e ∙ judged-is c e) in rw (e, same)
     of c (refused n p) e = rw e
 
-    go : (y : Answer Chart) → chartIn file ≡ y → then (chartIn file) (λ c. then (then (judged c) (fitted K)) (λ x. result c)) ≡ then (then (chartIn file) judged) (listedChart K)
+    go : (y : Answer Chart) → chartIn file ≡ y
+        → then (chartIn file) (λ c. then (then (judged c) (fitted K)) (λ x. result c)) ≡ then (then (chartIn file) judged) (listedChart K)
     go (result c) e = rw e (of c (judged c) refl)
     go (refused n p) e = rw e
 
@@ -55,16 +70,16 @@ module _ (K : ℕ) (file : List ℕ) where
 
 -- ---- the whole input
 
-pub text-file : (input : List ℕ) → (length input ≡ 0 → ⊥) → length input ≤ 65536
+pub text-file : (input : List ℕ) → (length input ≡ 0 → ⊥) → length input ≤ largestInput
     → textOf input ≡ answerText (getD input 0 0) (accepted (getD input 0 0) (drop 1 input))
 unfolding textOf
 text-file [] h l = absurd (h refl)
-text-file (K ∷ file) h l = rw (le-leb (length (K ∷ file)) 65536 l, textOf)
+text-file (K ∷ file) h l = rw (le-leb (length (K ∷ file)) largestInput l, textOf)
 
-pub text-16 : (input : List ℕ) → 65536 < length input → textOf input ≡ refusedText 16 nowhere
+pub text-16 : (input : List ℕ) → largestInput < length input → textOf input ≡ refusedText 16 nowhere
 unfolding textOf
 text-16 [] h = absurd (omega arith)
-text-16 (K ∷ file) h = rw (lt-leb (length (K ∷ file)) 65536 h, textOf)
+text-16 (K ∷ file) h = rw (lt-leb (length (K ∷ file)) largestInput h, textOf)
 
 pub text-1 : (input : List ℕ) → length input ≡ 0 → textOf input ≡ refusedText 1 nowhere
 unfolding textOf

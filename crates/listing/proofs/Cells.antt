@@ -11,7 +11,7 @@ use Rattle.allocation.specs.Cells.{noNumber}
 use Rattle.listing.specs.Text.{decimal, space, greater}
 use Rattle.listing.specs.Listing.{entryText}
 use Rattle.listing.specs.Cells.{inCell}
-use Rattle.listing.proofs.Written.{entry-length}
+use Rattle.listing.proofs.Parts.{entry-length}
 
 pub no-number : (n : ℕ) → n ≡ noNumber → inCell n ≡ none
 unfolding inCell

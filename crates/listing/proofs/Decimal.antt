@@ -26,7 +26,8 @@ spare : (k n : ℕ) → n < 10 ^ suc k → decimalIn (suc (suc k)) n ≡ decimal
 spare zero n h = let l : n < 10 = h in one-digit 1 n l ∙ sym (one-digit 0 n l)
 spare (suc k) n h = go (ltb n 10) refl (spare k (n / 10) (tenth (suc k) n h))
   where
-    go : (b : Bool) → ltb n 10 ≡ b → decimalIn (suc (suc k)) (n / 10) ≡ decimalIn (suc k) (n / 10) → decimalIn (suc (suc (suc k))) n ≡ decimalIn (suc (suc k)) n
+    go : (b : Bool) → ltb n 10 ≡ b → decimalIn (suc (suc k)) (n / 10) ≡ decimalIn (suc k) (n / 10)
+        → decimalIn (suc (suc (suc k))) n ≡ decimalIn (suc (suc k)) n
     go true e ih = let l = ltb-true n 10 e in one-digit (suc (suc k)) n l ∙ sym (one-digit (suc k) n l)
     go false e ih = let l = ltb-false n 10 e in
         more-digits (suc (suc k)) n l ∙ ap (λ (xs : List ℕ). xs ++ ((48 + n % 10) ∷ [])) ih ∙ sym (more-digits (suc k) n l)

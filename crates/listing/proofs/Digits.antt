@@ -66,6 +66,7 @@ module _ (m n p q : ℕ) (hm : m < 10 ^ 20) (hn : n < 10 ^ 20) (hp : p < 10 ^ 20
   pub refused-same : refusedText m p ≡ refusedText n q → (m ≡ n) × (p ≡ q)
   unfolding refusedText refusedWord decimal
   refused-same e =
-      let r = ends 32 (omega arith) (decimal m) (decimal n) (decimal p ++ (lineFeed ∷ [])) (decimal q ++ (lineFeed ∷ [])) (decimal-digits 20 m) (decimal-digits 20 n) (cc) in
+      let r = ends 32 (omega arith) (decimal m) (decimal n) (decimal p ++ (lineFeed ∷ [])) (decimal q ++ (lineFeed ∷ []))
+      (decimal-digits 20 m) (decimal-digits 20 n) (cc) in
       let t = ends 10 (omega arith) (decimal p) (decimal q) [] [] (decimal-digits 20 p) (decimal-digits 20 q) (r .1) in
       (decimal-same m n hm hn (r .0), decimal-same p q hp hq (t .0))

@@ -7,12 +7,15 @@ use Rattle.timer_set.specs.Members.{member, joined, common, minus, added, every
 use Rattle.lists.specs.Lists.{memb, anyOf, firstOf, lowest, gather, upTo, pick, top}
 use Rattle.comparison.specs.Comparison.{comparisonOf, met}
 use Rattle.model.specs.Flow.{brings, made, round, roundsOf, sameSets, changing, settled}
-use Rattle.model.specs.Live.{startsSet, testsSet, atInitial, liveFlow, unstartedFlow, reachedFlow, liveSets, unstartedSets, reachedSets, isEmpty, firstUnreached, firstUnstarted}
+use Rattle.model.specs.Live.{startsSet, testsSet, atInitial, liveFlow, unstartedFlow, reachedFlow}
+use Rattle.model.specs.Live.{liveSets, unstartedSets, reachedSets, isEmpty, firstUnreached, firstUnstarted}
 use Rattle.model.specs.Family.{isPair, livePairs, familyNumber, linkFlow, familyOf, familyFrom, families, meets}
 use Rattle.model.specs.FirstFit.{held, free, place, firstFit, usedBy, numberAt, allHeld, blocked, fullest, floor, board}
+use Rattle.model.specs.Rewrite.{numbering}
 use Rattle.model.specs.Judge.{judged, fitted, rewriting}
 use Rattle.file_format.specs.Parse.{number, below, many, entry, rising}
-use Rattle.file_format.specs.Body.{readComparison, readTest, readTests, recordLength, readTransition, readTransitions, readHeader, chartOf, readBody}
+use Rattle.file_format.specs.Body.{readComparison, readTest, readTests, recordLength, readTransition, readTransitions}
+use Rattle.file_format.specs.Body.{readHeader, chartOf, readBody}
 use Rattle.file_format.specs.File.{readFrame, judgeFrame, readFile, chartIn}
 use Rattle.listing.specs.Text.{decimalIn, decimal, refusedWord, usedWord, floorWord, limitWord, atWord}
 use Rattle.listing.specs.Listing.{refusedText, firstLine, lineOf, chartText, accepted, textOf}
@@ -40,7 +43,7 @@ unfolding input lines
     brings made round roundsOf sameSets changing settled
     startsSet testsSet atInitial liveFlow unstartedFlow reachedFlow liveSets unstartedSets reachedSets isEmpty firstUnreached firstUnstarted
     isPair livePairs familyNumber linkFlow familyOf familyFrom families meets
-    held free place firstFit usedBy numberAt allHeld blocked fullest floor board
+    held free place firstFit usedBy numberAt allHeld blocked fullest floor board numbering
     judged fitted rewriting
     number below many entry rising readComparison readTest readTests recordLength readTransition readTransitions readHeader chartOf readBody
     readFrame judgeFrame readFile chartIn

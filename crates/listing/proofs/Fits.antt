@@ -12,12 +12,13 @@ use borrow.Author.Tests.{ltb-true, ltb-false}
 use Rattle.lists.specs.Lists.{gather}
 use Rattle.model.specs.Chart.{Chart}
 use Rattle.model.specs.Valid.{Valid}
-use Rattle.model.specs.FirstFit.{Placed, numberAt, usedBy, floor, board, used}
+use Rattle.model.specs.FirstFit.{floor, board, used}
+use Rattle.model.specs.Rewrite.{Numbering, numbering}
 use Rattle.model.proofs.NumberAt.{number-below}
 use Rattle.listing.specs.Text.{decimalIn, decimal, atWord}
-use Rattle.listing.specs.Listing.{refusedText, entryText, lineOf, chartText}
+use Rattle.listing.specs.Listing.{largestText, refusedText, entryText, lineOf, chartText}
 use Rattle.listing.proofs.Decimal.{decimal-one, length-more}
-use Rattle.listing.proofs.Written.{refused-length, first-length, entry-length}
+use Rattle.listing.proofs.Parts.{refused-length, first-length, entry-length}
 
 digits-most : (k n : ℕ) → length (decimalIn k n) ≤ k
 unfolding decimalIn
@@ -42,24 +43,36 @@ decimal-two n h = go (ltb n 10) refl
 gather-most : (f : ℕ → List ℕ) (w n : ℕ) → ((i : ℕ) → i < n → length (f i) ≤ w) → length (gather f n) ≤ w * n
 unfolding gather
 gather-most f w zero h = omega arith
-gather-most f w (suc n) h = rw (length-append, mul-suc) (omega (arith, gather-most f w n (λ i l. h i (omega arith)), h n (omega arith)))
+gather-most f w (suc n) h =
+    let ih = gather-most f w n (λ i l. h i (omega arith)) in
+    rw (length-append, mul-suc) (omega (arith, ih, h n (omega arith)))
 
-pub refused-fits : (n p : ℕ) → length (refusedText n p) ≤ 131072
+pub refused-fits : (n p : ℕ) → length (refusedText n p) ≤ largestText
 refused-fits n p = omega (arith, refused-length n p, decimal-most n, decimal-most p)
 
 entry-most : (j : ℕ) (o : Option ℕ) → j < 100 → ((k : ℕ) → o ≡ some k → k < 100) → length (entryText j o) ≤ 6
 entry-most j none h l = omega arith
 entry-most j (some k) h l = omega (arith, entry-length j k, decimal-two j h, decimal-two k (l k refl))
 
-module _ (ps : List Placed) (few : usedBy ps ≤ 64) (timers : ℕ) (narrow : timers ≤ 64) where
-  line-most : (q : ℕ) → length (lineOf timers ps q) ≤ 408
+-- a line of a numbering that gives no number above 63
+module _ (N : Numbering) (few : (q j k : ℕ) → N .number q j ≡ some k → k < 64) (timers : ℕ) (narrow : timers ≤ 64) where
+  line-most : (q : ℕ) → length (lineOf timers N q) ≤ 408
   unfolding lineOf atWord
   line-most q =
-      let e = gather-most (λ j. entryText j (numberAt ps q j)) 6 timers (λ j h. entry-most j (numberAt ps q j) (omega arith) (λ k e. omega (arith, number-below q j ps k e))) in
+      let e = gather-most (λ j. entryText j (N .number q j)) 6 timers
+      (λ j h. entry-most j (N .number q j) (omega arith) (λ k e. omega (arith, few q j k e))) in
       simp length-append (omega (arith, e, decimal-most q))
 
-pub chart-fits : {W : ℕ} {c : Chart} → Valid W c → used c ≤ 64 → (K : ℕ) → length (chartText K c) ≤ 131072
-unfolding chartText used
+-- no number of the board is above 63 if at most 64 are used
+pub board-few : (c : Chart) → used c ≤ 64 → (q j k : ℕ) → numbering (board c) .number q j ≡ some k → k < 64
+unfolding used numbering
+board-few c few q j k e = omega (arith, number-below q j (board c) k e)
+
+pub chart-fits : {W : ℕ} {c : Chart} → Valid W c → used c ≤ 64 → (K : ℕ) → length (chartText K c) ≤ largestText
+unfolding chartText
 chart-fits {W} {c} v few K =
-    let e = gather-most (lineOf (c .timers) (board c)) 408 (c .locations) (λ q h. line-most (board c) few (c .timers) (v .few-timers) q) in
-    rw length-append (omega (arith, e, v .few-locations, first-length (usedBy (board c)) (floor c) K, decimal-most (usedBy (board c)), decimal-most (floor c), decimal-most K))
+    let N = numbering (board c) in
+    let lines = gather-most (lineOf (c .timers) N) 408 (c .locations) (λ q h. line-most N (board-few c few) (c .timers) (v .few-timers) q) in
+    let first = first-length (N .used) (floor c) K in
+    rw length-append
+    (omega (arith, lines, v .few-locations, first, decimal-most (N .used), decimal-most (floor c), decimal-most K))

@@ -1,10 +1,9 @@
-pub mod Writes
 pub mod Decimal
-pub mod Written
+pub mod PutBytes
+pub mod Parts
 pub mod Cells
-pub mod Turns
 pub mod Fits
-pub mod Lines
+pub mod ChartText
 pub mod Accepted
 pub mod Answers
 pub mod Inputs

@@ -1,6 +1,6 @@
 -- Which refusals the text shows, and when it shows 9 and 10. Assumes nothing.
 use mathlib.Core.Path.{_≡_, refl, sym, _∙_}
-use mathlib.Core.Logic.{_⊎_, inl, inr, _↔_}
+use mathlib.Core.Logic.{_⊎_, inl, inr, _↔_, Iff·trans}
 use mathlib.Core.List.{List, [], _∷_}
 use Prim.Native.Nat.{ℕ, _^_, _≤_, _<_}
 use native.Mathlib.Omega.{arith}
@@ -9,12 +9,13 @@ use Rattle.file_format.specs.Parse.{Bytes}
 use Rattle.lists.proofs.Bools.{lt-or-le}
 use Rattle.model.specs.Answer.{refused, nowhere}
 use Rattle.model.specs.Chart.{Chart}
-use Rattle.model.proofs.Judgement.{LowestUnreached, LowestUnstarted}
+use Rattle.model.specs.Places.{LowestUnreached, LowestUnstarted}
 use Rattle.judgement.specs.Judging.{judgedIn}
 use Rattle.judgement.specs.Refusals.RefusalOfJudgement.{of-file, of-unreached, of-unstarted}
-use Rattle.judgement.proofs.Corollaries.{HoldsChart, judged-9, judged-10, refusals-of-judgedIn}
+use Rattle.judgement.specs.Charts.{HoldsChart}
+use Rattle.judgement.proofs.Corollaries.{judged-9, judged-10, refusals-of-judgedIn}
 use Rattle.listing.specs.Text.{refusedWord, usedWord}
-use Rattle.listing.specs.Listing.{accepted, answerText, refusedText, firstLine, chartText, textOf}
+use Rattle.listing.specs.Listing.{largestInput, accepted, answerText, refusedText, firstLine, chartText, textOf}
 use Rattle.listing.specs.Refusals.{RefusalShown}
 use Rattle.listing.specs.Refusals.RefusalShown.{of-judgement, of-limit, of-size, of-used}
 use Rattle.listing.proofs.Digits.{refused-same as text-same}
@@ -59,30 +60,41 @@ module _ (K : ℕ) (file : List ℕ) (bytes : Bytes file) where
       go (is-text {c} j h l a) = absurd (text-differs K c n p (rw a at e))
 
   -- 1 to 10 are the judgement's, for an input that is not too long
-  module _ (short : length (K ∷ file) ≤ 65536) where
+  module _ (short : length (K ∷ file) ≤ largestInput) where
     pub shows-judged : (n p : ℕ) → n ≤ 10 → p < 10 ^ 20 → (textOf (K ∷ file) ≡ refusedText n p) ↔ (judgedIn file ≡ refused n p)
-    shows-judged n p few hp = ((λ e. out (outcome K file) (sym (text-accepted K file short) ∙ e)), (λ j. text-accepted K file short ∙ rw (accepted-refused K file j)))
+    shows-judged n p few hp = (
+      λ e. out (outcome K file) (sym (text-accepted K file short) ∙ e),
+      λ j. text-accepted K file short ∙ rw (accepted-refused K file j),
+    )
       where
+        -- 11 and 20 are shown by no text of a refusal up to 10
+        other : (m : ℕ) → 10 < m → m < 10 ^ 20 → refusedText m nowhere ≡ refusedText n p → judgedIn file ≡ refused n p
+        other m h hm e = absurd (omega (arith, text-same m n nowhere p hm (omega arith) (omega arith) hp e .0))
+
         out : Outcome K file → answerText K (accepted K file) ≡ refusedText n p → judgedIn file ≡ refused n p
         out (is-refused {n = m} {p = q} j a) e =
             let s = small (of-judgement (refusals-of-judgedIn file bytes m q j)) in
             let t = text-same m n q p (s .0) (omega arith) (s .1) hp (rw a at e) in
             rw (t .0, t .1) at j
-        out (is-limit j h a) e = let t = text-same 11 n 65535 p (omega arith) (omega arith) (omega arith) hp (rw a at e) in absurd (omega (arith, t .0))
-        out (is-used j h l a) e = let t = text-same 20 n 65535 p (omega arith) (omega arith) (omega arith) hp (rw a at e) in absurd (omega (arith, t .0))
+        out (is-limit j h a) e = other 11 (omega arith) (omega arith) (rw a at e)
+        out (is-used j h l a) e = other 20 (omega arith) (omega arith) (rw a at e)
         out (is-text {c} j h l a) e = absurd (text-differs K c n p (rw a at e))
 
     pub shows-9 : (q : ℕ) → q < 256 → (textOf (K ∷ file) ≡ refusedText 9 q) ↔ HoldsChart file (λ c. LowestUnreached c q)
-    shows-9 q h = let a = shows-judged 9 q (omega arith) (omega arith) in let b = judged-9 file bytes q in ((λ e. b .0 (a .0 e)), (λ x. a .1 (b .1 x)))
+    shows-9 q h = Iff·trans (shows-judged 9 q (omega arith) (omega arith)) (judged-9 file bytes q)
 
     pub shows-10 : (i : ℕ) → i < 512 → (textOf (K ∷ file) ≡ refusedText 10 i) ↔ HoldsChart file (λ c. LowestUnstarted c i)
-    shows-10 i h = let a = shows-judged 10 i (omega arith) (omega arith) in let b = judged-10 file bytes i in ((λ e. b .0 (a .0 e)), (λ x. a .1 (b .1 x)))
+    shows-10 i h = Iff·trans (shows-judged 10 i (omega arith) (omega arith)) (judged-10 file bytes i)
 
 -- the text shows no other refusal
-pub refusals-shown : (input : List ℕ) → Bytes input → (n p : ℕ) → n < 10 ^ 20 → p < 10 ^ 20 → textOf input ≡ refusedText n p → RefusalShown n p
-refusals-shown [] b n p hn hp e = same (of-judgement (of-file (record { first-number = omega arith; last-number = omega arith; place = inl refl }))) n p hn hp (sym (text-1 [] (omega arith)) ∙ e)
-refusals-shown (K ∷ file) b n p hn hp e = go (lt-or-le 65536 (length (K ∷ file)))
+pub refusals-shown : (input : List ℕ) → Bytes input → (n p : ℕ) → n < 10 ^ 20 → p < 10 ^ 20
+    → textOf input ≡ refusedText n p → RefusalShown n p
+refusals-shown [] b n p hn hp e =
+    let short : RefusalShown 1 nowhere =
+    of-judgement (of-file (record { first-number = omega arith; last-number = omega arith; place = inl refl })) in
+    same short n p hn hp (sym (text-1 [] (omega arith)) ∙ e)
+refusals-shown (K ∷ file) b n p hn hp e = go (lt-or-le largestInput (length (K ∷ file)))
   where
-    go : (65536 < length (K ∷ file)) ⊎ (length (K ∷ file) ≤ 65536) → RefusalShown n p
+    go : (largestInput < length (K ∷ file)) ⊎ (length (K ∷ file) ≤ largestInput) → RefusalShown n p
     go (inl l) = same (of-size refl refl) n p hn hp (sym (text-16 (K ∷ file) l) ∙ e)
     go (inr l) = of-file-after K file (b .1) n p hn hp (sym (text-accepted K file l) ∙ e)

@@ -1,4 +1,5 @@
 pub mod Text
 pub mod Listing
+pub mod PutBytes
 pub mod Cells
 pub mod Refusals

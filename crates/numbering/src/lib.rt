@@ -2,16 +2,25 @@
 ghost use mathlib.Core.Path.{_≡_};
 ghost use Prim.Native.Nat.{_*_, _≤_};
 ghost use lib.ListN.{length};
+ghost use Rattle.model.specs.Answer.{result};
 ghost use Rattle.model.specs.Chart.{Chart};
 ghost use Rattle.model.specs.Live.{testedSets};
 ghost use Rattle.model.specs.FirstFit.{fullest as FirstFit·fullest};
+ghost use Rattle.chart_lists.specs.Limits.{mostLocations};
 ghost use Rattle.chart_lists.specs.Header.{headerOf};
 ghost use Rattle.chart_lists.specs.Begins.{Begins};
 ghost use Rattle.chart_lists.specs.Holds.{Holds};
 ghost use Rattle.chart_lists.specs.Partly.{edgesOf};
+ghost use Rattle.judgement.specs.Judging.{judgedIn};
+ghost use Rattle.allocation.specs.Cells.{mostCells};
 ghost use Rattle.numbering.specs.ChartNumbered.{ChartNumbered};
 ghost use Rattle.numbering.specs.Limits.{LimitJudged};
+ghost use Rattle.numbering.specs.FileNumbers.{fileNumbers, numberedIn, fileNumberedAs, ListsNumbered};
 use chart_lists::Header;
+use chart_lists::MOST_LOCATIONS;
+use chart_lists::MOST_TESTS;
+use chart_lists::MOST_TRANSITIONS;
+use chart_lists::Read;
 use refusal::Refusal;
 use timer_set::TimerSet;
 
@@ -23,6 +32,16 @@ pub struct Numbered {
 // Whether a board's timers are enough for a chart, or the refusal.
 pub enum Limit {
     Enough,
+    Refused(Refusal),
+}
+
+// The chart of a file, how many board numbers it uses and its floor; or a refusal.
+pub enum FileNumbered {
+    Chart {
+        header: Header,
+        used: u32,
+        floor: u32,
+    },
     Refused(Refusal),
 }
 
@@ -47,7 +66,7 @@ pub fn number_chart<'a>(
     let from = &sources[..n];
     let to = &targets[..n];
     let started = &starts[..n];
-    let own = [0u64; chart_lists::MOST_LOCATIONS];
+    let own = [0u64; MOST_LOCATIONS];
     flow::settle(from, to, started, &tested[..n], &own[..m], &mut live[..m]);
     let used = allocation::allocate(
         from,
@@ -88,4 +107,74 @@ pub fn judge_limit(k: u32, used: u32) -> Limit
         return Limit::Refused(refusal::BOARD_TOO_SMALL);
     }
     Limit::Enough
+}
+
+// The numbers of a chart that was judged, with its floor.
+fn number_judged<'a>(
+    header: Header,
+    sources: &'a [u16],
+    targets: &'a [u16],
+    starts: &'a [u64],
+    tested: &'a [u64],
+    live: &mut [u64],
+    cells: &mut [u16],
+) -> FileNumbered
+    requires { ⌜ ((c : Chart) × (header ≡ headerOf c) × Holds c (edgesOf c (now sources) (now targets) (now starts))
+        × Begins (testedSets c) (now tested)) × (header .locations ≤ length (now live)) × (64 * header .locations ≤ length (now cells)) ⌝ }
+    ensures { λ r. ⌜ ((c : Chart) → header ≡ headerOf c → Holds c (edgesOf c (now (sources .entry)) (now (targets .entry)) (now (starts .entry)))
+        → Begins (testedSets c) (now (tested .entry))
+        → (fileNumberedAs r ≡ result (fileNumbers c)) × ListsNumbered c (now (live .exit)) (now (cells .exit))) ⌝ }
+{
+    let numbered = number_chart(header, sources, targets, starts, tested, live, cells);
+    let m = header.locations as usize;
+    let floor = fullest(&live[..m]);
+    FileNumbered::Chart {
+        header,
+        used: numbered.used,
+        floor,
+    }
+}
+
+// The chart of a file, with its live sets and its board numbers over the fronts of the lists, or a refusal, 1 to 10. Every call that needs the
+// numbers of a file takes them from here.
+pub fn number_file(file: &[u8], live: &mut [u64], cells: &mut [u16]) -> FileNumbered
+    requires { ⌜ (mostLocations ≤ length (now live)) × (mostCells ≤ length (now cells)) ⌝ }
+    ensures answer { λ r. ⌜ fileNumberedAs r ≡ numberedIn (now (file .entry)) ⌝ }
+    ensures lists { λ _. ⌜ ((c : Chart) → judgedIn (now (file .entry)) ≡ result c → ListsNumbered c (now (live .exit)) (now (cells .exit))) ⌝ }
+{
+    let mut accepting = [0u16; MOST_LOCATIONS];
+    let mut sources = [0u16; MOST_TRANSITIONS];
+    let mut targets = [0u16; MOST_TRANSITIONS];
+    let mut events = [0u8; MOST_TRANSITIONS];
+    let mut starts = [0u64; MOST_TRANSITIONS];
+    let mut test_counts = [0u8; MOST_TRANSITIONS];
+    let mut timers = [0u8; MOST_TESTS];
+    let mut codes = [0u8; MOST_TESTS];
+    let mut constants = [0u16; MOST_TESTS];
+    let mut tested = [0u64; MOST_TRANSITIONS];
+    let a = judgement::judge(
+        file,
+        &mut accepting,
+        &mut sources,
+        &mut targets,
+        &mut events,
+        &mut starts,
+        &mut test_counts,
+        &mut timers,
+        &mut codes,
+        &mut constants,
+        &mut tested,
+    );
+    match a {
+        Read::Refused(f) => FileNumbered::Refused(f),
+        Read::Chart(header) => number_judged(
+            header,
+            &sources,
+            &targets,
+            &starts,
+            &tested,
+            live,
+            cells,
+        ),
+    }
 }

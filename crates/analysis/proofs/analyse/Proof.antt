@@ -1,71 +1,43 @@
--- `analyse`: a refusal of the judgement stands; a chart that it hands on is analysed. Assumes nothing.
-use mathlib.Core.Path.{refl, sym, ap, _∙_}
+-- `analyse`: a refusal of the judgement stands; else 21 where the list is short, and the live sets are copied over its front. Assumes nothing.
+use mathlib.Core.Path.{sym, ap, _∙_}
 use mathlib.Core.List.{List}
-use Prim.Native.Nat.{ℕ}
-use Rattle.chart_lists.specs.Read.{readAs}
-use Rattle.judgement.specs.Judging.{largest}
-use Rattle.judgement.proofs.Loading.{bytes-are}
-use Rattle.judgement.proofs.Fronts.{lent-room, lent-part}
-use Rattle.judgement.proofs.Handed.{HandedOn, handed-on}
-use Rattle.analysis.proofs.Entry.{refused-answer, refused-list, chart-answer, chart-list, chart-lists}
+use Prim.Native.Nat.{ℕ, _≤_, _<_}
+use native.Mathlib.Omega.{arith}
+use lib.ListN.{length}
+use Rattle.chart_lists.proofs.Fronts.{locations-are}
+use Rattle.numbering.specs.FileNumbers.{fileNumberedAs, ListsNumbered}
+use Rattle.numbering.proofs.FileNumbers.{FileChart, file-chart, file-refused, live-front, live-part, live-room}
+use Rattle.analysis.proofs.Entry.{refused-answer, refused-list, short-answer, short-list, found-answer, found-list}
 use borrow.Author.Needs.{needs}
 use Rattle.analysis.proofs.analyse.Statement.{statement}
 use Rattle.analysis.proofs.analyse.Tie as tie
 
--- where the file is judged
-abbrev start : tie.After-judge → tie.Start
-start c = c .before .before .before .before .before .before .before .before .before .before .before .before .before
+-- the way back: from where the answer is known to be a chart to the call, to the start
+abbrev called : tie.After-a2 → tie.After-number-file
+called c = c .before .before .before .before
 
-abbrev file : tie.After-judge → List ℕ
-file c = start c .args .file .now
+abbrev start : tie.After-number-file → tie.Start
+start c = c .before .before .before .before .before
 
--- where the answer is known to be a chart
-abbrev Found : Type 0
-Found = tie.After-a2
+abbrev sets : tie.After-a2 → List ℕ
+sets c = called c .number-file .last .1 .0
 
-abbrev judged : Found → tie.After-judge
-judged c = c .before .before .before .before .before .before .before .before .before .before .before .before
+-- the chart, and what the lists hold of it
+numbered : (c : tie.After-a2) → let g = c .a2 .given .0 in
+    FileChart (start (called c) .args .file .now) (record { header = g .0; used = g .1 .0; floor = g .1 .1 .0 })
+numbered c = file-chart _ (sym (ap fileNumberedAs (c .a2 .given .1)) ∙ called c .number-file .ensures .0)
 
-handed : (c : Found) → let l = judged c .judge .last in
-    HandedOn (file (judged c)) (c .a2 .given .0 .0) (l .1 .1 .0) (l .1 .1 .1 .0) (l .1 .1 .1 .1 .1 .0) (l .1 .1 .1 .1 .1 .1 .0) (l .1 .1 .1 .1 .1 .1 .1 .0) (l .1 .1 .1 .1 .1 .1 .1 .1 .1 .1 .0)
-handed c =
-    let j = judged c in
-    handed-on (file j) (bytes-are (file j) (λ i. j .before .before .before .before .before .before .before .before .before .before .before .before .shared-slice-known .given i .fits)) _ _ _ _ _ _ _ _ _ _ (sym (ap readAs (c .a2 .given .1)) ∙ j .judge .ensures .0)
-    (j .judge .ensures .1 .0) (j .judge .ensures .1 .1)
+lists : (c : tie.After-a2) → ListsNumbered (numbered c .chart) (sets c) (called c .number-file .last .1 .1 .0)
+lists c = called c .number-file .ensures .1 (numbered c .chart) (numbered c .judged)
 
-slice-aggregate-judge : tie.Need-slice-aggregate-judge
-slice-aggregate-judge c = search needs
+slice-aggregate-number-file : tie.Need-slice-aggregate-number-file
+slice-aggregate-number-file c = search needs
 
-slice-aggregate-judge-2 : tie.Need-slice-aggregate-judge-2
-slice-aggregate-judge-2 c = search needs
+slice-aggregate-number-file-2 : tie.Need-slice-aggregate-number-file-2
+slice-aggregate-number-file-2 c = search needs
 
-slice-aggregate-judge-3 : tie.Need-slice-aggregate-judge-3
-slice-aggregate-judge-3 c = search needs
-
-slice-aggregate-judge-4 : tie.Need-slice-aggregate-judge-4
-slice-aggregate-judge-4 c = search needs
-
-slice-aggregate-judge-5 : tie.Need-slice-aggregate-judge-5
-slice-aggregate-judge-5 c = search needs
-
-slice-aggregate-judge-6 : tie.Need-slice-aggregate-judge-6
-slice-aggregate-judge-6 c = search needs
-
-slice-aggregate-judge-7 : tie.Need-slice-aggregate-judge-7
-slice-aggregate-judge-7 c = search needs
-
-slice-aggregate-judge-8 : tie.Need-slice-aggregate-judge-8
-slice-aggregate-judge-8 c = search needs
-
-slice-aggregate-judge-9 : tie.Need-slice-aggregate-judge-9
-slice-aggregate-judge-9 c = search needs
-
-slice-aggregate-judge-10 : tie.Need-slice-aggregate-judge-10
-slice-aggregate-judge-10 c = search needs
-
-judge-requires : tie.Need-judge-requires
-unfolding largest
-judge-requires c κs = record { lists-are = refl; tested-are = refl }
+number-file-requires : tie.Need-number-file-requires
+number-file-requires c κs = search needs
 
 enum-known-a : tie.Need-enum-known-a
 enum-known-a c = search needs
@@ -73,83 +45,68 @@ enum-known-a c = search needs
 enum-known-a-2 : tie.Need-enum-known-a-2
 enum-known-a-2 c = search needs
 
-cast-n : tie.Need-cast-n
-cast-n c = search needs
-
-array-share-prefix-sources : tie.Need-array-share-prefix-sources
-array-share-prefix-sources c = let h = handed (c .before .before) in lent-room (h .held) _ (h .held .sources-are)
-
-slice-aggregate-analyse-chart : tie.Need-slice-aggregate-analyse-chart
-slice-aggregate-analyse-chart c = let h = handed (c .before .before .before) in sym (lent-part (h .held) _ (h .held .sources-are))
-
-array-share-prefix-targets : tie.Need-array-share-prefix-targets
-array-share-prefix-targets c = let h = handed (c .before .before .before) in lent-room (h .held) _ (h .held .targets-are)
-
-slice-aggregate-analyse-chart-2 : tie.Need-slice-aggregate-analyse-chart-2
-slice-aggregate-analyse-chart-2 c = let h = handed (c .before .before .before .before) in sym (lent-part (h .held) _ (h .held .targets-are))
-
-array-share-prefix-starts : tie.Need-array-share-prefix-starts
-array-share-prefix-starts c = let h = handed (c .before .before .before .before) in lent-room (h .held) _ (h .held .starts-are)
-
-slice-aggregate-analyse-chart-3 : tie.Need-slice-aggregate-analyse-chart-3
-slice-aggregate-analyse-chart-3 c = let h = handed (c .before .before .before .before .before) in sym (lent-part (h .held) _ (h .held .starts-are))
-
-array-share-prefix-tested : tie.Need-array-share-prefix-tested
-array-share-prefix-tested c = let h = handed (c .before .before .before .before .before) in lent-room (h .held) _ (h .tested-are)
-
-slice-aggregate-analyse-chart-4 : tie.Need-slice-aggregate-analyse-chart-4
-slice-aggregate-analyse-chart-4 c = let h = handed (c .before .before .before .before .before .before) in sym (lent-part (h .held) _ (h .tested-are))
-
-analyse-chart-requires : tie.Need-analyse-chart-requires
-analyse-chart-requires c κs = let h = handed (c .before .before .before .before .before .before .before) in record { chart = h .held .chart; lists = chart-lists h }
+cast-m : tie.Need-cast-m
+cast-m c = search needs
 
 returns : tie.Need-returns
 returns c =
-    let j = c .before .before .before .before .before .before .before .before .before .before .before .before .before in
-    let e = sym (ap readAs (c .before .a .given .1)) ∙ j .judge .ensures .0 in
-    let a = start j .args in
+    let x = c .before .before .before in
+    let a = start (called x) .args in
+    let n = numbered x in
+    let h : length (a .live .now) < n .chart .locations = omega (arith, locations-are (n .chart) (n .header-is), c .if1 .taken) in
+    (short-answer (a .file .now) (a .live .now) (n .judged) h, short-list (a .file .now) (a .live .now) (n .judged) h)
+
+array-share-prefix-sets : tie.Need-array-share-prefix-sets
+array-share-prefix-sets c =
+    let x = c .before .before .before in
+    live-room (numbered x .chart) (numbered x .header-is) (lists x .live-are)
+
+slice-aggregate-copy : tie.Need-slice-aggregate-copy
+slice-aggregate-copy c =
+    let x = c .before .before .before .before in
+    sym (live-part (numbered x .chart) (numbered x .header-is) (lists x .live-are))
+
+copy-requires : tie.Need-copy-requires
+copy-requires c κs =
+    let x = c .before .before .before .before .before in
+    rw (live-part (numbered x .chart) (numbered x .header-is) (lists x .live-are)) (c .before .before .if1 .left)
+
+returns-2 : tie.Need-returns-2
+returns-2 c =
+    let n = c .before .before .before .before .before in
+    let a = start n .args in
+    let e = file-refused (a .file .now) (sym (ap fileNumberedAs (c .before .a .given .1)) ∙ n .number-file .ensures .0) in
     (refused-answer (a .file .now) (a .live .now) e, refused-list (a .file .now) (a .live .now) e)
 
 same-length : tie.Need-same-length
 same-length c = search needs
 
-returns-2 : tie.Need-returns-2
-returns-2 c =
-    let f = c .before .before .before .before .before .before .before .before .before .before in
-    let h = handed f in
-    let x = c .before .before .analyse-chart .ensures in
-    let a = start (judged f) .args in (
-      chart-answer (a .file .now) (a .live .now) (h .accepted) (x .0 (h .held .chart) (chart-lists h)),
-      chart-list (a .file .now) (a .live .now) (h .accepted) (x .1 (h .held .chart) (chart-lists h)),
+returns-3 : tie.Need-returns-3
+returns-3 c =
+    let x = c .before .before .before .before .before .before .before .before in
+    let a = start (called x) .args in
+    let n = numbered x in
+    let h : n .chart .locations ≤ length (a .live .now) =
+    omega (arith, locations-are (n .chart) (n .header-is), c .before .before .before .before .before .if1 .left) in
+    let l = live-front (n .chart) (n .header-is) (lists x .live-are) in (
+      found-answer (a .file .now) (a .live .now) (n .judged) h (n .used-is) (n .floor-is),
+      found-list (a .file .now) (a .live .now) (n .judged) h l (c .before .before .copy .ensures),
     )
 
 pub analyse-spec : {M : Type 1} → statement M
 analyse-spec =
     tie.close
     (tie.spec
-    slice-aggregate-judge
-    slice-aggregate-judge-2
-    slice-aggregate-judge-3
-    slice-aggregate-judge-4
-    slice-aggregate-judge-5
-    slice-aggregate-judge-6
-    slice-aggregate-judge-7
-    slice-aggregate-judge-8
-    slice-aggregate-judge-9
-    slice-aggregate-judge-10
-    judge-requires
+    slice-aggregate-number-file
+    slice-aggregate-number-file-2
+    number-file-requires
     enum-known-a
     enum-known-a-2
-    cast-n
-    array-share-prefix-sources
-    slice-aggregate-analyse-chart
-    array-share-prefix-targets
-    slice-aggregate-analyse-chart-2
-    array-share-prefix-starts
-    slice-aggregate-analyse-chart-3
-    array-share-prefix-tested
-    slice-aggregate-analyse-chart-4
-    analyse-chart-requires
+    cast-m
     returns
+    array-share-prefix-sets
+    slice-aggregate-copy
+    copy-requires
+    returns-2
     same-length
-    returns-2)
+    returns-3)

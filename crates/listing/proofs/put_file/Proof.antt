@@ -1,168 +1,159 @@
--- `put_file`: a refusal of the judgement stands; of a chart that it hands on the text is written. Assumes nothing.
-use mathlib.Core.Path.{refl, sym, ap, _∙_}
+-- `put_file`: a refusal of the judgement, then 11 and 20, else the text of the numbered chart. Assumes nothing.
+use mathlib.Core.Path.{_≡_, refl, sym, ap, _∙_, subst}
 use mathlib.Core.List.{List}
-use Prim.Native.Nat.{ℕ}
+use Prim.Native.Nat.{ℕ, _≤_}
 use native.Mathlib.Omega.{arith}
-use Rattle.chart_lists.specs.Read.{readAs}
-use Rattle.judgement.specs.Judging.{largest}
-use Rattle.judgement.proofs.Loading.{bytes-are}
-use Rattle.judgement.proofs.Fronts.{lent-room, lent-part}
-use Rattle.judgement.proofs.Handed.{HandedOn, handed-on, judged-refused}
-use Rattle.analysis.proofs.Entry.{chart-lists}
+use lib.ListN.{length}
+use denote.Ref.{now}
+use Rattle.model.specs.FirstFit.{used}
+use Rattle.numbering.specs.FileNumbers.{fileNumberedAs, ListsNumbered}
+use Rattle.numbering.specs.Limits.{LimitJudged}
+use Rattle.numbering.specs.declared.Limit.{Limit}
+use Rattle.numbering.specs.declared.Limit.the-variants as limit
+use Rattle.numbering.proofs.FileNumbers.{FileChart, file-chart, file-refused}
 use Rattle.listing.specs.Listing.{answerText}
-use Rattle.listing.proofs.Written.{written-as}
+use Rattle.listing.proofs.PutBytes.{bytes-as}
 use Rattle.listing.proofs.Fits.{refused-fits}
-use Rattle.listing.proofs.Accepted.{accepted-refused, accepted-judged}
+use Rattle.listing.proofs.ChartText.{text-is, text-asks}
+use Rattle.listing.proofs.Accepted.{accepted-refused, accepted-judged, listed-refused, listed-enough}
 use borrow.Author.Needs.{needs}
 use Rattle.listing.proofs.put_file.Statement.{statement}
 use Rattle.listing.proofs.put_file.Tie as tie
 
--- where the file is judged
-abbrev start : tie.After-judge → tie.Start
-start c = c .before .before .before .before .before .before .before .before .before .before .before .before .before
+-- the way back: from the limit's judgement to where the answer is known to be a chart, to the call, to the start
+abbrev chart : tie.After-judge-limit → tie.After-a2
+chart c = c .before .before
 
-abbrev file : tie.After-judge → List ℕ
-file c = start c .args .file .now
+abbrev called : tie.After-a2 → tie.After-number-file
+called c = c .before .before .before .before
 
--- where the answer is known to be a chart
-abbrev Found : Type 0
-Found = tie.After-a2
+abbrev start : tie.After-number-file → tie.Start
+start c = c .before .before .before .before .before
 
-abbrev judged : Found → tie.After-judge
-judged c = c .before .before .before .before .before .before .before .before .before .before .before .before
+abbrev file : tie.After-a2 → List ℕ
+file c = start (called c) .args .file .now
 
-handed : (c : Found) → let l = judged c .judge .last in
-    HandedOn (file (judged c)) (c .a2 .given .0 .0) (l .1 .1 .0) (l .1 .1 .1 .0) (l .1 .1 .1 .1 .1 .0) (l .1 .1 .1 .1 .1 .1 .0) (l .1 .1 .1 .1 .1 .1 .1 .0) (l .1 .1 .1 .1 .1 .1 .1 .1 .1 .1 .0)
-handed c =
-    let j = judged c in
-    handed-on (file j) (bytes-are (file j) (λ i. j .before .before .before .before .before .before .before .before .before .before .before .shared-slice-known .given i .fits)) _ _ _ _ _ _ _ _ _ _ (sym (ap readAs (c .a2 .given .1)) ∙ j .judge .ensures .0)
-    (j .judge .ensures .1 .0) (j .judge .ensures .1 .1)
+-- the chart, and what the lists hold of it
+numbered : (c : tie.After-a2) → let g = c .a2 .given .0 in FileChart (file c) (record { header = g .0; used = g .1 .0; floor = g .1 .1 .0 })
+numbered c = file-chart _ (sym (ap fileNumberedAs (c .a2 .given .1)) ∙ called c .number-file .ensures .0)
 
-slice-aggregate-judge : tie.Need-slice-aggregate-judge
-slice-aggregate-judge c = search needs
+lists : (c : tie.After-a2) → let l = called c .number-file .last in ListsNumbered (numbered c .chart) (l .1 .0) (l .1 .1 .0)
+lists c = called c .number-file .ensures .1 (numbered c .chart) (numbered c .judged)
 
-slice-aggregate-judge-2 : tie.Need-slice-aggregate-judge-2
-slice-aggregate-judge-2 c = search needs
+-- what the limit's judgement means
+judged : (c : tie.After-judge-limit) {l : Limit} → c .judge-limit .result ≡ l
+    → LimitJudged (start (called (chart c)) .args .limit) (chart c .a2 .given .0 .1 .0) l
+judged c e = subst (LimitJudged _ _) e (c .judge-limit .ensures)
 
-slice-aggregate-judge-3 : tie.Need-slice-aggregate-judge-3
-slice-aggregate-judge-3 c = search needs
+few : (c : tie.After-judge-limit) → c .judge-limit .result ≡ limit.Enough → used (numbered (chart c) .chart) ≤ 64
+few c e =
+    let f = judged c e .fits refl in
+    omega (arith, numbered (chart c) .used-is, f .0, f .1)
 
-slice-aggregate-judge-4 : tie.Need-slice-aggregate-judge-4
-slice-aggregate-judge-4 c = search needs
+slice-aggregate-number-file : tie.Need-slice-aggregate-number-file
+slice-aggregate-number-file c = search needs
 
-slice-aggregate-judge-5 : tie.Need-slice-aggregate-judge-5
-slice-aggregate-judge-5 c = search needs
+slice-aggregate-number-file-2 : tie.Need-slice-aggregate-number-file-2
+slice-aggregate-number-file-2 c = search needs
 
-slice-aggregate-judge-6 : tie.Need-slice-aggregate-judge-6
-slice-aggregate-judge-6 c = search needs
-
-slice-aggregate-judge-7 : tie.Need-slice-aggregate-judge-7
-slice-aggregate-judge-7 c = search needs
-
-slice-aggregate-judge-8 : tie.Need-slice-aggregate-judge-8
-slice-aggregate-judge-8 c = search needs
-
-slice-aggregate-judge-9 : tie.Need-slice-aggregate-judge-9
-slice-aggregate-judge-9 c = search needs
-
-slice-aggregate-judge-10 : tie.Need-slice-aggregate-judge-10
-slice-aggregate-judge-10 c = search needs
-
-judge-requires : tie.Need-judge-requires
-unfolding largest
-judge-requires c κs = record { lists-are = refl; tested-are = refl }
+number-file-requires : tie.Need-number-file-requires
+number-file-requires c κs = search needs
 
 enum-known-a : tie.Need-enum-known-a
 enum-known-a c = search needs
 
 put-refusal-requires : tie.Need-put-refusal-requires
-put-refusal-requires c κs = let f = c .before .before .a .given .0 .0 in omega (arith, refused-fits (f .number) (f .place), c .before .before .before .before .before .before .before .before .before .before .before .before .before .before .before .before .before .before .before .before .before .before .before .before .before .before .before .pre)
+put-refusal-requires c κs =
+    let f = c .before .before .a .given .0 .0 in
+    omega (arith, refused-fits (f .number) (f .place), start (c .before .before .before .before .before .before) .pre)
 
 enum-known-a-2 : tie.Need-enum-known-a-2
 enum-known-a-2 c = search needs
 
-cast-n : tie.Need-cast-n
-cast-n c = search needs
+judge-limit-requires : tie.Need-judge-limit-requires
+judge-limit-requires c κs = search needs
 
-array-share-prefix-sources : tie.Need-array-share-prefix-sources
-array-share-prefix-sources c = let h = handed (c .before .before .before) in lent-room (h .held) _ (h .held .sources-are)
+enum-known-l : tie.Need-enum-known-l
+enum-known-l c = search needs
 
-slice-aggregate-put-judged : tie.Need-slice-aggregate-put-judged
-slice-aggregate-put-judged c = let h = handed (c .before .before .before .before) in sym (lent-part (h .held) _ (h .held .sources-are))
+put-refusal-requires-2 : tie.Need-put-refusal-requires-2
+put-refusal-requires-2 c κs =
+    let f = c .before .before .l .given .0 .0 in
+    omega (arith, refused-fits (f .number) (f .place), start (called (c .before .before .before .before .before .before)) .pre)
 
-array-share-prefix-targets : tie.Need-array-share-prefix-targets
-array-share-prefix-targets c = let h = handed (c .before .before .before .before) in lent-room (h .held) _ (h .held .targets-are)
+enum-told : tie.Need-enum-told
+enum-told c = search needs
 
-slice-aggregate-put-judged-2 : tie.Need-slice-aggregate-put-judged-2
-slice-aggregate-put-judged-2 c = let h = handed (c .before .before .before .before .before) in sym (lent-part (h .held) _ (h .held .targets-are))
+slice-aggregate-put-chart : tie.Need-slice-aggregate-put-chart
+slice-aggregate-put-chart c = search needs
 
-array-share-prefix-starts : tie.Need-array-share-prefix-starts
-array-share-prefix-starts c = let h = handed (c .before .before .before .before .before) in lent-room (h .held) _ (h .held .starts-are)
-
-slice-aggregate-put-judged-3 : tie.Need-slice-aggregate-put-judged-3
-slice-aggregate-put-judged-3 c = let h = handed (c .before .before .before .before .before .before) in sym (lent-part (h .held) _ (h .held .starts-are))
-
-array-share-prefix-tested : tie.Need-array-share-prefix-tested
-array-share-prefix-tested c = let h = handed (c .before .before .before .before .before .before) in lent-room (h .held) _ (h .tested-are)
-
-slice-aggregate-put-judged-4 : tie.Need-slice-aggregate-put-judged-4
-slice-aggregate-put-judged-4 c = let h = handed (c .before .before .before .before .before .before .before) in sym (lent-part (h .held) _ (h .tested-are))
-
-put-judged-requires : tie.Need-put-judged-requires
-put-judged-requires c κs =
-    let f = c .before .before .before .before .before .before .before in
-    let h = handed f in
-    (record { chart = h .held .chart; lists = chart-lists h }, start (judged f) .pre)
+put-chart-requires : tie.Need-put-chart-requires
+put-chart-requires c κs =
+    let j = c .before .before .before .before in
+    let x = chart j in
+    let n = numbered x in
+    let l = lists x in
+    let s = start (called x) in
+    text-asks (l .valid) (few j (c .before .before .enum-told .given .1)) (l .cells-are) (n .header-is) (n .used-is) (n .floor-is)
+    (s .args .limit) (length (now (s .args .out))) (s .pre) (omega (arith, called x .number-file .kept .1 .1 .0))
 
 same-length : tie.Need-same-length
 same-length c = search needs
 
 returns : tie.Need-returns
 returns c =
-    let j = c .before .before .before .before .before .before .before .before .before .before .before .before .before .before .before .before .before in
-    let a = start j .args in
-    let e = sym (ap readAs (c .before .before .before .before .before .a .given .1)) ∙ j .judge .ensures .0 in
-    written-as (c .before .before .put-refusal .ensures) (sym (ap (answerText (a .limit)) (accepted-refused (a .limit) (a .file .now) (judged-refused (a .file .now) e))))
+    let n = c .before .before .before .before .before .before .before .before .before in
+    let a = start n .args in
+    let r = c .before .before .before .before .before .a .given .1 in
+    let e = file-refused (a .file .now) (sym (ap fileNumberedAs r) ∙ n .number-file .ensures .0) in
+    bytes-as (c .before .before .put-refusal .ensures) (sym (ap (answerText (a .limit)) (accepted-refused (a .limit) (a .file .now) e)))
 
 same-length-2 : tie.Need-same-length-2
 same-length-2 c = search needs
 
 returns-2 : tie.Need-returns-2
 returns-2 c =
-    let f = c .before .before .before .before .before .before .before .before .before .before in
-    let a = start (judged f) .args in
-    let h = handed f in
-    written-as (c .before .before .put-judged .ensures _ (chart-lists h)) (sym (ap (answerText (a .limit)) (accepted-judged (a .limit) (a .file .now) (h .accepted))))
+    let j = c .before .before .before .before .before .before .before in
+    let x = chart j in
+    let n = numbered x in
+    let k = start (called x) .args .limit in
+    let e = listed-refused k (n .chart) (judged j (c .before .before .before .before .before .l .given .1)) (n .used-is) in
+    bytes-as (c .before .before .put-refusal2 .ensures) (sym (ap (answerText k) (accepted-judged k (file x) (n .judged) ∙ e)))
+
+same-length-3 : tie.Need-same-length-3
+same-length-3 c = search needs
+
+returns-3 : tie.Need-returns-3
+returns-3 c =
+    let t = c .before .before .before .before .before in
+    let j = t .before .before in
+    let x = chart j in
+    let n = numbered x in
+    let l = lists x in
+    let k = start (called x) .args .limit in
+    let e = listed-enough k (n .chart) (judged j (t .enum-told .given .1)) (n .used-is) in
+    let text = text-is (l .valid) (few j (t .enum-told .given .1)) (l .cells-are) (n .header-is) (n .used-is) (n .floor-is) k in
+    bytes-as (c .before .before .put-chart .ensures) (text ∙ sym (ap (answerText k) (accepted-judged k (file x) (n .judged) ∙ e)))
 
 pub put-file-spec : {M : Type 1} → statement M
 put-file-spec =
     tie.close
     (tie.spec
-    slice-aggregate-judge
-    slice-aggregate-judge-2
-    slice-aggregate-judge-3
-    slice-aggregate-judge-4
-    slice-aggregate-judge-5
-    slice-aggregate-judge-6
-    slice-aggregate-judge-7
-    slice-aggregate-judge-8
-    slice-aggregate-judge-9
-    slice-aggregate-judge-10
-    judge-requires
+    slice-aggregate-number-file
+    slice-aggregate-number-file-2
+    number-file-requires
     enum-known-a
     put-refusal-requires
     enum-known-a-2
-    cast-n
-    array-share-prefix-sources
-    slice-aggregate-put-judged
-    array-share-prefix-targets
-    slice-aggregate-put-judged-2
-    array-share-prefix-starts
-    slice-aggregate-put-judged-3
-    array-share-prefix-tested
-    slice-aggregate-put-judged-4
-    put-judged-requires
+    judge-limit-requires
+    enum-known-l
+    put-refusal-requires-2
+    enum-told
+    slice-aggregate-put-chart
+    put-chart-requires
     same-length
     returns
     same-length-2
-    returns-2)
+    returns-2
+    same-length-3
+    returns-3)

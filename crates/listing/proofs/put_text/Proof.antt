@@ -4,9 +4,10 @@ use mathlib.Core.List.{List}
 use Prim.Native.Nat.{ℕ}
 use native.Mathlib.Omega.{arith}
 use lib.ListN.{getD}
+use Rattle.model.specs.Answer.{nowhere}
 use Rattle.listing.specs.Listing.{accepted, answerText}
 use Rattle.chart_lists.proofs.Part.{mid-all}
-use Rattle.listing.proofs.Written.{written-as}
+use Rattle.listing.proofs.PutBytes.{bytes-as}
 use Rattle.listing.proofs.Fits.{refused-fits}
 use Rattle.listing.proofs.Accepted.{text-16, text-1, text-file}
 use borrow.Author.Needs.{needs}
@@ -14,22 +15,28 @@ use Rattle.listing.proofs.put_text.Statement.{statement}
 use Rattle.listing.proofs.put_text.Tie as tie
 
 put-refusal-requires : tie.Need-put-refusal-requires
-put-refusal-requires c κs = omega (arith, refused-fits 16 65535, c .before .before .before .before .pre)
+put-refusal-requires c κs = omega (arith, refused-fits 16 nowhere, c .before .before .before .before .pre)
 
 same-length : tie.Need-same-length
 same-length c = search needs
 
 returns : tie.Need-returns
-returns c = written-as (c .before .before .put-refusal .ensures) (sym (text-16 (c .before .before .before .before .before .before .before .args .input .now) (c .before .before .before .before .if1 .taken)))
+returns c =
+    let t = c .before .before .before .before in
+    let i = t .before .before .before .args .input .now in
+    bytes-as (c .before .before .put-refusal .ensures) (sym (text-16 i (t .if1 .taken)))
 
 put-refusal-requires-2 : tie.Need-put-refusal-requires-2
-put-refusal-requires-2 c κs = omega (arith, refused-fits 1 65535, c .before .before .before .before .before .pre)
+put-refusal-requires-2 c κs = omega (arith, refused-fits 1 nowhere, c .before .before .before .before .before .pre)
 
 same-length-2 : tie.Need-same-length-2
 same-length-2 c = search needs
 
 returns-2 : tie.Need-returns-2
-returns-2 c = written-as (c .before .before .put-refusal2 .ensures) (sym (text-1 (c .before .before .before .before .before .before .before .before .args .input .now) (c .before .before .before .before .if2 .taken)))
+returns-2 c =
+    let t = c .before .before .before .before in
+    let i = t .before .before .before .before .args .input .now in
+    bytes-as (c .before .before .put-refusal2 .ensures) (sym (text-1 i (t .if2 .taken)))
 
 shared-slice-read-put-file : tie.Need-shared-slice-read-put-file
 shared-slice-read-put-file c = search needs
@@ -50,9 +57,11 @@ same-length-3 : tie.Need-same-length-3
 same-length-3 c = search needs
 
 returns-3 : tie.Need-returns-3
-returns-3 c = let s = c .before .before .before .before .before .before .before .before .before .before in
-    let i = s .args .input .now in
-    written-as (c .before .before .put-file .ensures) (ap (λ (f : List ℕ). answerText (getD i 0 0) (accepted (getD i 0 0) f)) (mid-all 1 i) ∙ sym (text-file i (c .before .before .before .before .before .before .if2 .left) (c .before .before .before .before .before .before .before .if1 .left)))
+returns-3 c =
+    let e = c .before .before .before .before .before .before in
+    let i = e .before .before .before .before .args .input .now in
+    let file = ap (λ (f : List ℕ). answerText (getD i 0 0) (accepted (getD i 0 0) f)) (mid-all 1 i) in
+    bytes-as (c .before .before .put-file .ensures) (file ∙ sym (text-file i (e .if2 .left) (e .before .if1 .left)))
 
 pub put-text-spec : {M : Type 1} → statement M
 put-text-spec =

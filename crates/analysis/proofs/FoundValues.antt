@@ -1,0 +1,66 @@
+-- What a call of the analysis that finds a chart leaves: in the list the live set of each location by paths, the rest untouched; floor and used as
+-- the document has them. Assumes nothing.
+use mathlib.Core.Path.{_≡_, sym, ap, _∙_}
+use mathlib.Core.List.{List, _++_}
+use Prim.Native.Nat.{ℕ, _+_, _-_, _≤_, _<_}
+use native.Mathlib.Omega.{arith}
+use lib.ListN.{length, getD, drop, List·getD-append}
+use lib.Seq.{getD-append-add, getD-drop}
+use Rattle.model.specs.Answer.{result}
+use Rattle.model.specs.Chart.{Chart}
+use Rattle.model.specs.Live.{liveSets}
+use Rattle.file_format.specs.Parse.{Bytes}
+use Rattle.file_format.proofs.File.{reads-valid}
+use Rattle.chart_lists.specs.Lists.{put, overwritten}
+use Rattle.judgement.specs.Charts.{Accepts}
+use Rattle.judgement.proofs.Corollaries.{judged-result}
+use Rattle.analysis.specs.Analysing.{AnalysisValues, valuesOf, analysedIn, analyseAnswer}
+use Rattle.analysis.specs.Found.{FoundValues}
+use Rattle.families.proofs.ChartPairs.{live-each}
+use Rattle.analysis.proofs.Entry.{long-enough}
+use Rattle.analysis.proofs.Refusals.{analysis-result}
+use Rattle.analysis.proofs.Values.{word-live, floor-most, floor-reached, floor-used, used-none}
+
+-- ---- an entry of a list over whose front another was put
+
+module _ (xs l : List ℕ) (q : ℕ) where
+  in-front : q < length xs → getD (put xs l) q 0 ≡ getD xs q 0
+  unfolding put
+  in-front h = List·getD-append xs (drop (length xs) l) 0 q h
+
+  behind : length xs ≤ q → getD (put xs l) q 0 ≡ getD l q 0
+  unfolding put
+  behind h =
+      let e : q ≡ length xs + (q - length xs) = omega arith in
+      ap (λ (i : ℕ). getD (xs ++ drop (length xs) l) i 0) e
+      ∙ getD-append-add xs (drop (length xs) l) (q - length xs) 0
+      ∙ getD-drop (length xs) l (q - length xs) 0
+      ∙ ap (λ (i : ℕ). getD l i 0) (sym e)
+
+-- ---- the call
+
+module _ (bs before : List ℕ) (bytes : Bytes bs) where
+  of-chart : (c : Chart) {f : AnalysisValues} → Accepts bs c → c .locations ≤ length before → f ≡ valuesOf c
+      → FoundValues bs before (overwritten liveSets (analysedIn (length before) bs) before) f
+  unfolding analysedIn valuesOf
+  of-chart c a h e =
+      let valid = reads-valid bs c bytes (a .reads) in
+      let front : (q : ℕ) → q < c .locations → getD (put (liveSets c) before) q 0 ≡ getD (liveSets c) q 0 =
+      λ q h. in-front (liveSets c) before q (omega (arith, live-each c)) in
+      let x = floor-reached valid in
+      rw (judged-result bs bytes c .1 a, long-enough c (length before) h, e) record {
+        chart = c;
+        accepts = a;
+        words-are = λ q j h. rw (front q h) (word-live valid q j);
+        beyond = λ q h. behind (liveSets c) before q (omega (arith, live-each c));
+        floor-most = λ q h. rw (front q h) (floor-most valid q);
+        floor-reached = (x .0, x .1, rw (front (x .0) (x .1)) (x .2));
+        floor-used = floor-used valid;
+        used-none = used-none valid;
+      }
+
+  pub found-values : {f : AnalysisValues} → analyseAnswer (length before) bs ≡ result f
+      → FoundValues bs before (overwritten liveSets (analysedIn (length before) bs) before) f
+  found-values {f} e =
+      let a = analysis-result (length before) bs bytes f .0 e in
+      of-chart (a .chart) (a .accepts) (a .room-for) (a .values-are)

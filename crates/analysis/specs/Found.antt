@@ -1,0 +1,32 @@
+-- What an analysis that finds a chart says and leaves, in the words of paths (document 01, "Live, born, family, board number"). Assumes nothing.
+use mathlib.Core.Path.{_≡_}
+use mathlib.Core.Logic.{_↔_}
+use mathlib.Core.Bool.{true}
+use mathlib.Core.List.{List}
+use Prim.Native.Nat.{ℕ, _≤_, _<_}
+use lib.Count.{ones}
+use lib.ListN.{getD}
+use Rattle.timer_set.specs.Members.{member}
+use Rattle.model.specs.Chart.{Chart}
+use Rattle.model.specs.Path.{Live}
+use Rattle.judgement.specs.Charts.{Accepts}
+use Rattle.analysis.specs.Analysing.{AnalysisValues, valuesOf}
+
+-- the file holds an accepted chart, there is room, and these are its values
+pub record Analysed (room : ℕ) (bs : List ℕ) (f : AnalysisValues) : Type 0 where
+  pub chart : Chart
+  pub accepts : Accepts bs chart
+  pub room-for : chart .locations ≤ room
+  pub values-are : f ≡ valuesOf chart
+
+-- the chart, which is accepted; in the list the live set of each location by paths, and the rest untouched; floor is the count of the fullest of
+-- these, and at most used, which is 0 exactly where no timer is live
+pub record FoundValues (bs before after : List ℕ) (f : AnalysisValues) : Type 0 where
+  pub chart : Chart
+  pub accepts : Accepts bs chart
+  pub words-are : (q j : ℕ) → q < chart .locations → (member (getD after q 0) j ≡ true) ↔ Live chart q j
+  pub beyond : (q : ℕ) → chart .locations ≤ q → getD after q 0 ≡ getD before q 0
+  pub floor-most : (q : ℕ) → q < chart .locations → ones (getD after q 0) ≤ f .floor
+  pub floor-reached : (q : ℕ) × (q < chart .locations) × (ones (getD after q 0) ≡ f .floor)
+  pub floor-used : f .floor ≤ f .used
+  pub used-none : (f .used ≡ 0) ↔ ((q j : ℕ) → Live chart q j → ⊥)

@@ -1,0 +1,40 @@
+-- Each line by the parts in which it is put, and how long it is. Assumes nothing.
+use mathlib.Core.Path.{_≡_, sym, ap, _∙_}
+use mathlib.Core.Option.{some}
+use mathlib.Core.List.{List, [], _∷_, _++_, append-assoc}
+use Prim.Native.Nat.{ℕ, _+_, _*_}
+use native.Mathlib.Omega.{arith}
+use lib.ListN.{length, length-append}
+use Rattle.listing.specs.Text.{decimal, refusedWord, usedWord, floorWord, limitWord, space, lineFeed, atWord}
+use Rattle.listing.specs.Listing.{refusedText, firstLine, entryText}
+use Rattle.listing.specs.Cells.{entriesIn, lineIn}
+
+module _ (n p : ℕ) where
+  pub refused-parts : ((refusedWord ++ decimal n) ++ ((space ∷ []) ++ decimal p)) ++ (lineFeed ∷ []) ≡ refusedText n p
+  unfolding refusedText
+  refused-parts = simp append-assoc
+
+  pub refused-length : length (refusedText n p) ≡ 10 + (length (decimal n) + length (decimal p))
+  unfolding refusedWord
+  refused-length = ap length (sym refused-parts) ∙ simp length-append (omega arith)
+
+module _ (u f k : ℕ) where
+  pub first-parts : (((usedWord ++ decimal u) ++ (floorWord ++ decimal f)) ++ (limitWord ++ decimal k)) ++ (lineFeed ∷ []) ≡ firstLine u f k
+  unfolding firstLine
+  first-parts = simp append-assoc
+
+  pub first-length : length (firstLine u f k) ≡ 20 + (length (decimal u) + (length (decimal f) + length (decimal k)))
+  unfolding usedWord floorWord limitWord
+  first-length = ap length (sym first-parts) ∙ simp length-append (omega arith)
+
+pub entry-length : (j k : ℕ) → length (entryText j (some k)) ≡ 2 + (length (decimal j) + length (decimal k))
+entry-length j k = simp length-append (omega arith)
+
+module _ (cells : List ℕ) (timers q : ℕ) where
+  pub line-parts : ((atWord ++ decimal q) ++ entriesIn cells (64 * q) timers) ++ (lineFeed ∷ []) ≡ lineIn cells timers q
+  unfolding lineIn
+  line-parts = append-assoc (atWord ++ decimal q) (entriesIn cells (64 * q) timers) (lineFeed ∷ [])
+
+  pub line-length : length (lineIn cells timers q) ≡ 4 + (length (decimal q) + length (entriesIn cells (64 * q) timers))
+  unfolding atWord
+  line-length = ap length (sym line-parts) ∙ simp length-append (omega arith)
