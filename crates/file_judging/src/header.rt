@@ -85,7 +85,7 @@ pub fn entry_at(s: &[u8], at: usize, locations: u16, lowest: u64) -> Field
     a
 }
 
-// The accepting locations, judged and passed over.
+// The accepting locations, judged and skipped.
 fn skip_accepting(s: &[u8], at: usize, n: u16, locations: u16) -> Field
     ensures { λ r. ⌜ fieldAs (now (s .entry)) r ≡ skipAccepting locations n (drop at (now (s .entry))) ⌝ }
 {
