@@ -1,4 +1,4 @@
--- Which of a chart's nine lists the parts of the rewriting are lent; the chart's own serve as the others. Assumes nothing.
+-- Which of a chart's nine lists the renaming is lent; the chart's own serve as the others. Assumes nothing.
 use mathlib.Core.List.{List}
 use Prim.Native.Nat.{ℕ}
 use Rattle.model.specs.Chart.{Chart}
@@ -25,9 +25,6 @@ module _ {c : Chart} {l : Lists} (h : Holds c l) where
     codes = begins-self _;
     constants = begins-self _;
   }
-
-  pub edges-held : Holds c (edgesOf c (l .sources) (l .targets) (l .starts))
-  edges-held = own (h .sources) (h .targets) (h .starts) (begins-self _) (begins-self _)
 
   pub starts-held : Holds c (edgesOf c (listsOf c .sources) (l .targets) (l .starts))
   starts-held = own (begins-self _) (h .targets) (h .starts) (begins-self _) (begins-self _)

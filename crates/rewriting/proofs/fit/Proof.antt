@@ -21,11 +21,11 @@ use Rattle.chart_lists.proofs.Fronts.{locations-are}
 use Rattle.numbering.specs.ChartNumbered.{ChartNumbered}
 use Rattle.numbering.specs.Limits.{limitAs}
 use Rattle.numbering.specs.declared.Limit.{Limit}
+use Rattle.numbering.proofs.FileNumbers.{holds-edges}
 use Rattle.writer.specs.declared.Written.{Written}
 use Rattle.writer.specs.Writing.{writtenAs}
 use Rattle.rewriting.specs.Rewriting.{newFile, valuesOf}
 use Rattle.rewriting.specs.Parts.{fittedInto}
-use Rattle.rewriting.proofs.Held.{edges-held}
 use Rattle.rewriting.proofs.Order.{fitted-into, values-refused, buffer-refused}
 use Rattle.rewriting.proofs.Board.{board-used, board-cells, board-valid}
 use Rattle.rewriting.proofs.Written.{made, values-written, buffer-written}
@@ -50,14 +50,14 @@ Given s d = let a = s .args in
     × Begins (testedSets d) (now (a .tested))
 
 -- what numbering leaves
-numbers : (c : tie.After-judge-limit) (d : Chart) → Given (entry c) d → let n = numbered c .number-chart in
+left : (c : tie.After-judge-limit) (d : Chart) → Given (entry c) d → let n = numbered c .number-chart in
     ChartNumbered d (n .last .1 .1 .1 .1 .1 .0) (n .last .1 .1 .1 .1 .1 .1 .0) (n .result)
-numbers c d g = numbered c .number-chart .ensures d (g .0) (edges-held (g .3)) (g .4)
+left c d g = numbered c .number-chart .ensures d (g .0) (holds-edges (g .3)) (g .4)
 
 -- what the judgement of the limit says
 limited : (c : tie.After-judge-limit) (d : Chart) → Given (entry c) d → {l : Limit} → c .judge-limit .result ≡ l
     → limitAs l d ≡ fitted (entry c .args .k) d
-limited c d g e = sym (ap (λ (l : Limit). limitAs l d) e) ∙ c .judge-limit .ensures .answer d (numbers c d g .used-is)
+limited c d g e = sym (ap (λ (l : Limit). limitAs l d) e) ∙ c .judge-limit .ensures .answer d (left c d g .used-is)
 
 slice-aggregate-number-chart : tie.Need-slice-aggregate-number-chart
 slice-aggregate-number-chart c = search needs
@@ -70,7 +70,7 @@ number-chart-requires c κs =
     let p = start c .pre in
     let most : start c .args .header .locations ≤ 256 = omega (arith, locations-are (p .0) (p .1), p .3 .few-locations) in
     let cells : 64 * start c .args .header .locations ≤ 16384 = omega (arith, most) in
-    ((p .0, p .1, edges-held (p .4), p .5), most, cells)
+    ((p .0, p .1, holds-edges (p .4), p .5), most, cells)
 
 judge-limit-requires : tie.Need-judge-limit-requires
 judge-limit-requires c κs = search needs
@@ -104,7 +104,7 @@ write-renamed-requires : tie.Need-write-renamed-requires
 write-renamed-requires c κs =
     let t = c .before .before in
     let p = entry (judged-so t) .pre in
-    let x = numbers (judged-so t) (p .0) (p .1, p .2, p .3, p .4, p .5) in
+    let x = left (judged-so t) (p .0) (p .1, p .2, p .3, p .4, p .5) in
     (p .0, numbering (board (p .0)), p .1, p .4, board-cells (p .3) (p .2) x (few t))
 
 enum-known-written : tie.Need-enum-known-written
@@ -128,7 +128,7 @@ buffer : (c : tie.After-write-renamed) (d : Chart) → Given (first c) d → let
     ≡ overwritten newFile (fittedInto (a .k) (length (now (a .out))) d) (now (a .out))
 buffer c d g =
     let a = first c .args in
-    let x = numbers (judged-so (told c)) d g in
+    let x = left (judged-so (told c)) d g in
     let u = few (told c) in
     let cells = board-cells (g .2) (g .1) x u in
     c .write-renamed .ensures .1 d (numbering (board d)) (g .0) (g .3) cells (board-valid (g .2) (g .1) x u) (board-used (g .2) (g .1) x)
@@ -140,7 +140,7 @@ values : (c : tie.After-write-renamed) {w : Written} → c .write-renamed .resul
     ≡ then (fittedInto (a .k) (length (now (a .out))) d) (λ y. result (valuesOf y))
 values c e d g =
     let a = first c .args in
-    let x = numbers (judged-so (told c)) d g in
+    let x = left (judged-so (told c)) d g in
     let u = few (told c) in
     let cells = board-cells (g .2) (g .1) x u in
     let r = c .write-renamed .ensures .0 d (numbering (board d)) (g .0) (g .3) cells (board-valid (g .2) (g .1) x u)
