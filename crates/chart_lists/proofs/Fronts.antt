@@ -17,6 +17,14 @@ module _ (c : Chart) {m : Header} (e : m ≡ headerOf c) where
   unfolding headerOf
   locations-are = ap (λ (h : Header). h .locations) e
 
+  pub initial-is : m .initial ≡ c .initial
+  unfolding headerOf
+  initial-is = ap (λ (h : Header). h .initial) e
+
+  pub accepting-are : m .accepting ≡ length (c .accepting)
+  unfolding headerOf
+  accepting-are = ap (λ (h : Header). h .accepting) e
+
   pub timers-are : m .timers ≡ c .timers
   unfolding headerOf
   timers-are = ap (λ (h : Header). h .timers) e

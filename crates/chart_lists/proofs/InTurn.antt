@@ -11,7 +11,7 @@ use Rattle.model.specs.Chart.{Test, Transition, Chart, Nth}
 use Rattle.model.specs.Valid.{Valid, ValidTest}
 use Rattle.model.specs.Live.{startsSet}
 use Rattle.model.proofs.Transitions.{all-nth, nth-valid}
-use Rattle.chart_lists.specs.Lists.{allTests, listsOf}
+use Rattle.chart_lists.specs.Lists.{allTests, listsOf, timersOf}
 use Rattle.chart_lists.specs.Begins.{Begins}
 use Rattle.chart_lists.proofs.Begins.{begins-getD}
 use Rattle.chart_lists.proofs.Holds.{timers-each}
@@ -72,7 +72,7 @@ module _ {c : Chart} {i : ℕ} {r : Transition} (n : Nth c i r) where
 
   -- the timers of its tests
   pub timers-next : {l : List ℕ} → Begins (listsOf c .timers) l
-      → take (length (r .tests)) (drop (testsBefore c i) l) ≡ map (λ (t : Test). t .timer) (r .tests)
+      → take (length (r .tests)) (drop (testsBefore c i) l) ≡ timersOf (r .tests)
   unfolding listsOf
   timers-next {l} b =
       let e : length (map timer (allTests (take i (c .transitions)))) ≡ testsBefore c i = length-map (allTests (take i (c .transitions))) timer in

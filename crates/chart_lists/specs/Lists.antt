@@ -26,18 +26,44 @@ unfoldable pub allTests : List Transition → List Test
 allTests [] = []
 allTests (r ∷ rs) = r .tests ++ allTests rs
 
+-- of each transition one number
+abbrev pub sourcesOf : List Transition → List ℕ
+sourcesOf rs = map (λ (r : Transition). r .source) rs
+
+abbrev pub targetsOf : List Transition → List ℕ
+targetsOf rs = map (λ (r : Transition). r .target) rs
+
+abbrev pub eventsOf : List Transition → List ℕ
+eventsOf rs = map (λ (r : Transition). r .event) rs
+
+abbrev pub startsOf : List Transition → List ℕ
+startsOf rs = map startsSet rs
+
+abbrev pub testCountsOf : List Transition → List ℕ
+testCountsOf rs = map (λ (r : Transition). length (r .tests)) rs
+
+-- of each test one number
+abbrev pub timersOf : List Test → List ℕ
+timersOf ts = map (λ (t : Test). t .timer) ts
+
+abbrev pub codesOf : List Test → List ℕ
+codesOf ts = map (λ (t : Test). codeOf (t .comparison)) ts
+
+abbrev pub constantsOf : List Test → List ℕ
+constantsOf ts = map (λ (t : Test). t .constant) ts
+
 -- the lists of a chart
 unfoldable pub listsOf : Chart → Lists
 listsOf c = record {
   accepting = c .accepting;
-  sources = map (λ (r : Transition). r .source) (c .transitions);
-  targets = map (λ (r : Transition). r .target) (c .transitions);
-  events = map (λ (r : Transition). r .event) (c .transitions);
-  starts = map startsSet (c .transitions);
-  test-counts = map (λ (r : Transition). length (r .tests)) (c .transitions);
-  timers = map (λ (t : Test). t .timer) (allTests (c .transitions));
-  codes = map (λ (t : Test). codeOf (t .comparison)) (allTests (c .transitions));
-  constants = map (λ (t : Test). t .constant) (allTests (c .transitions));
+  sources = sourcesOf (c .transitions);
+  targets = targetsOf (c .transitions);
+  events = eventsOf (c .transitions);
+  starts = startsOf (c .transitions);
+  test-counts = testCountsOf (c .transitions);
+  timers = timersOf (allTests (c .transitions));
+  codes = codesOf (allTests (c .transitions));
+  constants = constantsOf (allTests (c .transitions));
 }
 
 -- xs over the front of l; what is beyond stays

@@ -9,7 +9,7 @@ use Rattle.model.specs.Chart.{Test, Transition}
 use Rattle.model.specs.Live.{startsSet}
 use Rattle.refusal.specs.Refused.{refusedAs}
 use Rattle.chart_lists.specs.declared.Header.{Header}
-use Rattle.chart_lists.specs.Lists.{allTests, put}
+use Rattle.chart_lists.specs.Lists.{allTests, put, codesOf, constantsOf, eventsOf, sourcesOf, startsOf, targetsOf, testCountsOf, timersOf}
 use Rattle.file_format.specs.Parse.{value}
 use Rattle.file_format.specs.Body.{FileHeader, readHeader, readTransitions, isEnd}
 use Rattle.fields.specs.declared.Field.{Field}
@@ -55,17 +55,17 @@ pub record HeadStored (r : Transition) (k : ℕ) (a b c d e a′ b′ c′ d′ 
 
 -- from five lists five others: the transitions' numbers over their fronts
 pub record HeadsStored (rs : List Transition) (a b c d e a′ b′ c′ d′ e′ : List ℕ) : Type 0 where
-  pub sources : a′ ≡ put (map (λ (r : Transition). r .source) rs) a
-  pub targets : b′ ≡ put (map (λ (r : Transition). r .target) rs) b
-  pub events : c′ ≡ put (map (λ (r : Transition). r .event) rs) c
-  pub starts : d′ ≡ put (map startsSet rs) d
-  pub test-counts : e′ ≡ put (map (λ (r : Transition). length (r .tests)) rs) e
+  pub sources : a′ ≡ put (sourcesOf rs) a
+  pub targets : b′ ≡ put (targetsOf rs) b
+  pub events : c′ ≡ put (eventsOf rs) c
+  pub starts : d′ ≡ put (startsOf rs) d
+  pub test-counts : e′ ≡ put (testCountsOf rs) e
 
 -- from three lists three others: the tests' numbers behind the first base entries
 pub record TestsStored (ts : List Test) (base : ℕ) (a b c a′ b′ c′ : List ℕ) : Type 0 where
-  pub timers : a′ ≡ putAt base (map (λ (t : Test). t .timer) ts) a
-  pub codes : b′ ≡ putAt base (map (λ (t : Test). codeOf (t .comparison)) ts) b
-  pub constants : c′ ≡ putAt base (map (λ (t : Test). t .constant) ts) c
+  pub timers : a′ ≡ putAt base (timersOf ts) a
+  pub codes : b′ ≡ putAt base (codesOf ts) b
+  pub constants : c′ ≡ putAt base (constantsOf ts) c
 
 -- ---- the end
 

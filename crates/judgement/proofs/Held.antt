@@ -12,10 +12,12 @@ use Rattle.model.specs.Valid.{ValidTest, ValidTransition}
 use Rattle.model.specs.Live.{testedSets}
 use Rattle.chart_lists.specs.declared.Header.{Header}
 use Rattle.chart_lists.specs.Header.{headerOf}
-use Rattle.chart_lists.specs.Lists.{Lists, listsOf, allTests, put}
+use Rattle.chart_lists.specs.Lists.{Lists, listsOf, allTests, put, testCountsOf, timersOf}
 use Rattle.chart_lists.specs.Begins.{Begins}
 use Rattle.chart_lists.specs.Holds.{Holds}
-use Rattle.chart_lists.proofs.Begins.{begins-self, begins-put, begins-take, begins-part, begins-room, begins-getD}
+use Rattle.chart_lists.proofs.Begins.{begins-put, begins-room, begins-getD}
+use Rattle.chart_lists.proofs.Partly.{holds-transitions}
+use Rattle.chart_lists.proofs.Fronts.{locations-are, initial-is, transitions-are, each-front, each-part}
 use Rattle.chart_lists.proofs.Holds.{sources-each, targets-each, starts-each, test-counts-each, timers-each}
 use Rattle.flow.proofs.ChartFlows.{tested-each}
 use Rattle.judgement.specs.Judging.{headerJudged}
@@ -37,45 +39,32 @@ small-append (x ∷ xs) ys f g zero = f 0
 small-append (x ∷ xs) ys f g (suc i) = small-append xs ys (λ k. f (suc k)) g i
 
 module _ (W locations timers : ℕ) (few : timers ≤ 64) where
-  tests-small : (ts : List Test) → All (ValidTest W timers) ts → Small (map (λ (t : Test). t .timer) ts)
+  tests-small : (ts : List Test) → All (ValidTest W timers) ts → Small (timersOf ts)
   tests-small [] v i = omega arith
   tests-small (t ∷ ts) v zero = omega (arith, v .0 .timer)
   tests-small (t ∷ ts) v (suc i) = tests-small ts (v .1) i
 
-  all-small : (rs : List Transition) → All (ValidTransition W locations timers) rs → Small (map (λ (t : Test). t .timer) (allTests rs))
+  all-small : (rs : List Transition) → All (ValidTransition W locations timers) rs → Small (timersOf (allTests rs))
   unfolding allTests
   all-small [] v i = omega arith
   all-small (r ∷ rs) v i =
       rw map-append
-      (small-append (map (λ (t : Test). t .timer) (r .tests)) _ (tests-small (r .tests) (v .0 .tests)) (all-small rs (v .1)) i)
+      (small-append (timersOf (r .tests)) _ (tests-small (r .tests) (v .0 .tests)) (all-small rs (v .1)) i)
 
-sum-tests : (rs : List Transition) → sumOf (map (λ (r : Transition). length (r .tests)) rs) ≡ length (allTests rs)
+sum-tests : (rs : List Transition) → sumOf (testCountsOf rs) ≡ length (allTests rs)
 unfolding sumOf allTests
 sum-tests [] = refl
 sum-tests (r ∷ rs) = rw (sum-tests rs, length-append)
 
 -- ---- what the judgement is lent of the lists
 
-pub holds-transitions : {c : Chart} {l : Lists} → Holds c l → HoldsTransitions c (l .sources) (l .targets) (l .starts) (l .test-counts) (l .timers)
-holds-transitions h = record {
-  width = h .width;
-  valid = h .valid;
-  accepting = begins-self _;
-  sources = h .sources;
-  targets = h .targets;
-  events = begins-self _;
-  starts = h .starts;
-  test-counts = h .test-counts;
-  timers = h .timers;
-  codes = begins-self _;
-  constants = begins-self _;
-}
+pub holds-judged : {c : Chart} {l : Lists} → Holds c l → HoldsTransitions c (l .sources) (l .targets) (l .starts) (l .test-counts) (l .timers)
+holds-judged h = holds-transitions h (h .sources) (h .targets) (h .starts) (h .test-counts) (h .timers)
 
 module _ {c : Chart} {m : Header} (e : m ≡ headerOf c) {sources targets starts test-counts timers : List ℕ}
     (h : HoldsTransitions c sources targets starts test-counts timers) where
   count-is : m .transitions ≡ length (c .transitions)
-  unfolding headerOf
-  count-is = ap (λ (k : Header). k .transitions) e
+  count-is = transitions-are c e
 
   pub few : m .transitions ≤ 512
   few = omega (arith, count-is, h .valid .few-transitions)
@@ -86,10 +75,10 @@ module _ {c : Chart} {m : Header} (e : m ≡ headerOf c) {sources targets starts
 
   module _ {xs l : List ℕ} (each : length xs ≡ length (c .transitions)) (b : Begins xs l) where
     of-all : take (m .transitions) l ≡ xs
-    of-all = begins-take b (count-is ∙ sym each)
+    of-all = each-front c e each b
 
     pub lent-part : m .transitions ≡ length (take (m .transitions) l)
-    lent-part = sym (begins-part b (count-is ∙ sym each))
+    lent-part = sym (each-part c e each b)
 
     pub lent-room : m .transitions ≤ length l
     lent-room = omega (arith, count-is, each, begins-room b)
@@ -146,10 +135,9 @@ module _ {c : Chart} {m : Header} (e : m ≡ headerOf c) {sources targets starts
     -- ---- 9 and 10
 
     pub lent-safe : SafeForward (m .initial) (m .locations) (front sources) (front targets) (front starts)
-    unfolding headerOf
     lent-safe =
-        let i : m .initial ≡ c .initial = ap (λ (k : Header). k .initial) e in
-        let l : m .locations ≡ c .locations = ap (λ (k : Header). k .locations) e in
+        let i = initial-is c e in
+        let l = locations-are c e in
         let s = of-all (sources-each c) (h .sources) in
         let t = of-all (targets-each c) (h .targets) in
         rw (i, l, s, t, of-all (starts-each c) (h .starts)) (own-safe (h .valid))

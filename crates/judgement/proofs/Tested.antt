@@ -13,7 +13,7 @@ use Rattle.timer_set.specs.Members.{added, common, setOf}
 use Rattle.lists.specs.Lists.{lowest, firstOf, sumOf}
 use Rattle.model.specs.Chart.{Test, Transition}
 use Rattle.model.specs.Live.{testsSet, isEmpty}
-use Rattle.chart_lists.specs.Lists.{allTests, put}
+use Rattle.chart_lists.specs.Lists.{allTests, put, sourcesOf, testCountsOf, timersOf}
 use Rattle.chart_lists.proofs.Put.{put-last}
 use Rattle.judgement.specs.Tested.{setsIn, testsAt}
 
@@ -66,11 +66,11 @@ module _ (ns ts : List ℕ) (i : ℕ) (h : i < length ns) where
 
 -- of transitions' tests they are the sets of the timers that each tests
 pub sets-are : (rs : List Transition) (beyond : List ℕ)
-    → setsIn (map (λ (r : Transition). length (r .tests)) rs) (map (λ (t : Test). t .timer) (allTests rs) ++ beyond) ≡ map testsSet rs
+    → setsIn (testCountsOf rs) (timersOf (allTests rs) ++ beyond) ≡ map testsSet rs
 unfolding setsIn allTests testsSet
 sets-are [] beyond = refl
 sets-are (r ∷ rs) beyond =
-    let e : length (map (λ (t : Test). t .timer) (r .tests)) ≡ length (r .tests) = length-map (r .tests) (λ (t : Test). t .timer) in
+    let e : length (timersOf (r .tests)) ≡ length (r .tests) = length-map (r .tests) (λ (t : Test). t .timer) in
     rw (map-append, append-assoc, take-at _ _ _ e, drop-at _ _ _ e, sets-are rs beyond)
 
 -- ---- the first transition that tests a timer of its source's set
@@ -80,7 +80,7 @@ abbrev testsIn : List ℕ → Transition → Bool
 testsIn sets r = not (isEmpty (common (testsSet r) (getD sets (r .source) 0)))
 
 pub first-testing-is : (sets : List ℕ) (rs : List Transition)
-    → lowest (testsAt (map (λ (r : Transition). r .source) rs) (map testsSet rs) sets) (length rs) ≡ firstOf (testsIn sets) rs
+    → lowest (testsAt (sourcesOf rs) (map testsSet rs) sets) (length rs) ≡ firstOf (testsIn sets) rs
 unfolding lowest firstOf
 first-testing-is sets [] = refl
 first-testing-is sets (r ∷ rs) = ap (λ (k : ℕ). elim (testsIn sets r) as (λ _. ℕ) [ true ↦ 0 | false ↦ suc k ]) (first-testing-is sets rs)

@@ -11,7 +11,7 @@ use Rattle.comparison.specs.Comparison.{codeOf}
 use Rattle.model.specs.Answer.{result}
 use Rattle.model.specs.Chart.{Test, Transition, Chart}
 use Rattle.model.specs.Live.{startsSet}
-use Rattle.chart_lists.specs.Lists.{Lists, listsOf, allTests}
+use Rattle.chart_lists.specs.Lists.{Lists, listsOf, allTests, startsOf}
 use Rattle.chart_lists.specs.Begins.{Begins}
 use Rattle.chart_lists.specs.Holds.{Holds}
 use Rattle.chart_lists.specs.Header.{headerOf}
@@ -62,7 +62,7 @@ module _ (m : Header) (l : Lists) (c : Chart) (e : chartFrom m l ≡ result c) w
   all-tests-begin f w g = tests-begin l (m .locations) (m .timers) f w g 0 0 (c .transitions) (each-transition m l c (chart-of m l c e))
 
   module _ (typed : Typed l) where
-    starts-begin : Begins (map startsSet (c .transitions)) (l .starts)
+    starts-begin : Begins (startsOf (c .transitions)) (l .starts)
     unfolding startsSet
     starts-begin = transitions-begin startsSet (l .starts) (λ i k r h.
         let small = all-nth (λ x. x < 2 ^ 64) (l .starts) i (typed .starts) (h .starts) in

@@ -12,7 +12,7 @@ use Rattle.model.specs.Answer.{result}
 use Rattle.model.specs.Chart.{Test, Transition, Chart}
 use Rattle.model.specs.Valid.{ValidTest, ValidTransition, Valid}
 use Rattle.model.specs.Live.{startsSet}
-use Rattle.chart_lists.specs.Lists.{Lists, listsOf, allTests}
+use Rattle.chart_lists.specs.Lists.{Lists, listsOf, allTests, eventsOf, sourcesOf, startsOf, targetsOf, testCountsOf, timersOf}
 use Rattle.chart_lists.specs.Begins.{Begins}
 use Rattle.chart_lists.specs.Holds.{Holds}
 use Rattle.chart_lists.specs.Header.{headerOf}
@@ -42,7 +42,7 @@ tests-split f w k r rs b =
 
 module _ (l : Lists) (locations timers : ℕ) (few : timers ≤ 64) where
   tests-held : (i k : ℕ) (ts : List Test) → All (ValidTest 2 timers) ts
-      → Begins (map (λ t. t .timer) ts) (drop k (l .timers)) → Begins (map (λ t. codeOf (t .comparison)) ts) (drop k (l .codes))
+      → Begins (timersOf ts) (drop k (l .timers)) → Begins (map (λ t. codeOf (t .comparison)) ts) (drop k (l .codes))
       → Begins (map (λ t. t .constant) ts) (drop k (l .constants)) → TestsEach l timers i k ts
   tests-held i k [] v a b d = tt
   tests-held i k (t ∷ ts) v a b d =
@@ -55,12 +55,12 @@ module _ (l : Lists) (locations timers : ℕ) (few : timers ≤ 64) where
 
   -- the lists from transition i and from the test at place k on
   record From (i k : ℕ) (rs : List Transition) : Type 0 where
-    sources : Begins (map (λ r. r .source) rs) (drop i (l .sources))
-    targets : Begins (map (λ r. r .target) rs) (drop i (l .targets))
-    events : Begins (map (λ r. r .event) rs) (drop i (l .events))
-    starts : Begins (map startsSet rs) (drop i (l .starts))
-    test-counts : Begins (map (λ r. length (r .tests)) rs) (drop i (l .test-counts))
-    test-timers : Begins (map (λ t. t .timer) (allTests rs)) (drop k (l .timers))
+    sources : Begins (sourcesOf rs) (drop i (l .sources))
+    targets : Begins (targetsOf rs) (drop i (l .targets))
+    events : Begins (eventsOf rs) (drop i (l .events))
+    starts : Begins (startsOf rs) (drop i (l .starts))
+    test-counts : Begins (testCountsOf rs) (drop i (l .test-counts))
+    test-timers : Begins (timersOf (allTests rs)) (drop k (l .timers))
     codes : Begins (map (λ t. codeOf (t .comparison)) (allTests rs)) (drop k (l .codes))
     constants : Begins (map (λ t. t .constant) (allTests rs)) (drop k (l .constants))
 

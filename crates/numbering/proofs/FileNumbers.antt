@@ -11,11 +11,8 @@ use Rattle.model.specs.FirstFit.{used, fullest, floor}
 use Rattle.model.proofs.Answers.{result-refused, not-result, result-same, refused-same}
 use Rattle.chart_lists.specs.Header.{headerOf}
 use Rattle.chart_lists.specs.declared.Header.{Header}
-use Rattle.chart_lists.specs.Lists.{Lists}
 use Rattle.chart_lists.specs.Begins.{Begins}
-use Rattle.chart_lists.specs.Holds.{Holds}
-use Rattle.chart_lists.specs.Partly.{edgesOf}
-use Rattle.chart_lists.proofs.Begins.{begins-self, begins-take, begins-part, begins-room}
+use Rattle.chart_lists.proofs.Begins.{begins-take, begins-part, begins-room}
 use Rattle.chart_lists.proofs.Fronts.{locations-are}
 use Rattle.families.proofs.ChartPairs.{live-each}
 use Rattle.judgement.specs.Judging.{judgedIn}
@@ -41,22 +38,6 @@ module _ (c : Chart) {m : Header} (is : m ≡ headerOf c) {live : List ℕ} (b :
       → _≡_ {A = FileNumbers} (record { header = m; used = u; floor = f }) (fileNumbers c)
   unfolding fileNumbers floor
   chart-numbers e g = rw (is, e, g ∙ ap fullest live-front)
-
--- the lists that numbering is lent, of the nine
-pub holds-edges : {c : Chart} {l : Lists} → Holds c l → Holds c (edgesOf c (l .sources) (l .targets) (l .starts))
-holds-edges h = record {
-  width = h .width;
-  valid = h .valid;
-  accepting = begins-self _;
-  sources = h .sources;
-  targets = h .targets;
-  events = begins-self _;
-  starts = h .starts;
-  test-counts = begins-self _;
-  timers = begins-self _;
-  codes = begins-self _;
-  constants = begins-self _;
-}
 
 -- ---- of a file
 

@@ -11,7 +11,8 @@ use Rattle.file_format.specs.File.{chartIn}
 use Rattle.chart_lists.specs.Lists.{Lists}
 use Rattle.chart_lists.specs.Holds.{Holds}
 use Rattle.chart_lists.specs.declared.Header.{Header}
-use Rattle.steps.proofs.Held.{holds-of}
+use Rattle.chart_lists.proofs.Begins.{begins-self}
+use Rattle.chart_lists.proofs.Partly.{holds-of}
 use Rattle.judgement.specs.Judging.{judgedIn, judgedHeader}
 use Rattle.judgement.specs.Charts.{AcceptedChart}
 use Rattle.judgement.proofs.Callers.{judged-refused, accepted-in}
@@ -42,5 +43,5 @@ module _ {c : Chart} {l : Lists} (h : Holds c l) where
   -- all that the player looks at
   pub holds-played : Holds c (playLists c (l .accepting) (l .sources) (l .targets) (l .starts) (l .test-counts) (l .timers) (l .codes) (l .constants))
   holds-played =
-      holds-of _ _ _ _ _ _ _ _ (h .valid) (h .accepting) (h .sources) (h .targets) (h .starts) (h .test-counts)
+      holds-of _ _ _ _ _ _ _ _ _ (h .valid) (h .accepting) (h .sources) (h .targets) (begins-self _) (h .starts) (h .test-counts)
       (h .timers) (h .codes) (h .constants)

@@ -15,7 +15,7 @@ use Rattle.model.specs.Rewrite.{Numbering, newTests, newTransition, rewrittenBy
 use Rattle.model.specs.Plan.{Has}
 use Rattle.model.proofs.Rewritten.{tested-head, tested-tail, tests-some}
 use Rattle.model.proofs.Transitions.{nth-valid, tested-below}
-use Rattle.chart_lists.specs.Lists.{allTests, listsOf, put}
+use Rattle.chart_lists.specs.Lists.{allTests, listsOf, put, timersOf}
 use Rattle.chart_lists.specs.Begins.{Begins}
 use Rattle.chart_lists.proofs.Put.{put-last}
 use Rattle.chart_lists.proofs.Tests.{tests-more}
@@ -56,7 +56,7 @@ module _ (cells : List ℕ) (q : ℕ) where
 
 -- the timers of the tests of the first i transitions of the rewritten chart
 abbrev pub timersTo : Chart → Numbering → ℕ → List ℕ
-timersTo c N i = map (λ (t : Test). t .timer) (allTests (map (newTransition N) (take i (c .transitions))))
+timersTo c N i = timersOf (allTests (map (newTransition N) (take i (c .transitions))))
 
 pub timers-all : (c : Chart) (N : Numbering) {i : ℕ} → i ≡ length (c .transitions) → timersTo c N i ≡ listsOf (rewrittenBy N c) .timers
 unfolding listsOf rewrittenBy
@@ -68,7 +68,7 @@ module _ (N : Numbering) (cells : List ℕ) where
   Read q ts = (j : ℕ) → tested j ts ≡ true → (k : ℕ) × Has N q j k × (boardTimer (cellAt cells q j) ≡ k)
 
   row-is : (q : ℕ) (ts : List Test) → Read q ts
-      → renamedRow cells q (map (λ (t : Test). t .timer) ts) ≡ map (λ (t : Test). t .timer) (newTests N q ts)
+      → renamedRow cells q (timersOf ts) ≡ timersOf (newTests N q ts)
   unfolding renamedRow newTests filterMap
   row-is q [] h = refl
   row-is q (t ∷ ts) h =
@@ -80,7 +80,7 @@ module _ (N : Numbering) (cells : List ℕ) where
   unfolding renamedRow
   row-length q ts h =
       sym (length-map (newTests N q ts) (λ (t : Test). t .timer)) ∙ ap length (sym (row-is q ts h))
-      ∙ length-map (map (λ (t : Test). t .timer) ts) (λ j. boardTimer (cellAt cells q j)) ∙ length-map ts (λ (t : Test). t .timer)
+      ∙ length-map (timersOf ts) (λ j. boardTimer (cellAt cells q j)) ∙ length-map ts (λ (t : Test). t .timer)
 
 module _ {W : ℕ} {c : Chart} (valid : Valid W c) {N : Numbering} {cells : List ℕ} (cs : CellsOf c N cells) where
   read : {i : ℕ} {r : Transition} → Nth c i r → Read N cells (r .source) (r .tests)
@@ -101,7 +101,7 @@ module _ {W : ℕ} {c : Chart} (valid : Valid W c) {N : Numbering} {cells : List
         let new : List Test = newTests N (r .source) (r .tests) in
         let old : List Test = allTests (map (newTransition N) (take i (c .transitions))) in
         let b : length (timersTo c N (i + 1)) ≡ length (old ++ new) =
-        ap (λ (ts : List Test). length (map (λ (t : Test). t .timer) ts)) new-next ∙ length-map (old ++ new) _ in
+        ap (λ (ts : List Test). length (timersOf ts)) new-next ∙ length-map (old ++ new) _ in
         let s : length new ≡ length (r .tests) = row-length N cells (r .source) (r .tests) (read n) in
         omega (arith, e, b, s, length-map old (λ (t : Test). t .timer), length-append old new, before-next n)
 

@@ -1,4 +1,3 @@
-pub mod Held
 pub mod RewrittenLists
 pub mod Order
 pub mod Entry

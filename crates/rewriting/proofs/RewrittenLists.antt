@@ -11,7 +11,7 @@ use Rattle.model.specs.Valid.{Valid}
 use Rattle.model.specs.Rewrite.{Numbering, newTests, newTransition, rewrittenBy}
 use Rattle.model.specs.Plan.{Numbered}
 use Rattle.model.proofs.Rewritten.{onTimer, tested-head, tested-tail, tests-some}
-use Rattle.chart_lists.specs.Lists.{Lists, lists, allTests, listsOf}
+use Rattle.chart_lists.specs.Lists.{Lists, lists, allTests, listsOf, testCountsOf}
 use Rattle.chart_lists.specs.Begins.{Begins}
 use Rattle.chart_lists.specs.Holds.{Holds}
 use Rattle.chart_lists.specs.declared.Header.{Header}
@@ -46,7 +46,7 @@ module _ (N : Numbering) where
       sym (length-map (newTests N q ts) none) ∙ ap length (tests-kept none (λ t k. refl) q ts h) ∙ length-map ts none
 
   test-counts-kept : (rs : List Transition) → AllNumbered N rs
-      → map (λ (r : Transition). length (r .tests)) (map (newTransition N) rs) ≡ map (λ (r : Transition). length (r .tests)) rs
+      → testCountsOf (map (newTransition N) rs) ≡ testCountsOf rs
   unfolding newTransition
   test-counts-kept [] h = refl
   test-counts-kept (r ∷ rs) h = ap₂ _∷_ (length-kept (r .source) (r .tests) (h 0 r refl)) (test-counts-kept rs (λ i s n. h (suc i) s n))

@@ -9,7 +9,7 @@ use lib.ListN.{length, getD, set, take, drop, length-append, take-append-drop}
 use lib.Seq.{getD-set-same, getD-set-other}
 use borrow.Author.Count.{below-more}
 use Rattle.model.specs.Chart.{Transition, Chart}
-use Rattle.chart_lists.specs.Lists.{Lists, allTests, listsOf}
+use Rattle.chart_lists.specs.Lists.{Lists, allTests, listsOf, testCountsOf}
 use Rattle.chart_lists.specs.Holds.{Holds}
 use Rattle.chart_lists.proofs.Tests.{all-tests, tests-front}
 use Rattle.chart_lists.proofs.Begins.{begins-getD, begins-room}
@@ -18,7 +18,7 @@ use Rattle.steps.specs.StepLists.{FirstTests}
 
 -- one transition more
 tests-next : (rs : List Transition) (i : ℕ) → i < length rs
-    → length (allTests (take (suc i) rs)) ≡ length (allTests (take i rs)) + getD (map (λ (r : Transition). length (r .tests)) rs) i 0
+    → length (allTests (take (suc i) rs)) ≡ length (allTests (take i rs)) + getD (testCountsOf rs) i 0
 unfolding allTests
 tests-next [] i h = absurd (omega arith)
 tests-next (r ∷ rs) zero h = rw length-append (omega arith)

@@ -1,4 +1,3 @@
-pub mod Headers
 pub mod Held
 pub mod FirstPlaces
 pub mod TransitionPlaces

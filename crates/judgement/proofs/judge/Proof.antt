@@ -15,7 +15,7 @@ use Rattle.file_format.specs.Parse.{Bytes}
 use Rattle.file_format.proofs.File.{reads-valid}
 use Rattle.filling.specs.Filling.{headerRead}
 use Rattle.filling.specs.Filling.RoomToFill.{for-every}
-use Rattle.judgement.proofs.Held.{holds-transitions}
+use Rattle.judgement.proofs.Held.{holds-judged}
 use Rattle.judgement.proofs.Reading.{bytes-are, header-read, chart-read, judged-read, refused-judged, refused-none}
 use Rattle.judgement.proofs.judge.Statement.{statement}
 use Rattle.judgement.proofs.judge.Tie as tie
@@ -125,7 +125,7 @@ judge-chart-requires c κs =
     let k = c .before .before .before .before .before .before .before in
     let f = loaded k in
     let x = chart-read (file f) (read k) in
-    ((x .0, header-read (file f) (read k) (x .1), holds-transitions (held f (x .0) (x .1))), start (f .before) .pre .1)
+    ((x .0, header-read (file f) (read k) (x .1), holds-judged (held f (x .0) (x .1))), start (f .before) .pre .1)
 
 same-length-10 : tie.Need-same-length-10
 same-length-10 c = search needs
@@ -164,8 +164,8 @@ returns-2 c =
     let f = loaded k in
     let x = chart-read (file f) (read k) in
     let u = j .judge-chart .ensures in (
-      judged-read (file f) (x .1) (u .0 (x .0) (header-read (file f) (read k) (x .1)) (holds-transitions (held f (x .0) (x .1)))),
-      (held f, (λ y q. u .1 y (header-read (file f) (read k) q) (holds-transitions (held f y q)))),
+      judged-read (file f) (x .1) (u .0 (x .0) (header-read (file f) (read k) (x .1)) (holds-judged (held f (x .0) (x .1)))),
+      (held f, (λ y q. u .1 y (header-read (file f) (read k) q) (holds-judged (held f y q)))),
     )
 
 pub judge-spec : {M : Type 1} → statement M

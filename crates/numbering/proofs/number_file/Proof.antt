@@ -11,7 +11,8 @@ use Rattle.chart_lists.specs.Holds.{Holds}
 use Rattle.chart_lists.proofs.Fronts.{locations-are}
 use Rattle.judgement.specs.Charts.{AcceptedChart}
 use Rattle.judgement.proofs.Callers.{judged-refused, judged-chart, accepted-in}
-use Rattle.numbering.proofs.FileNumbers.{holds-edges, refused-answer, refused-none, judged-answer, judged-lists}
+use Rattle.chart_lists.proofs.Partly.{holds-edges}
+use Rattle.numbering.proofs.FileNumbers.{refused-answer, refused-none, judged-answer, judged-lists}
 use borrow.Author.Needs.{needs}
 use Rattle.numbering.proofs.number_file.Statement.{statement}
 use Rattle.numbering.proofs.number_file.Tie as tie

@@ -21,7 +21,7 @@ use Rattle.chart_lists.proofs.Fronts.{locations-are}
 use Rattle.numbering.specs.ChartNumbered.{ChartNumbered}
 use Rattle.numbering.specs.Limits.{limitAs}
 use Rattle.numbering.specs.declared.Limit.{Limit}
-use Rattle.numbering.proofs.FileNumbers.{holds-edges}
+use Rattle.chart_lists.proofs.Partly.{holds-edges}
 use Rattle.writer.specs.declared.Written.{Written}
 use Rattle.writer.specs.Writing.{writtenAs}
 use Rattle.rewriting.specs.Rewriting.{newFile, valuesOf}

@@ -11,7 +11,7 @@ use Rattle.chart_lists.specs.Lists.{overwritten}
 use Rattle.chart_lists.proofs.Holds.{timers-each}
 use Rattle.chart_lists.proofs.Fronts.{transitions-are}
 use Rattle.chart_lists.proofs.Tests.{all-tests}
-use Rattle.rewriting.proofs.Held.{starts-held, tests-held}
+use Rattle.chart_lists.proofs.Partly.{holds-starts, holds-tests}
 use Rattle.rewriting.proofs.Written.{write-into, write-answer}
 use Rattle.rewriting.proofs.write_renamed.Statement.{statement}
 use Rattle.rewriting.proofs.write_renamed.Tie as tie
@@ -35,7 +35,7 @@ slice-aggregate-rename-starts c = search needs
 rename-starts-requires : tie.Need-rename-starts-requires
 rename-starts-requires c κs =
     let p = start c .pre in
-    ((p .0, p .1, p .2, starts-held (p .3), p .4), omega (arith, transitions-are (p .0) (p .2), p .3 .valid .few-transitions))
+    ((p .0, p .1, p .2, holds-starts (p .3), p .4), omega (arith, transitions-are (p .0) (p .2), p .3 .valid .few-transitions))
 
 slice-aggregate-rename-tests : tie.Need-slice-aggregate-rename-tests
 slice-aggregate-rename-tests c = search needs
@@ -43,7 +43,7 @@ slice-aggregate-rename-tests c = search needs
 rename-tests-requires : tie.Need-rename-tests-requires
 rename-tests-requires c κs =
     let p = start (starts-renamed c .before) .pre in
-    (p .0, p .1, p .2, tests-held (p .3), p .4, omega (arith, timers-each (p .0), all-tests (p .3 .valid)))
+    (p .0, p .1, p .2, holds-tests (p .3), p .4, omega (arith, timers-each (p .0), all-tests (p .3 .valid)))
 
 slice-aggregate-write : tie.Need-slice-aggregate-write
 slice-aggregate-write c = search needs
