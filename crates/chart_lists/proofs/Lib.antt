@@ -9,3 +9,4 @@ pub mod Overwritten
 pub mod Locations
 pub mod Fronts
 pub mod InTurn
+pub mod Partly

@@ -1,2 +1,3 @@
 pub mod ChartNumbered
 pub mod Limits
+pub mod FileNumbers

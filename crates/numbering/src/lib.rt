@@ -1,4 +1,4 @@
-// The live sets and the board numbers of a chart, from its lists, and the judgement of a board's limit.
+// The live sets and the board numbers of a chart, from its lists or from its file, and the judgement of a board's limit.
 ghost use mathlib.Core.Path.{_≡_};
 ghost use Prim.Native.Nat.{_*_, _≤_};
 ghost use lib.ListN.{length};
@@ -8,16 +8,33 @@ ghost use Rattle.model.specs.FirstFit.{fullest as FirstFit·fullest};
 ghost use Rattle.chart_lists.specs.Header.{headerOf};
 ghost use Rattle.chart_lists.specs.Begins.{Begins};
 ghost use Rattle.chart_lists.specs.Holds.{Holds};
+ghost use Rattle.chart_lists.specs.Limits.{mostLocations};
 ghost use Rattle.chart_lists.specs.Partly.{edgesOf};
+ghost use Rattle.allocation.specs.Cells.{mostCells};
 ghost use Rattle.numbering.specs.ChartNumbered.{ChartNumbered};
 ghost use Rattle.numbering.specs.Limits.{LimitJudged};
+ghost use Rattle.numbering.specs.FileNumbers.{ChartFound, FileFound};
 use chart_lists::Header;
+use chart_lists::MOST_LOCATIONS;
+use chart_lists::MOST_TESTS;
+use chart_lists::MOST_TRANSITIONS;
+use chart_lists::Read;
 use refusal::Refusal;
 use timer_set::TimerSet;
 
 // How many board numbers a chart uses.
 pub struct Numbered {
     pub used: u32,
+}
+
+// The header of a file's chart, how many board numbers it uses, and its floor; or the file's refusal.
+pub enum FileNumbered {
+    Chart {
+        header: Header,
+        used: u32,
+        floor: u32,
+    },
+    Refused(Refusal),
 }
 
 // Whether a board's timers are enough for a chart, or the refusal.
@@ -47,7 +64,7 @@ pub fn number_chart<'a>(
     let from = &sources[..n];
     let to = &targets[..n];
     let started = &starts[..n];
-    let own = [0u64; chart_lists::MOST_LOCATIONS];
+    let own = [0u64; MOST_LOCATIONS];
     flow::settle(from, to, started, &tested[..n], &own[..m], &mut live[..m]);
     let used = allocation::allocate(
         from,
@@ -75,6 +92,67 @@ pub fn fullest(sets: &[u64]) -> u32
         }
     }
     most
+}
+
+// The live sets and the cells of a chart that is judged, with its numbers.
+fn number_judged<'a>(
+    header: Header,
+    sources: &'a [u16],
+    targets: &'a [u16],
+    starts: &'a [u64],
+    tested: &'a [u64],
+    live: &mut [u64],
+    cells: &mut [u16],
+) -> FileNumbered
+    requires { ⌜ ((c : Chart) × (header ≡ headerOf c) × Holds c (edgesOf c (now sources) (now targets) (now starts))
+        × Begins (testedSets c) (now tested)) × (header .locations ≤ length (now live)) × (64 * header .locations ≤ length (now cells)) ⌝ }
+    ensures { λ r. ⌜ ((c : Chart) → header ≡ headerOf c → Holds c (edgesOf c (now (sources .entry)) (now (targets .entry)) (now (starts .entry)))
+        → Begins (testedSets c) (now (tested .entry)) → ChartFound c (now (live .exit)) (now (cells .exit)) r) ⌝ }
+{
+    let numbered = number_chart(header, sources, targets, starts, tested, live, cells);
+    let m = header.locations as usize;
+    let floor = fullest(&live[..m]);
+    FileNumbered::Chart {
+        header,
+        used: numbered.used,
+        floor,
+    }
+}
+
+// The live sets and the cells of a file's chart over the fronts of the two lists, with its numbers; or the file's refusal, 1 to 10.
+pub fn number_file(file: &[u8], live: &mut [u64], cells: &mut [u16]) -> FileNumbered
+    requires { ⌜ (mostLocations ≤ length (now live)) × (mostCells ≤ length (now cells)) ⌝ }
+    ensures { λ r. ⌜ FileFound (now (file .entry)) (now (live .exit)) (now (cells .exit)) r ⌝ }
+{
+    let mut accepting = [0u16; MOST_LOCATIONS];
+    let mut sources = [0u16; MOST_TRANSITIONS];
+    let mut targets = [0u16; MOST_TRANSITIONS];
+    let mut events = [0u8; MOST_TRANSITIONS];
+    let mut starts = [0u64; MOST_TRANSITIONS];
+    let mut test_counts = [0u8; MOST_TRANSITIONS];
+    let mut timers = [0u8; MOST_TESTS];
+    let mut codes = [0u8; MOST_TESTS];
+    let mut constants = [0u16; MOST_TESTS];
+    let mut tested = [0u64; MOST_TRANSITIONS];
+    let answer = judgement::judge(
+        file,
+        &mut accepting,
+        &mut sources,
+        &mut targets,
+        &mut events,
+        &mut starts,
+        &mut test_counts,
+        &mut timers,
+        &mut codes,
+        &mut constants,
+        &mut tested,
+    );
+    match answer {
+        Read::Refused(f) => FileNumbered::Refused(f),
+        Read::Chart(header) => {
+            number_judged(header, &sources, &targets, &starts, &tested, live, cells)
+        }
+    }
 }
 
 // 11 for a board of more than 64 timers, then 20 where a chart uses more numbers than the board has timers.

@@ -1,0 +1,52 @@
+-- `number_judged` meets its contract: the numbers of the chart, and the fullest of the live sets that are left. Assumes nothing.
+use mathlib.Core.Path.{sym}
+use borrow.Author.Needs.{needs}
+use Rattle.numbering.proofs.Files.{front-length, chart-found}
+use Rattle.numbering.proofs.number_judged.Statement.{statement}
+use Rattle.numbering.proofs.number_judged.Tie as tie
+
+-- the chart is numbered: the call that this is of
+abbrev start : tie.After-number-chart → tie.Start
+start c = c .before .before .before .before .before .before .before .before .before
+
+number-chart-requires : tie.Need-number-chart-requires
+number-chart-requires c κs = search needs
+
+cast-m : tie.Need-cast-m
+cast-m c = search needs
+
+slice-reshare-prefix-fullest : tie.Need-slice-reshare-prefix-fullest
+slice-reshare-prefix-fullest c = search needs
+
+slice-aggregate-fullest : tie.Need-slice-aggregate-fullest
+slice-aggregate-fullest c =
+    let n = c .before .before .before .before .before .before in
+    let p = start n .pre .0 in
+    sym (front-length (p .0) (p .1) (n .number-chart .ensures (p .0) (p .1) (p .2) (p .3)))
+
+fullest-requires : tie.Need-fullest-requires
+fullest-requires c κs = search needs
+
+same-length : tie.Need-same-length
+same-length c = search needs
+
+same-length-2 : tie.Need-same-length-2
+same-length-2 c = search needs
+
+returns : tie.Need-returns
+returns c chart is holds tested =
+    let n = c .before .before .before .before .before .before .before .number-chart in
+    chart-found chart is (n .ensures chart is holds tested) (c .fullest .ensures)
+
+pub number-judged-spec : {M : Type 1} → statement M
+number-judged-spec =
+    tie.close
+    (tie.spec
+    number-chart-requires
+    cast-m
+    slice-reshare-prefix-fullest
+    slice-aggregate-fullest
+    fullest-requires
+    same-length
+    same-length-2
+    returns)
