@@ -1,5 +1,5 @@
 -- The families in turn: the cells have the numbers of those placed so far, and the numbers in the rows of the next one's locations are those
--- held by the families that it meets. Assumes nothing.
+-- held by the families that it meets. What is hard: no two families have a common pair, so that a cell shows one number. Assumes nothing.
 use mathlib.Core.Path.{_≡_, refl, sym, ap, ap₂, _∙_, subst}
 use mathlib.Core.Bool.{Bool, true, false, not, _&&_}
 use mathlib.Core.Option.{Option, none, some, Option·none-ne-some, Option·some-injective}
@@ -177,7 +177,7 @@ module _ {p : Pairs} (formed : WellFormed p) where
     inside s m = formed .location s j (joined-pair formed (family-has formed q j pair s .0 m) pair)
 
     -- the numbers in the rows of its locations are those held by the families that it meets
-    module _ (ps : List Placed) (x : ℕ) (early : AllEarlier x ps) (cells : List ℕ) (are : cells ≡ cellsOf (numbering ps) (p .locations)) (k : ℕ)
+    module _ (ps : List Placed) (x : ℕ) (earlier : AllEarlier x ps) (cells : List ℕ) (are : cells ≡ cellsOf (numbering ps) (p .locations)) (k : ℕ)
         (few : k < noNumber) where
       taken-held : taken sets cells j k ≡ memb k (held family ps)
       unfolding taken inRow meets numbering
@@ -201,7 +201,7 @@ module _ {p : Pairs} (formed : WellFormed p) where
               let g = b .holder in
               let s = any-memb-out (λ y. memb y (g .family .locations)) (family .locations) (b .met) in
               let h = inside (s .0) (s .1) in
-              let y = early (b .place) g (b .is-nth) in
+              let y = earlier (b .place) g (b .is-nth) in
               let t : g .family .timer < 64 =
               rw (ap (λ (f : Family). f .timer) (y .family) ∙ family-timer p (y .number / 64) (y .number % 64)) (omega arith) in
               let e : getD cells (64 * s .0 + g .family .timer) 0 ≡ k =

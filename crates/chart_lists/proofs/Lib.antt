@@ -10,3 +10,4 @@ pub mod Locations
 pub mod Fronts
 pub mod InTurn
 pub mod Copied
+pub mod Partly

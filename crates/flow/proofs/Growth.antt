@@ -18,7 +18,7 @@ use Rattle.timer_set.proofs.Members.{joined-more}
 use Rattle.model.specs.Flow.{Edge, brings, sameSets}
 use Rattle.model.proofs.Settled.{same-sets-self, same-sets-equal}
 use Rattle.flow.specs.Edges.{edgeAt, SafeEdges}
-use Rattle.flow.specs.Sweeps.{passAlong, sweptTo}
+use Rattle.flow.specs.Sweeps.{withEdge, sweptTo}
 
 -- ---- sums
 
@@ -29,24 +29,24 @@ differ a b h = is-no (sameSets a b) (λ s. omega (arith, h, ap sumOf (same-sets-
 
 module _ (l : List ℕ) (e : Edge) where
   -- the set of the location that the edge leads into, with what the edge brings
-  abbrev pub passed : ℕ
-  passed = joined (getD l (e .into) 0) (brings l e)
+  abbrev pub brought : ℕ
+  brought = joined (getD l (e .into) 0) (brings l e)
 
-  pub pass-long : length (passAlong l e) ≡ length l
-  unfolding passAlong
-  pass-long = length-set l (e .into) passed
+  pub edge-long : length (withEdge l e) ≡ length l
+  unfolding withEdge
+  edge-long = length-set l (e .into) brought
 
-  pass-more : e .into < length l → (passed ≡ getD l (e .into) 0 → ⊥) → sumOf l < sumOf (passAlong l e)
-  unfolding passAlong
-  pass-more h ne = omega (arith, ne, sum-set l (e .into) passed h, joined-more (getD l (e .into) 0) (brings l e))
+  edge-more : e .into < length l → (brought ≡ getD l (e .into) 0 → ⊥) → sumOf l < sumOf (withEdge l e)
+  unfolding withEdge
+  edge-more h ne = omega (arith, ne, sum-set l (e .into) brought h, joined-more (getD l (e .into) 0) (brings l e))
 
-  pass-cases : e .into < length l → (passAlong l e ≡ l) ⊎ (sumOf l < sumOf (passAlong l e))
-  unfolding passAlong
-  pass-cases h = go (ℕ-discrete passed (getD l (e .into) 0))
+  edge-cases : e .into < length l → (withEdge l e ≡ l) ⊎ (sumOf l < sumOf (withEdge l e))
+  unfolding withEdge
+  edge-cases h = go (ℕ-discrete brought (getD l (e .into) 0))
     where
-      go : Dec (passed ≡ getD l (e .into) 0) → (set l (e .into) passed ≡ l) ⊎ (sumOf l < sumOf (set l (e .into) passed))
+      go : Dec (brought ≡ getD l (e .into) 0) → (set l (e .into) brought ≡ l) ⊎ (sumOf l < sumOf (set l (e .into) brought))
       go (yes p) = inl (ap (set l (e .into)) p ∙ set-getD l (e .into) 0)
-      go (no ne) = inr (pass-more h ne)
+      go (no ne) = inr (edge-more h ne)
 
 -- ---- a sweep
 
@@ -54,25 +54,25 @@ module _ (edge : ℕ → Edge) (l : List ℕ) where
   pub swept-long : (n : ℕ) → length (sweptTo edge l n) ≡ length l
   unfolding sweptTo
   swept-long zero = refl
-  swept-long (suc n) = pass-long (sweptTo edge l n) (edge n) ∙ swept-long n
+  swept-long (suc n) = edge-long (sweptTo edge l n) (edge n) ∙ swept-long n
 
   abbrev Inside : ℕ → Type 0
   Inside n = (k : ℕ) → k < n → edge k .into < length l
 
   -- none of the first n edges changes the sets
   abbrev Still : ℕ → Type 0
-  Still n = (k : ℕ) → k < n → passAlong l (edge k) ≡ l
+  Still n = (k : ℕ) → k < n → withEdge l (edge k) ≡ l
 
   swept-cases : (n : ℕ) → Inside n → ((sweptTo edge l n ≡ l) × Still n) ⊎ (sumOf l < sumOf (sweptTo edge l n))
   unfolding sweptTo
   swept-cases zero h = inl (refl, below-none _)
   swept-cases (suc n) h =
-      go (swept-cases n (λ k b. h k (omega arith))) (pass-cases (sweptTo edge l n) (edge n) (omega (arith, h n (omega arith), swept-long n)))
+      go (swept-cases n (λ k b. h k (omega arith))) (edge-cases (sweptTo edge l n) (edge n) (omega (arith, h n (omega arith), swept-long n)))
     where
       go : ((sweptTo edge l n ≡ l) × Still n) ⊎ (sumOf l < sumOf (sweptTo edge l n))
-          → (passAlong (sweptTo edge l n) (edge n) ≡ sweptTo edge l n) ⊎ (sumOf (sweptTo edge l n) < sumOf (passAlong (sweptTo edge l n) (edge n)))
-          → ((passAlong (sweptTo edge l n) (edge n) ≡ l) × Still (suc n)) ⊎ (sumOf l < sumOf (passAlong (sweptTo edge l n) (edge n)))
-      go (inl x) (inl p) = inl (p ∙ x .0, rw add-one at (below-more _ n (x .1) (subst (λ (m : List ℕ). passAlong m (edge n) ≡ m) (x .0) p)))
+          → (withEdge (sweptTo edge l n) (edge n) ≡ sweptTo edge l n) ⊎ (sumOf (sweptTo edge l n) < sumOf (withEdge (sweptTo edge l n) (edge n)))
+          → ((withEdge (sweptTo edge l n) (edge n) ≡ l) × Still (suc n)) ⊎ (sumOf l < sumOf (withEdge (sweptTo edge l n) (edge n)))
+      go (inl x) (inl p) = inl (p ∙ x .0, rw add-one at (below-more _ n (x .1) (subst (λ (m : List ℕ). withEdge m (edge n) ≡ m) (x .0) p)))
       go (inl x) (inr h) = inr (omega (arith, h, ap sumOf (x .0)))
       go (inr h) (inl p) = inr (omega (arith, h, ap sumOf p))
       go (inr h) (inr i) = inr (omega arith)
@@ -93,13 +93,13 @@ module _ (edge : ℕ → Edge) (l : List ℕ) where
         go (inr h) = h
 
     -- an edge that changes a set makes a difference to the first sets
-    pub swept-differ : edge n .into < length l → (passed (sweptTo edge l n) (edge n) ≡ getD (sweptTo edge l n) (edge n .into) 0 → ⊥)
+    pub swept-differ : edge n .into < length l → (brought (sweptTo edge l n) (edge n) ≡ getD (sweptTo edge l n) (edge n .into) 0 → ⊥)
         → sameSets l (sweptTo edge l (suc n)) ≡ false
     unfolding sweptTo
-    swept-differ h ne = differ l _ (go (swept-cases n inside) (pass-more (sweptTo edge l n) (edge n) (omega (arith, h, swept-long n)) ne))
+    swept-differ h ne = differ l _ (go (swept-cases n inside) (edge-more (sweptTo edge l n) (edge n) (omega (arith, h, swept-long n)) ne))
       where
         go : ((sweptTo edge l n ≡ l) × Still n) ⊎ (sumOf l < sumOf (sweptTo edge l n))
-            → sumOf (sweptTo edge l n) < sumOf (passAlong (sweptTo edge l n) (edge n)) → sumOf l < sumOf (passAlong (sweptTo edge l n) (edge n))
+            → sumOf (sweptTo edge l n) < sumOf (withEdge (sweptTo edge l n) (edge n)) → sumOf l < sumOf (withEdge (sweptTo edge l n) (edge n))
         go (inl x) i = omega (arith, i, ap sumOf (x .0))
         go (inr h) i = omega arith
 
@@ -119,7 +119,7 @@ module _ (into from cut gain : List ℕ) {start : List ℕ} (m : SafeEdges into 
     (x : Sweep into from cut gain start i sets grew) (w : ℕ)
     (w-is : w ≡ joined (getD sets (getD into i 0) 0) (joined (getD gain i 0) (minus (getD sets (getD from i 0) 0) (getD cut i 0)))) where
   next-is : set sets (getD into i 0) w ≡ sweptTo (edgeAt into from cut gain) start (suc i)
-  unfolding sweptTo passAlong edgeAt brings
+  unfolding sweptTo withEdge edgeAt brings
   next-is = rw (w-is, ← x .made)
 
   pub sweep-same : w ≡ getD sets (getD into i 0) 0 → Sweep into from cut gain start (i + 1) (set sets (getD into i 0) w) grew

@@ -1,4 +1,5 @@
--- Sweeps in place hold only what comes, and where a sweep changes nothing they hold all of it. Assumes nothing.
+-- Sweeps in place hold only what comes, and where a sweep changes nothing they hold all of it: so they end where the rounds end, though they take
+-- other ways there. Assumes nothing.
 use mathlib.Core.Path.{_≡_, refl, sym, ap, _∙_, subst}
 use mathlib.Core.Logic.{_⊎_, inl, inr}
 use mathlib.Core.Bool.{Bool, true, false, _&&_, _||_, not}
@@ -21,9 +22,9 @@ use Rattle.model.specs.Comes.Comes.{owned, gained, along}
 use Rattle.model.proofs.Rounds.{Words}
 use Rattle.model.proofs.Settled.{length-settled, settled-words, settled-iff}
 use Rattle.flow.specs.Edges.{edgeAt, flowOf, SafeEdges}
-use Rattle.flow.specs.Sweeps.{passAlong, sweptTo}
+use Rattle.flow.specs.Sweeps.{withEdge, sweptTo}
 use Rattle.flow.proofs.EdgeLists.{nth-edge, edge-of}
-use Rattle.flow.proofs.Growth.{passed, pass-long, swept-still, swept-grows}
+use Rattle.flow.proofs.Growth.{brought, edge-long, swept-still, swept-grows}
 
 -- words of 64 that hold the locations' own sets and only what comes
 pub record Between (f : Flow) (sets : List ℕ) : Type 0 where
@@ -33,18 +34,18 @@ pub record Between (f : Flow) (sets : List ℕ) : Type 0 where
   pub comes : (q j : ℕ) → member (getD sets q 0) j ≡ true → Comes f j q
 
 -- what an edge brings, by members
-member-passed : (l : List ℕ) (e : Edge) (j : ℕ)
-    → member (passed l e) j ≡ (member (getD l (e .into) 0) j || (member (e .gain) j || (member (getD l (e .from) 0) j && not (member (e .cut) j))))
+member-brought : (l : List ℕ) (e : Edge) (j : ℕ)
+    → member (brought l e) j ≡ (member (getD l (e .into) 0) j || (member (e .gain) j || (member (getD l (e .from) 0) j && not (member (e .cut) j))))
 unfolding brings
-member-passed l e j = simp (member-joined, member-minus)
+member-brought l e j = simp (member-joined, member-minus)
 
 module _ {f : Flow} (shaped : Shaped f) {l : List ℕ} (b : Between f l) where
   module _ (i : ℕ) {e : Edge} (n : getElem? (f .edges) i ≡ some e) where
     inside : e .into < length l
     inside = omega (arith, shaped .into-below i n, b .long)
 
-    passed-comes : (j : ℕ) → member (passed l e) j ≡ true → Comes f j (e .into)
-    passed-comes j m = go (or-cases (member (getD l (e .into) 0) j) (sym (member-passed l e j) ∙ m))
+    brought-comes : (j : ℕ) → member (brought l e) j ≡ true → Comes f j (e .into)
+    brought-comes j m = go (or-cases (member (getD l (e .into) 0) j) (sym (member-brought l e j) ∙ m))
       where
         here : EdgeInto f (e .into) e
         here = record { number = i; is-nth = n; leads = refl }
@@ -59,38 +60,38 @@ module _ {f : Flow} (shaped : Shaped f) {l : List ℕ} (b : Between f l) where
         go (inr h) = brought (or-cases (member (e .gain) j) h)
 
     -- what holds of the set that the edge leads into, and of the others before, holds of all
-    pass-all : (P : ℕ → ℕ → Type 0) → P (e .into) (passed l e) → ((q : ℕ) → P q (getD l q 0)) → (q : ℕ) → P q (getD (passAlong l e) q 0)
-    unfolding passAlong
-    pass-all P here rest q = go (ℕ-discrete q (e .into))
+    edge-all : (P : ℕ → ℕ → Type 0) → P (e .into) (brought l e) → ((q : ℕ) → P q (getD l q 0)) → (q : ℕ) → P q (getD (withEdge l e) q 0)
+    unfolding withEdge
+    edge-all P here rest q = go (ℕ-discrete q (e .into))
       where
-        go : Dec (q ≡ e .into) → P q (getD (set l (e .into) (passed l e)) q 0)
-        go (yes p) = rw (p, getD-set-same l (e .into) (passed l e) 0 inside) here
-        go (no ne) = rw (getD-set-other l (e .into) q (passed l e) 0 ne) (rest q)
+        go : Dec (q ≡ e .into) → P q (getD (set l (e .into) (brought l e)) q 0)
+        go (yes p) = rw (p, getD-set-same l (e .into) (brought l e) 0 inside) here
+        go (no ne) = rw (getD-set-other l (e .into) q (brought l e) 0 ne) (rest q)
 
-    passed-word : passed l e < 2 ^ 64
+    brought-word : brought l e < 2 ^ 64
     unfolding brings
-    passed-word =
+    brought-word =
         joined-lt 64 (getD l (e .into) 0) _ (b .words (e .into))
         (joined-lt 64 (e .gain) _ (shaped .gain-word i n) (minus-lt 64 (getD l (e .from) 0) (e .cut) (b .words (e .from))))
 
-    pub between-pass : Between f (passAlong l e)
-    between-pass = record {
-      long = pass-long l e ∙ b .long;
-      words = pass-all (λ q w. w < 2 ^ 64) passed-word (b .words);
-      owns = λ q j. pass-all (λ q w. member (f .own q) j ≡ true → member w j ≡ true)
-          (λ o. member-passed l e j ∙ or-left _ (b .owns (e .into) j o)) (λ q. b .owns q j) q;
-      comes = λ q j. pass-all (λ q w. member w j ≡ true → Comes f j q) (passed-comes j) (λ q. b .comes q j) q;
+    pub between-edge : Between f (withEdge l e)
+    between-edge = record {
+      long = edge-long l e ∙ b .long;
+      words = edge-all (λ q w. w < 2 ^ 64) brought-word (b .words);
+      owns = λ q j. edge-all (λ q w. member (f .own q) j ≡ true → member w j ≡ true)
+          (λ o. member-brought l e j ∙ or-left _ (b .owns (e .into) j o)) (λ q. b .owns q j) q;
+      comes = λ q j. edge-all (λ q w. member w j ≡ true → Comes f j q) (brought-comes j) (λ q. b .comes q j) q;
     }
 
   -- sets that no edge changes hold all that comes
-  module _ (still : (i : ℕ) (e : Edge) → getElem? (f .edges) i ≡ some e → passAlong l e ≡ l) where
+  module _ (still : (i : ℕ) (e : Edge) → getElem? (f .edges) i ≡ some e → withEdge l e ≡ l) where
     closed : {q : ℕ} {e : Edge} (j : ℕ) → EdgeInto f q e → (member (e .gain) j || (member (getD l (e .from) 0) j && not (member (e .cut) j))) ≡ true
         → member (getD l q 0) j ≡ true
-    unfolding passAlong
+    unfolding withEdge
     closed {q} {e} j x h =
         ap (λ (s : ℕ). member (getD l s 0) j) (sym (x .leads))
         ∙ ap (λ (m : List ℕ). member (getD m (e .into) 0) j) (sym (still (x .number) e (x .is-nth)))
-        ∙ ap (λ (w : ℕ). member w j) (getD-set-same l (e .into) (passed l e) 0 (inside (x .number) (x .is-nth))) ∙ member-passed l e j
+        ∙ ap (λ (w : ℕ). member w j) (getD-set-same l (e .into) (brought l e) 0 (inside (x .number) (x .is-nth))) ∙ member-brought l e j
         ∙ or-right (member (getD l (e .into) 0) j) h
 
     complete : (q j : ℕ) → Comes f j q → member (getD l q 0) j ≡ true
@@ -133,7 +134,7 @@ module _ (into from cut gain own : List ℕ) where
     between-swept : (n : ℕ) → n ≤ length into → Between (flowOf into from cut gain own) (sweptTo (edgeAt into from cut gain) l n)
     unfolding sweptTo
     between-swept zero h = b
-    between-swept (suc n) h = between-pass shaped (between-swept n (omega arith)) n (nth-edge into from cut gain own n (omega arith))
+    between-swept (suc n) h = between-edge shaped (between-swept n (omega arith)) n (nth-edge into from cut gain own n (omega arith))
 
     module _ {after : List ℕ} (made : after ≡ sweptTo (edgeAt into from cut gain) l (length into)) where
       pub sweep-between : Between (flowOf into from cut gain own) after
@@ -153,4 +154,4 @@ module _ (into from cut gain own : List ℕ) where
         unfolding edgeAt
         sweep-settled g =
             let x = swept-still (edgeAt into from cut gain) l (length into) targets (rw made at (not-false (sameSets l after) (sym grew-is ∙ g))) in
-            made ∙ x .0 ∙ still-settled shaped b (λ i e n. let y = edge-of into from cut gain own i n in ap (passAlong l) (y .1) ∙ x .1 i (y .0))
+            made ∙ x .0 ∙ still-settled shaped b (λ i e n. let y = edge-of into from cut gain own i n in ap (withEdge l) (y .1) ∙ x .1 i (y .0))

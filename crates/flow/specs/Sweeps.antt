@@ -6,10 +6,10 @@ use Rattle.timer_set.specs.Members.{joined}
 use Rattle.model.specs.Flow.{Edge, brings}
 
 -- the sets with what an edge brings
-unfoldable pub passAlong : List ℕ → Edge → List ℕ
-passAlong sets e = set sets (e .into) (joined (getD sets (e .into) 0) (brings sets e))
+unfoldable pub withEdge : List ℕ → Edge → List ℕ
+withEdge sets e = set sets (e .into) (joined (getD sets (e .into) 0) (brings sets e))
 
 -- the sets after the first edges of a sweep
 unfoldable pub sweptTo : (ℕ → Edge) → List ℕ → ℕ → List ℕ
 sweptTo edge sets zero = sets
-sweptTo edge sets (suc i) = passAlong (sweptTo edge sets i) (edge i)
+sweptTo edge sets (suc i) = withEdge (sweptTo edge sets i) (edge i)

@@ -1,4 +1,5 @@
--- `number_locations` meets its contract: the families that begin at the locations below q have their numbers. Assumes nothing.
+-- `number_locations` meets its contract: the families that begin at the locations below q have their numbers. What is hard stands in Locations; here
+-- it is only carried through five calls. Assumes nothing.
 use borrow.Author.Needs.{needs}
 use mathlib.Core.Path.{_≡_, sym, _∙_, subst}
 use mathlib.Core.List.{List}

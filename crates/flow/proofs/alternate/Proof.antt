@@ -1,4 +1,5 @@
--- `alternate` makes round after round, from the empty sets to the first round that changes nothing. Assumes nothing.
+-- `alternate` makes round after round, from the empty sets to the first round that changes nothing. What is hard: both halves of a turn are the same
+-- argument with the two lists exchanged (Turns). Assumes nothing.
 use mathlib.Core.Path.{_≡_, sym, ap, _∙_}
 use mathlib.Core.List.{List}
 use Prim.Native.Nat.{ℕ, _+_, _*_, _-_, _≤_}

@@ -1,4 +1,5 @@
--- `round` starts from the locations' own sets and joins to them what each edge brings, one edge a turn. Assumes nothing.
+-- `round` starts from the locations' own sets and joins to them what each edge brings, one edge a turn: the invariant is the definition's fold,
+-- cut off after i edges. Assumes nothing.
 use mathlib.Core.Path.{_≡_, refl, ap, _∙_}
 use Prim.Native.Nat.{_-_, _≤_, _<_}
 use native.Mathlib.Numerals.{add-one}

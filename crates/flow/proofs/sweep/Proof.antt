@@ -1,4 +1,5 @@
--- `sweep` joins to each edge's target what the edge brings, one edge a turn. Assumes nothing.
+-- `sweep` joins to each edge's target what the edge brings, one edge a turn. What is hard: that the answer says whether a set grew, since the edges
+-- before have grown sets too (Growth). Assumes nothing.
 use borrow.Author.Needs.{needs}
 use mathlib.Core.Path.{_≡_, ap, _∙_}
 use mathlib.Core.List.{List}
