@@ -1,6 +1,6 @@
 """Vectors for the analysis, the rewriting and the player. The expected lines are written from document 01 and paper 003, not taken from a run.
 
-`vectors/make` turns them into the input and the expected output of crates/vectors_calls. What the program prints:
+`vectors/make` turns them into input and expected output of crates/vectors. What the program prints:
   analysis    used U floor F beyond C, then: live W W ..    (words of locations 0 to 7 and of the last one)
   rewriting   used U length N HEX next HH                    (the bytes of the new file, the last 8 if over 64, and the byte after them)
   player      location L time T accepting B                  (B is 1 or 0)

@@ -1,7 +1,7 @@
 """Vectors for the reader and the writer of chart files. The expected lines are written from document 01, not taken from a run.
 
 Each read vector: a comment, the nine lists' lengths (or LARGEST), the file's bytes, the expected lines. Each write vector: a comment, the header,
-the nine lists, the room, the expected lines. `vectors/make` turns them into the input and the expected output of crates/vectors_file.
+the nine lists, the room, the expected lines. `vectors/make` turns them into input and expected output of crates/vectors.
 
 What the program prints:
   a refusal:  refused N P changed C        C: entries of lent lists, or bytes of the lent buffer, that are not as they were
@@ -156,7 +156,7 @@ read('no list is needed', SMALL,
      ['locations 1 initial 0 timers 0 accepting 0 transitions 0 beyond 0', 'written 14 0100000009000100000000000000 next aa'], [0] * 9)
 
 
-# ---- the writer: the header (locations, initial, timers, accepting, transitions), the nine lists, the room
+# ---- the writer: header (locations, initial, timers, accepting, transitions), the nine lists, the room
 def write(comment, header, lists, room, lines):
     WRITE.append((comment, header, lists, room, lines if isinstance(lines, list) else [lines]))
 

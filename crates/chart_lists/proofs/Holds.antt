@@ -1,12 +1,10 @@
 -- Lists that hold a chart: its own do, and so do lists over whose fronts its own were written; and how long the chart's own are. Assumes nothing.
-use mathlib.Core.Path.{_≡_, refl, ap}
-use mathlib.Core.List.{List, map}
+use mathlib.Core.Path.{_≡_, ap}
 use Prim.Native.Nat.{ℕ}
 use lib.ListN.{length, length-map}
 use Rattle.model.specs.Chart.{Chart}
 use Rattle.model.specs.Valid.{Valid}
-use Rattle.chart_lists.specs.Lists.{Lists, allTests, listsOf, put, putLists}
-use Rattle.chart_lists.specs.Begins.{Begins}
+use Rattle.chart_lists.specs.Lists.{Lists, allTests, listsOf, putLists}
 use Rattle.chart_lists.specs.Holds.{Holds}
 use Rattle.chart_lists.proofs.Begins.{begins-self, begins-put}
 

@@ -9,3 +9,7 @@ mostTimers = 64
 
 abbrev pub mostTransitions : ℕ
 mostTransitions = 512
+
+-- tests of all transitions
+abbrev pub mostTests : ℕ
+mostTests = 4096

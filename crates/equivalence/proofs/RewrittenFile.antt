@@ -19,8 +19,9 @@ use Rattle.file_format.specs.File.{chartIn, fileOf}
 use Rattle.file_format.specs.Lengths.{largestFile}
 use Rattle.file_format.proofs.File.{reads-valid}
 use Rattle.file_format.proofs.Lengths.{largest-file}
+use Rattle.chart_lists.specs.Lists.{overwritten}
 use Rattle.chart_lists.proofs.Begins.{begins-put, begins-take, begins-room}
-use Rattle.rewriting.specs.Rewriting.{Figures, figuresOf, rewriteInto, rewriteAnswer, bufferAfter}
+use Rattle.rewriting.specs.Rewriting.{newFile, RewritingValues, valuesOf, rewriteInto, rewriteAnswer}
 use Rattle.player.specs.Playing.{playAnswer, playedAs}
 use Rattle.equivalence.specs.Both.{Claim, boardAnswer, boardAs}
 use Rattle.equivalence.specs.declared.Both.{Both}
@@ -37,7 +38,7 @@ module _ (K : ℕ) where
       rw (le-leb (length (fileOf (x .chart))) largestFile fits) refl
   room-for c valid (refused n p) e = refl
 
-  room-enough : (bs : List ℕ) → Bytes bs → rewriteInto K largestFile bs ≡ then (chartIn bs) (rewriting K)
+  pub room-enough : (bs : List ℕ) → Bytes bs → rewriteInto K largestFile bs ≡ then (chartIn bs) (rewriting K)
   unfolding rewriteInto
   room-enough bs bytes = go (chartIn bs) refl
     where
@@ -52,7 +53,6 @@ unfolding boardAnswer
 claim-of K bs v w is ts r bytes d b = record {
   drawn = d;
   board = b;
-  room = room-enough K bs bytes;
   alike = λ c x reads e p q. b ∙ rw e (ap result (sym (first-fit-plays K largestFile bs bytes c reads x e v w is ts p q) ∙ sym d));
 }
 
@@ -65,14 +65,14 @@ module _ (K : ℕ) (bs : List ℕ) where
     pub front-is : take n out ≡ fileOf (rewriting-is .chart)
 
   pub left : (u n : ℕ) (out : List ℕ) → result (record { used = u; length = n }) ≡ rewriteAnswer K largestFile bs
-      → out ≡ bufferAfter (rewriteInto K largestFile bs) (replicate largestFile 0) → Left n out
-  unfolding rewriteAnswer figuresOf
+      → out ≡ overwritten newFile (rewriteInto K largestFile bs) (replicate largestFile 0) → Left n out
+  unfolding rewriteAnswer valuesOf
   left u n out e f = go (rewriteInto K largestFile bs) refl e f
     where
-      go : (y : Answer Rewriting) → rewriteInto K largestFile bs ≡ y → result (record { used = u; length = n }) ≡ then y (λ x. result (figuresOf x))
-          → out ≡ bufferAfter y (replicate largestFile 0) → Left n out
+      go : (y : Answer Rewriting) → rewriteInto K largestFile bs ≡ y → result (record { used = u; length = n }) ≡ then y (λ x. result (valuesOf x))
+          → out ≡ overwritten newFile y (replicate largestFile 0) → Left n out
       go (result x) q e f =
-          let l : n ≡ length (fileOf (x .chart)) = ap (λ (y : Figures). y .length) (result-same e) in
+          let l : n ≡ length (fileOf (x .chart)) = ap (λ (y : RewritingValues). y .length) (result-same e) in
           let b = begins-put (fileOf (x .chart)) (replicate largestFile 0) f in
           record { rewriting-is = x; made = q; room = omega (arith, begins-room b); front-is = begins-take b l }
       go (refused m p) q e f = absurd (not-result (sym e))
@@ -82,7 +82,7 @@ module _ (K : ℕ) (bs : List ℕ) where
     unfolding rewriteAnswer boardAnswer
     board-refused {n} {p} e = go (rewriteInto K largestFile bs) e
       where
-        go : (y : Answer Rewriting) → refused n p ≡ then y (λ x. result (figuresOf x))
+        go : (y : Answer Rewriting) → refused n p ≡ then y (λ x. result (valuesOf x))
             → refused n p ≡ then y (λ x. result (playAnswer (fileOf (x .chart)) w is ts))
         go (result x) e = absurd (not-result e)
         go (refused m i) e = let z = refused-same e in ap₂ refused (z .0) (z .1)

@@ -5,7 +5,7 @@ use Prim.Native.Nat.{ℕ}
 use Rattle.model.specs.Answer.{Answer, result, then}
 use Rattle.model.specs.Chart.{Chart}
 use Rattle.model.specs.Player.{Arrival}
-use Rattle.model.specs.Judge.{Rewriting, rewriting}
+use Rattle.model.specs.Judge.{Rewriting}
 use Rattle.model.specs.PlayerTerms.{CountsAllowed}
 use Rattle.file_format.specs.File.{chartIn, fileOf}
 use Rattle.file_format.specs.Lengths.{largestFile}
@@ -26,11 +26,9 @@ boardAs (board.Played p) = result (playedAs p)
 boardAs (board.NotRewritten f) = refusedAs f
 
 -- Demand 3 on files. The first answer is the player's on the file, the second the player's on the bytes that the rewriting returns, or the
--- rewriting's refusal, which is never 21: there is room for every file that it returns. Where the rewriting succeeds and 12 allows both lists of
--- counts, the two are equal: one claim about whole step lists.
+-- rewriting's refusal. Where the rewriting succeeds and 12 allows both lists of counts, the two are equal: one claim about whole step lists.
 pub record Claim (K : ℕ) (bs v w is ts : List ℕ) (r : Both) : Type 0 where
   pub drawn : playedAs (r .drawn) ≡ playAnswer bs v is ts
   pub board : boardAs (r .board) ≡ boardAnswer K bs w is ts
-  pub room : rewriteInto K largestFile bs ≡ then (chartIn bs) (rewriting K)
   pub alike : (c : Chart) (x : Rewriting) → chartIn bs ≡ result c → rewriteInto K largestFile bs ≡ result x
       → CountsAllowed c v → CountsAllowed (x .chart) w → boardAs (r .board) ≡ result (playedAs (r .drawn))

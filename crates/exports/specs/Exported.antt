@@ -13,7 +13,7 @@ abbrev pub analysisOf : Answer analysis.AnalysisValues → «chart_analysis»
 analysisOf (result f) = record { number = 0; place = 0; used = f .used; floor = f .floor }
 analysisOf (refused n p) = record { number = n; place = p; used = 0; floor = 0 }
 
-abbrev pub rewritingOf : Answer rewriting.Figures → «chart_rewriting»
+abbrev pub rewritingOf : Answer rewriting.RewritingValues → «chart_rewriting»
 rewritingOf (result f) = record { number = 0; place = 0; used = f .used; length = f .length }
 rewritingOf (refused n p) = record { number = n; place = p; used = 0; length = 0 }
 

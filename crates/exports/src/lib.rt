@@ -4,7 +4,7 @@ ghost use lib.ListN.{length};
 ghost use Rattle.model.specs.Live.{liveSets};
 ghost use Rattle.chart_lists.specs.Lists.{overwritten};
 ghost use Rattle.analysis.specs.Analysing.{analysedIn, analyseAnswer};
-ghost use Rattle.rewriting.specs.Rewriting.{rewriteInto, rewriteAnswer, bufferAfter};
+ghost use Rattle.rewriting.specs.Rewriting.{newFile, rewriteInto, rewriteAnswer};
 ghost use Rattle.player.specs.Playing.{playAnswer};
 ghost use Rattle.exports.specs.Exported.{analysisOf, rewritingOf, playingOf};
 use analysis::Analysis;
@@ -67,7 +67,8 @@ pub extern "C" fn chart_analyse(file: &[u8], live: &mut [u64]) -> chart_analysis
 #[no_mangle]
 pub extern "C" fn chart_rewrite(file: &[u8], k: u32, out: &mut [u8]) -> chart_rewriting
     ensures answer { λ r. ⌜ r ≡ rewritingOf (rewriteAnswer k (length (now (out .entry))) (now (file .entry))) ⌝ }
-    ensures lent { λ _. ⌜ now (out .exit) ≡ bufferAfter (rewriteInto k (length (now (out .entry))) (now (file .entry))) (now (out .entry)) ⌝ }
+    ensures lent { λ _. ⌜ now (out .exit)
+        ≡ overwritten newFile (rewriteInto k (length (now (out .entry))) (now (file .entry))) (now (out .entry)) ⌝ }
 {
     let a = rewriting::rewrite(file, k, out);
     match a {

@@ -18,7 +18,8 @@ pub told : {A R : Type 0} (m : R → Parsed A) {r q : R} {a : Parsed A} → r �
 told m e k = sym k ∙ ap m e
 
 -- the same where the answer is refused and its refusal is taken from it
-pub turned : (s : List ℕ) {a : Field} {f r : Refusal} {p : Parsed ℕ} → a ≡ field.Refused f → r ≡ refusalOf a → fieldAs s a ≡ p → p ≡ refusalAs r
+pub turned : (s : List ℕ) {a : Field} {f r : Refusal} {p : Parsed ℕ} → a ≡ field.Refused f → r ≡ refusalOf a → fieldAs s a ≡ p
+    → p ≡ refusalAs r
 turned s e k h = told (fieldAs s) e h ∙ ap refusalAs (ap refusalOf (sym e) ∙ sym k)
 
 same-value : {x y n m : ℕ} → field.Value x n ≡ field.Value y m → x ≡ y
@@ -43,12 +44,16 @@ shifted h l p b =
     omega arith
 
 -- one byte more after v
-one-more : (v h : ℕ) (x : Parsed ℕ) → bind (bind x (λ l u. value (h * 256 ^ v + l) u)) (λ high t. bind (byte t) (λ low u. value (high * 256 + low) u))
-    ≡ bind (bind x (λ high t. bind (byte t) (λ low u. value (high * 256 + low) u))) (λ l u. value (h * 256 ^ suc v + l) u)
+abbrev nextByte : ℕ → List ℕ → Parsed ℕ
+nextByte high t = bind (byte t) (λ low u. value (high * 256 + low) u)
+
+one-more : (v h : ℕ) (x : Parsed ℕ)
+    → bind (bind x (λ l u. value (h * 256 ^ v + l) u)) nextByte ≡ bind (bind x nextByte) (λ l u. value (h * 256 ^ suc v + l) u)
 one-more v h (refusal n p) = refl
 one-more v h (value l t) = go (byte t)
   where
-    go : (y : Parsed ℕ) → bind y (λ low u. value ((h * 256 ^ v + l) * 256 + low) u) ≡ bind (bind y (λ low u. value (l * 256 + low) u)) (λ m u. value (h * 256 ^ suc v + m) u)
+    go : (y : Parsed ℕ) → bind y (λ low u. value ((h * 256 ^ v + l) * 256 + low) u)
+        ≡ bind (bind y (λ low u. value (l * 256 + low) u)) (λ m u. value (h * 256 ^ suc v + m) u)
     go (refusal n p) = refl
     go (value b u) = rw (pow-suc, shifted h l (256 ^ v) b)
 
@@ -61,8 +66,8 @@ number-add w zero bs = rw add-zero (go (number w bs))
     go (value h t) = simp (mul-one, add-zero)
 number-add w (suc v) bs = rw (add-suc, number-add w v bs) (go (number w bs))
   where
-    go : (x : Parsed ℕ) → bind (bind x (λ h t. bind (number v t) (λ l u. value (h * 256 ^ v + l) u))) (λ high t. bind (byte t) (λ low u. value (high * 256 + low) u))
-        ≡ bind x (λ h t. bind (bind (number v t) (λ high t. bind (byte t) (λ low u. value (high * 256 + low) u))) (λ l u. value (h * 256 ^ suc v + l) u))
+    go : (x : Parsed ℕ) → bind (bind x (λ h t. bind (number v t) (λ l u. value (h * 256 ^ v + l) u))) nextByte
+        ≡ bind x (λ h t. bind (bind (number v t) nextByte) (λ l u. value (h * 256 ^ suc v + l) u))
     go (refusal n p) = refl
     go (value h t) = one-more v h (number v t)
 

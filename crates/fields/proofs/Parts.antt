@@ -23,7 +23,8 @@ module _ {A B C : Type 0} where
   step (value a t) k l m f = f a t
   step (refusal n p) k l m f = refl
 
-step-guard : {B C : Type 0} (c : Bool) (n p : ℕ) (y : Parsed B) (l : B → List ℕ → Parsed C) (x : Parsed C) → x ≡ bind y l → guard c n p x ≡ bind (guard c n p y) l
+step-guard : {B C : Type 0} (c : Bool) (n p : ℕ) (y : Parsed B) (l : B → List ℕ → Parsed C) (x : Parsed C) → x ≡ bind y l
+    → guard c n p x ≡ bind (guard c n p y) l
 step-guard true n p y l x e = e
 step-guard false n p y l x e = refl
 
@@ -57,7 +58,8 @@ module _ (W locations timers i : ℕ) where
   abbrev afterFront : Front → List ℕ → Parsed Transition
   afterFront f b = bind (readTests W timers i (f .tests) b) (λ ts u. value (made f ts) u)
 
-  transition-ends : (bs : List ℕ) → readTransition W locations timers i bs ≡ bind (readEnds locations i bs) (λ e b. bind (frontRest e b) afterFront)
+  transition-ends : (bs : List ℕ)
+      → readTransition W locations timers i bs ≡ bind (readEnds locations i bs) (λ e b. bind (frontRest e b) afterFront)
   unfolding readTransition readEnds
   transition-ends bs =
       step (number 2 bs) _ _ _ (λ len b₁.
@@ -107,7 +109,8 @@ module _ (W locations timers i : ℕ) (bs : List ℕ) where
 
   pub transition-parts : (r : Transition) (u : List ℕ) → transition ≡ value r u → Parts W locations timers i bs r u
   transition-parts r u e =
-      let j = bind-value (readFront W locations timers i bs) (afterFront W locations timers i) r u (sym (transition-front W locations timers i bs) ∙ e) in
+      let z = sym (transition-front W locations timers i bs) ∙ e in
+      let j = bind-value (readFront W locations timers i bs) (afterFront W locations timers i) r u z in
       let k = kept-value (made (j .0)) (readTests W timers i (j .0 .tests) (j .1)) (j .3) in
       subst (λ (x : Transition). Parts W locations timers i bs x u) (k .2) (made-parts (j .0) (j .1) (k .0) u (j .2) (k .1))
 
@@ -137,7 +140,8 @@ module _ (W locations timers i : ℕ) (bs : List ℕ) where
 
 -- ---- a record has at most 8 tests
 
-pub head-at-most : (W locations timers i : ℕ) (bs : List ℕ) {h : Head} {b : List ℕ} → readHead W locations timers i bs ≡ value h b → h .tests ≤ 8
+pub head-at-most : (W locations timers i : ℕ) (bs : List ℕ) {h : Head} {b : List ℕ} → readHead W locations timers i bs ≡ value h b
+    → h .tests ≤ 8
 unfolding readHead
 head-at-most W locations timers i bs {h} {b} e =
     let i₁ = bind-value (readEnds locations i bs) _ h b e in

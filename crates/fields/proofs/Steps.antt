@@ -33,7 +33,8 @@ module _ (W timers i : ℕ) (bs : List ℕ) where
         unfolding readTest readComparison
         test-constant x = rw (e₀, e₁, e₂, x)
 
-        pub test-whole : {k : ℕ} {b₃ : List ℕ} → number W b₂ ≡ value k b₃ → value (record { timer = j; comparison = c; constant = k }) b₃ ≡ readTest W timers i bs
+        pub test-whole : {k : ℕ} {b₃ : List ℕ} → number W b₂ ≡ value k b₃
+            → value (record { timer = j; comparison = c; constant = k }) b₃ ≡ readTest W timers i bs
         unfolding readTest readComparison
         test-whole x = rw (e₀, e₁, e₂, x)
 

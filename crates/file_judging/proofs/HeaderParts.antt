@@ -42,7 +42,8 @@ module _ (bs : List ℕ) where
           unfolding readLimits
           limits-accepting e = rw (e₀, le-leb 1 l some, e₁, e₂, e)
 
-          pub limits-found : {a : ℕ} {b₄ : List ℕ} → number 2 b₃ ≡ value a b₄ → value (record { locations = l; initial = q; timers = k; accepting = a }) b₄ ≡ readLimits bs
+          pub limits-found : {a : ℕ} {b₄ : List ℕ} → number 2 b₃ ≡ value a b₄
+              → value (record { locations = l; initial = q; timers = k; accepting = a }) b₄ ≡ readLimits bs
           unfolding readLimits
           limits-found e = rw (e₀, le-leb 1 l some, e₁, e₂, e)
 
@@ -60,7 +61,8 @@ module _ (l q k a : ℕ) (bs : List ℕ) where
 
 -- ---- the parts make up the header
 
-bind-bind : {A B C : Type 0} (x : Parsed A) (f : A → List ℕ → Parsed B) (g : B → List ℕ → Parsed C) → bind (bind x f) g ≡ bind x (λ a t. bind (f a t) g)
+bind-bind : {A B C : Type 0} (x : Parsed A) (f : A → List ℕ → Parsed B) (g : B → List ℕ → Parsed C)
+    → bind (bind x f) g ≡ bind x (λ a t. bind (f a t) g)
 bind-bind (value a t) f g = refl
 bind-bind (refusal n p) f g = refl
 
@@ -106,10 +108,14 @@ module _ (bs : List ℕ) where
         let q = accepting-length _ _ _ (f .1) in
         rw (← header-parts bs, e₀, f .1) (go (f .0) q (below 2 513 4 nowhere b₂))
       where
+        chartWith : ℕ → Header
+        chartWith n = record { locations = l .locations; initial = l .initial; timers = l .timers; accepting = l .accepting; transitions = n }
+
+        fileWith : List ℕ → ℕ → FileHeader
+        fileWith xs n = record { locations = l .locations; initial = l .initial; timers = l .timers; accepting = xs; count = n }
+
         go : (xs : List ℕ) → length xs ≡ l .accepting → (y : Parsed ℕ)
-            → bind y (λ n t. value (record { locations = l .locations; initial = l .initial; timers = l .timers; accepting = l .accepting; transitions = n }) t)
-            ≡ bind (bind y (λ n t. value (record { locations = l .locations; initial = l .initial; timers = l .timers; accepting = xs; count = n }) t))
-            (λ h t. value (chartHeader h) t)
+            → bind y (λ n t. value (chartWith n) t) ≡ bind (bind y (λ n t. value (fileWith xs n) t)) (λ h t. value (chartHeader h) t)
         go xs q (value n t) = rw q
         go xs q (refusal n p) = refl
 

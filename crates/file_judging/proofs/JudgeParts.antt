@@ -17,8 +17,8 @@ use Rattle.file_format.proofs.Items.{many-length}
 use Rattle.file_judging.specs.Parts.{chartHeader, skipHeader, skipTransitions}
 use Rattle.file_judging.specs.Meaning.{ChartIs}
 
-pub transitions-length : (locations timers n : ℕ) (bs : List ℕ) {rs : List Transition} {t : List ℕ} → readTransitions 2 locations timers n bs ≡ value rs t
-    → length rs ≡ n
+pub transitions-length : (locations timers n : ℕ) (bs : List ℕ) {rs : List Transition} {t : List ℕ}
+    → readTransitions 2 locations timers n bs ≡ value rs t → length rs ≡ n
 unfolding readTransitions
 transitions-length locations timers n bs {rs} {t} e =
     many-length (λ (i : ℕ) (r : Transition). suc i) (readTransition 2 locations timers) 0 n bs rs t e
@@ -48,7 +48,8 @@ module _ (s : List ℕ) where
       as-header {x} e =
           subst (λ (y : Header). readTransitions 2 (y .locations) (y .timers) (y .transitions) rest ≡ x) (sym (header-found .2)) e
 
-      pub judge-transitions : {n p : ℕ} → skipTransitions 2 (m .locations) (m .timers) (m .transitions) rest ≡ refusal n p → chartIn s ≡ refused n p
+      pub judge-transitions : {n p : ℕ} → skipTransitions 2 (m .locations) (m .timers) (m .transitions) rest ≡ refusal n p
+          → chartIn s ≡ refused n p
       unfolding chartIn readFile readBody skipTransitions
       judge-transitions e =
           let k = as-header (kept-refused (λ (rs : List Transition). length (allTests rs)) records e) in

@@ -70,9 +70,12 @@ module _ {locations timers n i tests : ℕ} {start bs : List ℕ} (p : TestsCoun
   module _ (h : i < n) where
     pub counted-refused : {m q : ℕ} → skipTransition 2 locations timers i bs ≡ refusal m q → refusal m q ≡ skipTransitions 2 locations timers n start
     unfolding skipTransition skipTransitions
-    counted-refused e = let k = kept-refused (λ (r : Transition). length (r .tests)) (readTransition 2 locations timers i bs) e in rw (turn-refused (p .turn) h k)
+    counted-refused e =
+        let k = kept-refused (λ (r : Transition). length (r .tests)) (readTransition 2 locations timers i bs) e in
+        rw (turn-refused (p .turn) h k)
 
-    unfoldable pub counted-again : {g : ℕ} {t : List ℕ} → skipTransition 2 locations timers i bs ≡ value g t → TestsCounted locations timers n (i + 1) (tests + g) start t
+    unfoldable pub counted-again : {g : ℕ} {t : List ℕ} → skipTransition 2 locations timers i bs ≡ value g t
+        → TestsCounted locations timers n (i + 1) (tests + g) start t
     unfolding skipTransition
     counted-again {g} {t} e =
         let k = kept-value (λ (r : Transition). length (r .tests)) (readTransition 2 locations timers i bs) e in

@@ -30,5 +30,6 @@ module _ {W timers place : ℕ} {s : List ℕ} {at g here k : ℕ} (h : Skipping
     unfolding skipTests
     tests-refused e = rw (turn-refused (h .turn) l e)
 
-    unfoldable pub tests-again : {t : Test} {next : ℕ} → readTest W timers place (drop here s) ≡ value t (drop next s) → Skipping W timers place s at g next (k + 1)
+    unfoldable pub tests-again : {t : Test} {next : ℕ} → readTest W timers place (drop here s) ≡ value t (drop next s)
+        → Skipping W timers place s at g next (k + 1)
     tests-again {t} e = record { done = h .done ++ (t ∷ []); turn = turn-again (h .turn) l e }

@@ -48,7 +48,7 @@ pub fn limits_at(s: &[u8], at: usize) -> LimitsField
         return LimitsField::Refused(fields::refusal_of(a));
     };
     if locations < 1 {
-        return LimitsField::Refused(refusal::WRONG_COUNT);
+        return LimitsField::Refused(refusal::TOO_MANY);
     }
     let b = fields::pair_below(s, at1, locations, 5, refusal::NOWHERE);
     let Field::Value(initial, at2) = b else {
@@ -85,7 +85,7 @@ pub fn entry_at(s: &[u8], at: usize, locations: u16, lowest: u64) -> Field
     a
 }
 
-// The accepting locations, judged and passed over.
+// The accepting locations, judged and skipped.
 fn skip_accepting(s: &[u8], at: usize, n: u16, locations: u16) -> Field
     ensures { λ r. ⌜ fieldAs (now (s .entry)) r ≡ skipAccepting locations n (drop at (now (s .entry))) ⌝ }
 {

@@ -12,7 +12,7 @@ use Rattle.lists.proofs.Bools.{and-left, and-right}
 use Rattle.model.specs.Answer.{result}
 use Rattle.model.specs.Chart.{Chart}
 use Rattle.chart_lists.specs.declared.Header.{Header}
-use Rattle.chart_lists.specs.Lists.{Lists, listsOf, roomFor, allTests}
+use Rattle.chart_lists.specs.Lists.{Lists, listsOf, roomFor}
 use Rattle.chart_lists.proofs.Holds.{sources-each, targets-each, events-each, starts-each, test-counts-each, timers-each, codes-each, constants-each}
 use Rattle.file_format.specs.Parse.{value}
 use Rattle.file_format.specs.Body.{FileHeader, readHeader, readTransitions, isEnd, chartOf, readBody}
@@ -22,9 +22,9 @@ use Rattle.file_format.proofs.Answers.{answered-result}
 use Rattle.file_judging.specs.Parts.{chartHeader, skipHeader}
 use Rattle.file_judging.proofs.HeaderParts.{header-few}
 use Rattle.file_judging.proofs.JudgeParts.{transitions-length}
-use Rattle.filling.specs.Filling.{LargestLists, RoomToFill}
+use Rattle.filling.specs.Filling.{RoomToFill}
 use Rattle.filling.specs.Filling.RoomToFill.{for-every, for-this}
-use Rattle.filling.specs.Parts.{AcceptingFit, Enough, TestsFit}
+use Rattle.filling.specs.Parts.{AcceptingFit, TestsFit}
 use Rattle.filling.specs.Parts.AcceptingFit.{of-any as accepting-any, of-this}
 use Rattle.filling.specs.Parts.TestsFit.{of-any as tests-any, of-these}
 
@@ -130,16 +130,21 @@ module _ (s : List ℕ) {body : List ℕ} (e₀ : judgeFrame 1 (readFrame s) ≡
 
     module _ {m : Header} {left : List ℕ} (e₁ : skipHeader body ≡ value m left) where
       -- room for one entry of each transition
-      abbrev Each : ℕ → ℕ → ℕ → ℕ → ℕ → ℕ → Type 0
-      Each n a b c d e = (n ≤ a) × (n ≤ b) × (n ≤ c) × (n ≤ d) × (n ≤ e)
+      abbrev Each : ℕ → Type 0
+      Each n =
+          (n ≤ length (l .sources)) × (n ≤ length (l .targets)) × (n ≤ length (l .events)) × (n ≤ length (l .starts)) × (n ≤ length (l .test-counts))
 
-      pub heads-fit : Each (m .transitions) (length (l .sources)) (length (l .targets)) (length (l .events)) (length (l .starts)) (length (l .test-counts))
+      pub heads-fit : Each (m .transitions)
       heads-fit = go room
         where
-          go : RoomToFill s l
-              → Each (m .transitions) (length (l .sources)) (length (l .targets)) (length (l .events)) (length (l .starts)) (length (l .test-counts))
-          go (for-every r) = let f = header-few body e₁ .transitions in
-              (omega (arith, r .sources), omega (arith, r .targets), omega (arith, r .events), omega (arith, r .starts), omega (arith, r .test-counts))
+          go : RoomToFill s l → Each (m .transitions)
+          go (for-every r) = let f = header-few body e₁ .transitions in (
+            omega (arith, r .sources),
+            omega (arith, r .targets),
+            omega (arith, r .events),
+            omega (arith, r .starts),
+            omega (arith, r .test-counts),
+          )
           go (for-this c e r) = let f = room-fits (listsOf c) l r in let n = count-is e e₁ in (
             omega (arith, f .sources, sources-each c),
             omega (arith, f .targets, targets-each c),
@@ -151,7 +156,8 @@ module _ (s : List ℕ) {body : List ℕ} (e₀ : judgeFrame 1 (readFrame s) ≡
       pub tests-fit : TestsFit (m .locations) (m .timers) (m .transitions) left (length (l .timers)) (length (l .codes)) (length (l .constants))
       tests-fit = go room
         where
-          go : RoomToFill s l → TestsFit (m .locations) (m .timers) (m .transitions) left (length (l .timers)) (length (l .codes)) (length (l .constants))
+          go : RoomToFill s l
+              → TestsFit (m .locations) (m .timers) (m .transitions) left (length (l .timers)) (length (l .codes)) (length (l .constants))
           go (for-every r) = let f = header-few body e₁ .transitions in
               tests-any (record { timers = omega (arith, r .timers); codes = omega (arith, r .codes); constants = omega (arith, r .constants) })
           go (for-this c e r) = let f = room-fits (listsOf c) l r in let k = transitions-are e e₁ in

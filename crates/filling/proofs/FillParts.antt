@@ -4,7 +4,7 @@ use mathlib.Core.Bool.{Bool, true, false}
 use mathlib.Core.List.{List}
 use Prim.Native.Nat.{ℕ}
 use lib.ListN.{drop}
-use Rattle.model.specs.Answer.{Answer, result, refused}
+use Rattle.model.specs.Answer.{result, refused}
 use Rattle.model.specs.Chart.{Transition, Chart}
 use Rattle.chart_lists.specs.declared.Header.{Header}
 use Rattle.chart_lists.specs.Lists.{Lists, lists, listsOf, put, putLists, allTests}

@@ -6,7 +6,7 @@ use mathlib.Core.List.{List, [], _∷_, _++_}
 use Prim.Native.Nat.{ℕ, _+_, _*_, _≤_, _<_}
 use native.Mathlib.Nat.{zero-add}
 use native.Mathlib.Omega.{arith}
-use lib.ListN.{length, drop, set, length-append}
+use lib.ListN.{length, set, length-append}
 use Rattle.model.specs.Chart.{Transition}
 use Rattle.model.specs.Live.{startsSet}
 use Rattle.chart_lists.specs.Lists.{allTests}
@@ -20,7 +20,7 @@ use Rattle.fields.specs.Parts.{Head, headOf, readHead}
 use Rattle.fields.proofs.Parts.{transition-parts, head-at-most}
 use Rattle.file_judging.specs.Parts.{skipTransition}
 use Rattle.file_judging.proofs.Loops.{TestsCounted, counted-first, counted-again}
-use Rattle.filling.specs.Parts.{Enough, RecordFits, TestsFit, HeadStored, HeadsStored, TestsStored}
+use Rattle.filling.specs.Parts.{RecordFits, TestsFit, HeadStored, HeadsStored, TestsStored}
 use Rattle.filling.specs.Parts.TestsFit.{of-any, of-these}
 use Rattle.filling.proofs.Store.{stored-none, stored-after}
 

@@ -49,13 +49,14 @@ module _ (base : ℕ) (a b c : List ℕ) (ra : base ≤ length a) (rb : base ≤
       constants = next (λ (t : Test). t .constant) t c c′ rc hc e (f .constants);
     }
 
-    after : (m : Test → ℕ) (us : List Test) (l o o′ : List ℕ) {k : ℕ} → base ≤ length l → base + length ts ≡ k → o ≡ putAt base (map m ts) l → o′ ≡ putAt k (map m us) o
-        → o′ ≡ putAt base (map m (ts ++ us)) l
+    after : (m : Test → ℕ) (us : List Test) (l o o′ : List ℕ) {k : ℕ} → base ≤ length l → base + length ts ≡ k
+        → o ≡ putAt base (map m ts) l → o′ ≡ putAt k (map m us) o → o′ ≡ putAt base (map m (ts ++ us)) l
     after m us l o o′ r e p q =
         let n : base + length (map m ts) ≡ _ = ap (λ (n : ℕ). base + n) (length-map ts m) ∙ e in
         rw (map-append, q, p, ← n) (putAt-then base l r (map m ts) (map m us))
 
-    pub stored-after : (us : List Test) {k : ℕ} {a″ b″ c″ : List ℕ} → base + length ts ≡ k → TestsStored us k a′ b′ c′ a″ b″ c″ → TestsStored (ts ++ us) base a b c a″ b″ c″
+    pub stored-after : (us : List Test) {k : ℕ} {a″ b″ c″ : List ℕ} → base + length ts ≡ k → TestsStored us k a′ b′ c′ a″ b″ c″
+        → TestsStored (ts ++ us) base a b c a″ b″ c″
     stored-after us e g = record {
       timers = after (λ (t : Test). t .timer) us a a′ _ ra e (f .timers) (g .timers);
       codes = after (λ (t : Test). codeOf (t .comparison)) us b b′ _ rb e (f .codes) (g .codes);

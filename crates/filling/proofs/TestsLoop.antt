@@ -25,7 +25,10 @@ module _ (timers place : ℕ) (s : List ℕ) (at g base : ℕ) (a b c : List ℕ
     (ra : base + g ≤ length a) (rb : base + g ≤ length b) (rc : base + g ≤ length c) where
   pub tests-begin : TestsFilled timers place s at g base at 0 a b c a b c
   unfolding skipping.tests-begin
-  tests-begin = record { read = skipping.tests-begin 2 timers place s at g; stored = stored-none base a b c (omega arith) (omega arith) (omega arith) }
+  tests-begin = record {
+    read = skipping.tests-begin 2 timers place s at g;
+    stored = stored-none base a b c (omega arith) (omega arith) (omega arith);
+  }
 
   module _ {here k : ℕ} {a′ b′ c′ : List ℕ} (f : TestsFilled timers place s at g base here k a b c a′ b′ c′) where
     pub tests-done : g ≤ k → (ts : List Test) (t : List ℕ) → readTests 2 timers place g (drop at s) ≡ value ts t → TestsStored ts base a b c a′ b′ c′

@@ -7,6 +7,7 @@ use lib.ListN.{length}
 use Rattle.model.specs.Answer.{Answer, result, then}
 use Rattle.model.specs.Chart.{Chart}
 use Rattle.file_format.specs.File.{chartIn}
+use Rattle.chart_lists.specs.Limits.{mostLocations, mostTransitions, mostTests}
 use Rattle.chart_lists.specs.Lists.{Lists, listsOf, roomFor}
 use Rattle.chart_lists.specs.declared.Header.{Header}
 use Rattle.chart_lists.specs.Header.{headerOf}
@@ -17,15 +18,15 @@ headerRead bs = then (chartIn bs) (λ c. result (headerOf c))
 
 -- lists that have room for every chart
 pub record LargestLists (l : Lists) : Type 0 where
-  pub accepting : 256 ≤ length (l .accepting)
-  pub sources : 512 ≤ length (l .sources)
-  pub targets : 512 ≤ length (l .targets)
-  pub events : 512 ≤ length (l .events)
-  pub starts : 512 ≤ length (l .starts)
-  pub test-counts : 512 ≤ length (l .test-counts)
-  pub timers : 4096 ≤ length (l .timers)
-  pub codes : 4096 ≤ length (l .codes)
-  pub constants : 4096 ≤ length (l .constants)
+  pub accepting : mostLocations ≤ length (l .accepting)
+  pub sources : mostTransitions ≤ length (l .sources)
+  pub targets : mostTransitions ≤ length (l .targets)
+  pub events : mostTransitions ≤ length (l .events)
+  pub starts : mostTransitions ≤ length (l .starts)
+  pub test-counts : mostTransitions ≤ length (l .test-counts)
+  pub timers : mostTests ≤ length (l .timers)
+  pub codes : mostTests ≤ length (l .codes)
+  pub constants : mostTests ≤ length (l .constants)
 
 -- what is asked of the lists: room for every chart, or for the file's own
 pub data RoomToFill (bs : List ℕ) (l : Lists) : Type 0 where

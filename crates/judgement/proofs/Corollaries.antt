@@ -90,7 +90,9 @@ module _ (bs : List ℕ) where
         of : {d : Chart} → Valid 2 d → judged d ≡ refused n p → Judgement d → RefusalOfJudgement n p
         of v f (is-unreached q g l) = let k : p ≡ q = cc in of-unreached (cc) (omega (arith, l .below, v .few-locations))
         of {d} v f (is-unstarted i g l) =
-            let k : p ≡ i = cc in of-unstarted (cc) (omega (arith, below-nth (d .transitions) i (l .unstarted-test .is-nth .there), v .few-transitions))
+            let k : p ≡ i = cc in
+            let b = below-nth (d .transitions) i (l .unstarted-test .is-nth .there) in
+            of-unstarted (cc) (omega (arith, v .few-transitions))
         of v f (is-accepted g a) = absurd (result-refused g f)
 
         out : (x : Answer Chart) → chartIn bs ≡ x → RefusalOfJudgement n p

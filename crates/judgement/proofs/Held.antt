@@ -80,7 +80,10 @@ module _ {c : Chart} {m : Header} (e : m ≡ headerOf c) {sources targets starts
   pub few : m .transitions ≤ 512
   few = omega (arith, count-is, h .valid .few-transitions)
 
-  -- the parts that are lent
+  -- the front of a list that is lent
+  abbrev front : List ℕ → List ℕ
+  front l = take (m .transitions) l
+
   module _ {xs l : List ℕ} (each : length xs ≡ length (c .transitions)) (b : Begins xs l) where
     of-all : take (m .transitions) l ≡ xs
     of-all = begins-take b (count-is ∙ sym each)
@@ -126,7 +129,8 @@ module _ {c : Chart} {m : Header} (e : m ≡ headerOf c) {sources targets starts
   unfolding listsOf testedSets
   sets-in =
       let k = length (listsOf c .timers) in
-      let z : listsOf c .timers ++ drop k timers ≡ timers = ap (λ (y : List ℕ). y ++ drop k timers) (sym (h .timers .is)) ∙ take-append-drop k timers in
+      let z : listsOf c .timers ++ drop k timers ≡ timers =
+      ap (λ (y : List ℕ). y ++ drop k timers) (sym (h .timers .is)) ∙ take-append-drop k timers in
       rw (counts-are, ← z) (sets-are (c .transitions) (drop k timers))
 
   module _ (before : List ℕ) {tested : List ℕ} (t : tested ≡ put (setsIn (take (m .transitions) test-counts) timers) before) where
@@ -141,7 +145,7 @@ module _ {c : Chart} {m : Header} (e : m ≡ headerOf c) {sources targets starts
 
     -- ---- 9 and 10
 
-    pub lent-safe : SafeForward (m .initial) (m .locations) (take (m .transitions) sources) (take (m .transitions) targets) (take (m .transitions) starts)
+    pub lent-safe : SafeForward (m .initial) (m .locations) (front sources) (front targets) (front starts)
     unfolding headerOf
     lent-safe =
         let i : m .initial ≡ c .initial = ap (λ (k : Header). k .initial) e in
@@ -154,8 +158,7 @@ module _ {c : Chart} {m : Header} (e : m ≡ headerOf c) {sources targets starts
     same-parts = sym tested-part ∙ sources-part
 
     pub judged-lent : {a : Answer Header}
-        → a ≡ judgedLists m (take (m .transitions) sources) (take (m .transitions) targets) (take (m .transitions) starts) (take (m .transitions) tested)
-        → a ≡ headerJudged c
+        → a ≡ judgedLists m (front sources) (front targets) (front starts) (front tested) → a ≡ headerJudged c
     judged-lent q =
         let s = of-all (sources-each c) (h .sources) in
         let t = of-all (targets-each c) (h .targets) in

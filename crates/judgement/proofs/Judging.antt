@@ -9,7 +9,6 @@ use lib.Dec.{leb}
 use lib.ListN.{length, replicate}
 use borrow.Author.Tests.{lt-ltb, le-ltb, lt-leb, le-leb}
 use Rattle.lists.proofs.Bools.{lt-or-le}
-use Rattle.timer_set.specs.Members.{everyTimer}
 use Rattle.lists.specs.Lists.{lowest}
 use Rattle.model.specs.Answer.{result, refused, then, unless}
 use Rattle.model.specs.Chart.{Chart}
@@ -22,11 +21,10 @@ use Rattle.chart_lists.specs.Lists.{listsOf}
 use Rattle.chart_lists.specs.declared.Header.{Header}
 use Rattle.chart_lists.specs.Header.{headerOf}
 use Rattle.chart_lists.proofs.Holds.{sources-each}
-use Rattle.flow.specs.Edges.{flowOf}
-use Rattle.flow.proofs.ChartFlows.{initialSets, noneEach, unstarted-flow, reached-flow, unstarted-safe}
+use Rattle.flow.proofs.ChartFlows.{noneEach, unstarted-flow, reached-flow, unstarted-safe}
 use Rattle.judgement.specs.Judging.{headerJudged}
 use Rattle.judgement.specs.Tested.{testsAt}
-use Rattle.judgement.specs.Forward.{ownSets, forwardSets, SafeForward, firstEmpty, unreachedIn, judgedLists}
+use Rattle.judgement.specs.Forward.{forwardSets, SafeForward, firstEmpty, unreachedIn, judgedLists}
 use Rattle.judgement.proofs.Tested.{first-testing-is}
 use Rattle.judgement.proofs.Unreached.{unreached-by}
 
@@ -56,7 +54,8 @@ module _ {timers : ℕ} (initial : ℕ) (sources targets unstarted : List ℕ) w
   unreached-few h = rw (lt-ltb timers 64 h, unreachedIn)
 
   pub unreached-all : 64 ≤ timers
-      → firstEmpty (forwardSets initial (length unstarted) sources targets (replicate (length sources) 0)) ≡ unreachedIn timers initial sources targets unstarted
+      → firstEmpty (forwardSets initial (length unstarted) sources targets (replicate (length sources) 0))
+      ≡ unreachedIn timers initial sources targets unstarted
   unfolding unreachedIn
   unreached-all h = rw (le-ltb timers 64 h, unreachedIn)
 
@@ -78,7 +77,8 @@ module _ {W : ℕ} {c : Chart} (valid : Valid W c) where
   unfolding forwardSets unstartedSets
   unstarted-are = ap settled (rw none-each (unstarted-flow valid))
 
-  reached-are : forwardSets (c .initial) (c .locations) (listsOf c .sources) (listsOf c .targets) (replicate (length (listsOf c .sources)) 0) ≡ reachedSets c
+  reached-are : forwardSets (c .initial) (c .locations) (listsOf c .sources) (listsOf c .targets) (replicate (length (listsOf c .sources)) 0)
+      ≡ reachedSets c
   unfolding forwardSets reachedSets
   reached-are = ap settled (rw none-each (reached-flow valid))
 

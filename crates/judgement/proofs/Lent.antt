@@ -34,7 +34,8 @@ module _ {initial locations : ℕ} {sources targets cut : List ℕ} (d : SafeFor
   pub lent-safe : SafeForward initial (length {A = ℕ} (take locations (replicate 256 0))) sources targets cut
   lent-safe = rw lent-length d
 
-  module _ {sets : List ℕ} (e : sets ≡ forwardSets initial (length {A = ℕ} (take locations (replicate 256 0))) sources targets cut) (rest : List ℕ) where
+  module _ {sets : List ℕ} (e : sets ≡ forwardSets initial (length {A = ℕ} (take locations (replicate 256 0))) sources targets cut)
+      (rest : List ℕ) where
     made-sets : sets ≡ forwardSets initial locations sources targets cut
     made-sets = rw lent-length at e
 

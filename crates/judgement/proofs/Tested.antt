@@ -8,10 +8,9 @@ use native.Mathlib.Numerals.{add-one}
 use native.Mathlib.Omega.{arith}
 use lib.Dec.{eqb}
 use lib.ListN.{length, getD, take, drop, set, length-drop, length-map}
-use lib.Seq.{length-take-le, take-length, take-suc, take-at, drop-at, drop-drop, getD-drop}
+use lib.Seq.{length-take-le, take-suc, take-at, drop-at, drop-drop, getD-drop}
 use Rattle.timer_set.specs.Members.{added, common, setOf}
 use Rattle.lists.specs.Lists.{lowest, firstOf, sumOf}
-use Rattle.lists.proofs.Lowest.{lowest-is}
 use Rattle.model.specs.Chart.{Test, Transition}
 use Rattle.model.specs.Live.{testsSet, isEmpty}
 use Rattle.chart_lists.specs.Lists.{allTests, put}

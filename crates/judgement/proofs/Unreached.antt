@@ -39,12 +39,14 @@ module _ {W : ℕ} {c : Chart} (valid : Valid W c) where
         filled : Reached c q → isEmpty (getD (unstartedSets c) q 0) ≡ false
         filled r =
             member-filled (getD (unstartedSets c) q 0) 63
-            (unstarted-iff valid q 63 l (omega arith) .1 (record { path = r .path; leads = r .leads; nowhere = starts-nowhere 63 (omega arith) (r .path) }))
+            (unstarted-iff valid q 63 l (omega arith) .1
+            (record { path = r .path; leads = r .leads; nowhere = starts-nowhere 63 (omega arith) (r .path) }))
 
     length-unstarted : length (unstartedSets c) ≡ c .locations
     unfolding unstartedSets unstartedFlow
     length-unstarted = length-settled (unstartedFlow c)
 
-    pub unreached-by : {sets : List ℕ} {r : ℕ} → sets ≡ unstartedSets c → r ≡ lowest (λ q. isEmpty (getD sets q 0)) (length sets) → r ≡ firstUnreached c
+    pub unreached-by : {sets : List ℕ} {r : ℕ} → sets ≡ unstartedSets c → r ≡ lowest (λ q. isEmpty (getD sets q 0)) (length sets)
+        → r ≡ firstUnreached c
     unfolding firstUnreached
     unreached-by e f = (rw (e, length-unstarted) at f) ∙ lowest-same _ _ (c .locations) same-empty

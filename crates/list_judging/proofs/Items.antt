@@ -7,6 +7,7 @@ use Prim.Native.Nat.{ℕ, zero, suc, _+_, _-_, _≤_, _<_}
 use native.Mathlib.Nat.{add-assoc, add-zero, zero-add, sub-zero}
 use native.Mathlib.Omega.{arith}
 use lib.ListN.{length, getElem?}
+use Rattle.lists.specs.Lists.{sumOf}
 use Rattle.lists.specs.Rising.{All}
 use Rattle.lists.proofs.Nth.{below-nth}
 use Rattle.model.specs.Answer.{Answer, result, refused, then}
@@ -95,14 +96,14 @@ items-same item item′ next e i s (suc n) =
 module _ {A : Type 0} {item : (i s : ℕ) → Answer A} {next : ℕ → A → ℕ} {f : A → ℕ} {whole : Answer ℕ} {n k i s sum : ℕ}
     (h : Turn item next f whole n k i s sum) where
   pub turn-done : n ≤ k → whole ≡ result sum
-  unfolding items total
+  unfolding items sumOf
   turn-done l = let e : n - k ≡ 0 = omega (arith, h .most) in h .left ∙ rw e (ap result (add-zero sum))
 
   module _ (l : k < n) where
     turn-step : whole ≡ then (item i s) (λ a.
         then (items item next (suc i) (next s a) (n - (k + 1))) (λ xs.
         result (sum + (f a + total f xs))))
-    unfolding items total
+    unfolding items sumOf
     turn-step =
         let e : n - k ≡ suc (n - (k + 1)) = omega arith in
         let rest : (a : A) → Answer (List A) = λ a. items item next (suc i) (next s a) (n - (k + 1)) in

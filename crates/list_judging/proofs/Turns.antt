@@ -5,14 +5,15 @@ use mathlib.Core.List.{List, [], _∷_}
 use Prim.Native.Nat.{ℕ, _+_, _*_, _≤_}
 use native.Mathlib.Omega.{arith}
 use lib.ListN.{length}
+use Rattle.lists.specs.Lists.{sumOf}
 use Rattle.lists.proofs.Gather.{rising-length}
+use Rattle.lists.proofs.Sums.{sum-most}
 use Rattle.timer_set.specs.Members.{members}
 use Rattle.timer_set.proofs.Members.{members-rising}
 use Rattle.model.specs.Answer.{result, refused}
 use Rattle.model.specs.Chart.{Test, Transition}
 use Rattle.file_format.specs.Body.{recordLength}
 use Rattle.file_format.specs.Lengths.{total, transitionLength}
-use Rattle.file_format.proofs.Lengths.{total-most}
 use Rattle.chart_lists.specs.Lists.{Lists}
 use Rattle.list_judging.specs.FromLists.{acceptingFrom, testFrom, transitionFrom, transitionsFrom}
 use Rattle.list_judging.specs.Parts.{checkAccepting, checkTest, checkTests, Sizes, sizesOf, checkTransition, checkTransitions}
@@ -25,7 +26,7 @@ use Rattle.list_judging.proofs.Parts.{nextTests, transitions-items, tra
 
 -- one for each element
 total-one : {A : Type 0} (xs : List A) → total (λ (a : A). 1) xs ≡ length xs
-unfolding total
+unfolding sumOf
 total-one [] = refl
 total-one (a ∷ xs) = omega (arith, total-one xs)
 
@@ -112,5 +113,5 @@ transitions-most l locations timers n {b} e =
     let x = kept-result (transitionsFrom l locations timers 0 0 n) _ e in
     let h = transitions-each l locations timers 0 0 n (x .0) (x .1) in
     let each = each-all (transitionFrom l locations timers) _ (λ r. transitionLength 2 r ≤ 105) (from-most l locations timers) 0 0 (x .0) h in
-    let m = total-most (transitionLength 2) 105 _ (λ r p. p) (x .0) each in
+    let m = sum-most (transitionLength 2) 105 _ (λ r p. p) (x .0) each in
     rw (transitions-length l locations timers 0 0 n (x .0) (x .1), x .2) at m

@@ -29,16 +29,16 @@ fn judge_header(header: Header) -> Entry
     ensures { λ r. ⌜ entryAs r ≡ checkHeader header ⌝ }
 {
     if header.locations as usize > chart_lists::MOST_LOCATIONS {
-        return Entry::Refused(refusal::WRONG_COUNT);
+        return Entry::Refused(refusal::TOO_MANY);
     }
     if header.locations < 1 {
-        return Entry::Refused(refusal::WRONG_COUNT);
+        return Entry::Refused(refusal::TOO_MANY);
     }
     if header.initial >= header.locations {
         return Entry::Refused(refusal::NO_SUCH_LOCATION);
     }
     if header.timers as usize > chart_lists::MOST_TIMERS {
-        return Entry::Refused(refusal::WRONG_COUNT);
+        return Entry::Refused(refusal::TOO_MANY);
     }
     Entry::Value(0)
 }
@@ -141,7 +141,7 @@ pub fn judge(
         return Judged::Refused(refusal_of(b));
     };
     if header.transitions as usize > chart_lists::MOST_TRANSITIONS {
-        return Judged::Refused(refusal::WRONG_COUNT);
+        return Judged::Refused(refusal::TOO_MANY);
     }
     let d = judge_transitions(
         header,

@@ -7,17 +7,14 @@ use Rattle.model.specs.Answer.{Answer, result, refused, then}
 use Rattle.model.specs.Chart.{Chart}
 use Rattle.model.specs.Judge.{judged}
 use Rattle.model.specs.Player.{Arrival, played, playedOn}
-use Rattle.file_format.specs.Parse.{Bytes}
 use Rattle.file_format.specs.File.{chartIn}
-use Rattle.file_format.proofs.File.{reads-valid}
-use Rattle.chart_lists.specs.Lists.{Lists, listsOf, putLists}
+use Rattle.chart_lists.specs.Lists.{Lists}
 use Rattle.chart_lists.specs.Holds.{Holds}
 use Rattle.chart_lists.specs.declared.Header.{Header}
-use Rattle.chart_lists.proofs.Begins.{begins-self}
-use Rattle.chart_lists.proofs.Holds.{holds-put}
-use Rattle.reader.specs.Reading.{listsAfter}
-use Rattle.judgement.specs.Judging.{judgedIn, judgedHeader, largest}
-use Rattle.judgement.proofs.Handed.{JudgedChart, judged-refused}
+use Rattle.steps.proofs.Held.{holds-of}
+use Rattle.judgement.specs.Judging.{judgedIn, judgedHeader}
+use Rattle.judgement.specs.Charts.{AcceptedChart}
+use Rattle.judgement.proofs.Callers.{judged-refused, accepted-in}
 use Rattle.player.specs.Playing.{playAnswer, playLists}
 
 -- ---- the answer
@@ -32,10 +29,9 @@ module _ (bs counts is ts : List ℕ) where
       go (result c) = refl
       go (refused n p) = refl
 
-  pub accepted-answer : {h : Header} (j : JudgedChart bs h) {y : Answer Arrival} → y ≡ playedOn counts is ts (j .chart)
+  pub accepted-answer : {h : Header} (a : AcceptedChart bs h) {y : Answer Arrival} → y ≡ playedOn counts is ts (a .chart)
       → y ≡ playAnswer bs counts is ts
-  unfolding judgedIn
-  accepted-answer j e = e ∙ sym (play-is ∙ rw (j .reads, j .accepted) refl)
+  accepted-answer a e = e ∙ sym (play-is ∙ rw (accepted-in a) refl)
 
   pub refused-answer : {n p : ℕ} → refused n p ≡ judgedHeader bs → refused n p ≡ playAnswer bs counts is ts
   refused-answer e = sym (play-is ∙ rw (judged-refused bs e) refl)
@@ -45,22 +41,6 @@ module _ (bs counts is ts : List ℕ) where
 module _ {c : Chart} {l : Lists} (h : Holds c l) where
   -- all that the player looks at
   pub holds-played : Holds c (playLists c (l .accepting) (l .sources) (l .targets) (l .starts) (l .test-counts) (l .timers) (l .codes) (l .constants))
-  holds-played = record {
-    width = h .width;
-    valid = h .valid;
-    accepting = h .accepting;
-    sources = h .sources;
-    targets = h .targets;
-    events = begins-self _;
-    starts = h .starts;
-    test-counts = h .test-counts;
-    timers = h .timers;
-    codes = h .codes;
-    constants = h .constants;
-  }
-
--- what the judgement leaves
-pub left-holds : (bs : List ℕ) → Bytes bs → {l : Lists} → l ≡ listsAfter (chartIn bs) largest → (c : Chart) → chartIn bs ≡ result c → Holds c l
-left-holds bs bytes {l} e c r =
-    let p : l ≡ putLists (listsOf c) largest = rw r at e in
-    holds-put (reads-valid bs c bytes r) largest p
+  holds-played =
+      holds-of _ _ _ _ _ _ _ _ (h .valid) (h .accepting) (h .sources) (h .targets) (h .starts) (h .test-counts)
+      (h .timers) (h .codes) (h .constants)

@@ -19,11 +19,12 @@ use Rattle.model.specs.Run.{playerTime}
 use Rattle.model.specs.Player.{Arrival, answerOf, tooLarge, countsJudged, stepsOf, playedOn}
 use Rattle.model.proofs.Answers.{refused-same, number-is}
 use Rattle.model.proofs.PlayerNumbers.{after-numbers}
-use Rattle.model.proofs.Judgement.{LowestUnreached, LowestUnstarted}
+use Rattle.model.specs.Places.{LowestUnreached, LowestUnstarted}
 use Rattle.judgement.specs.Judging.{judgedIn}
 use Rattle.judgement.specs.Refusals.{RefusalOfJudgement}
 use Rattle.judgement.specs.Refusals.RefusalOfJudgement.{of-file, of-unreached, of-unstarted}
-use Rattle.judgement.proofs.Corollaries.{HoldsChart, judged-9, judged-10, judged-result, refusals-of-judgedIn}
+use Rattle.judgement.specs.Charts.{HoldsChart}
+use Rattle.judgement.proofs.Corollaries.{judged-9, judged-10, judged-result, refusals-of-judgedIn}
 use Rattle.file_format.proofs.File.{reads-valid}
 use Rattle.player.specs.Playing.{playAnswer}
 use Rattle.player.specs.Refusals.{RefusalOfPlay}

@@ -1,11 +1,3 @@
-pub mod FrameParts
-pub mod HeaderParts
-pub mod Passing
-pub mod Filling
 pub mod Lengths
-pub mod Store
-pub mod FillingTests
-pub mod FillingRecords
-pub mod JudgeParts
 pub mod ReadParts
 pub mod Refusals

@@ -23,7 +23,8 @@ module _ (l : Lists) (bs : List ℕ) (n p : ℕ) where
   unfolding readInto
   into-refused e = go (chartIn bs) refl e
     where
-      go : (x : Answer Chart) → chartIn bs ≡ x → then x (λ c. unless (roomFor (listsOf c) l) 21 nowhere (result c)) ≡ refused n p → RefusalOfReading n p
+      go : (x : Answer Chart) → chartIn bs ≡ x → then x (λ c. unless (roomFor (listsOf c) l) 21 nowhere (result c)) ≡ refused n p
+          → RefusalOfReading n p
       go (result c) k e = room-refused c (roomFor (listsOf c) l) e
       go (refused m q) k e = inl (refusals-of-chartIn bs n p (k ∙ e))
 

@@ -1,5 +1,3 @@
 pub mod Reading
 pub mod Parts
-pub mod Meaning
-pub mod Stored
 pub mod Refusals

@@ -29,8 +29,8 @@ pub const CUT_OFF: Refusal = Refusal {
     place: NOWHERE,
 };
 
-// No location, or too many of something, in the header.
-pub const WRONG_COUNT: Refusal = Refusal {
+// No location, or too many of something, before the first transition.
+pub const TOO_MANY: Refusal = Refusal {
     number: 4,
     place: NOWHERE,
 };

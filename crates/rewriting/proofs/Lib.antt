@@ -1,9 +1,9 @@
+pub mod Held
 pub mod RewrittenLists
 pub mod Order
-pub mod Board
-pub mod Lent
-pub mod Written
 pub mod Entry
+pub mod Board
+pub mod Written
 pub mod Fits
 pub mod Outcomes
 pub mod Refusals

@@ -1,8 +1,10 @@
--- The five outcomes of the rewriting, with what each says: a refusal of the judgement, 11, 20, 21, or the rewritten chart. Assumes nothing.
-use mathlib.Core.Path.{_≡_, refl, _∙_}
+-- The outcomes of the rewriting, with what each says: a refusal of the judgement; 11, 20 or 21; or the rewritten chart. Assumes nothing.
+use mathlib.Core.Path.{_≡_, refl, sym, ap, _∙_}
 use mathlib.Core.Logic.{_⊎_, inl, inr}
+use mathlib.Core.Bool.{true, false}
 use mathlib.Core.List.{List}
 use Prim.Native.Nat.{ℕ, _≤_, _<_}
+use lib.Dec.{leb}
 use lib.ListN.{length}
 use borrow.Author.Tests.{le-leb, lt-leb}
 use Rattle.lists.proofs.Bools.{lt-or-le}
@@ -10,58 +12,82 @@ use Rattle.model.specs.Answer.{Answer, result, refused, nowhere}
 use Rattle.model.specs.Chart.{Chart}
 use Rattle.model.specs.FirstFit.{used}
 use Rattle.model.specs.Rewrite.{rewritten}
+use Rattle.model.specs.Judge.{Rewriting}
 use Rattle.file_format.specs.File.{fileOf}
 use Rattle.judgement.specs.Judging.{judgedIn}
+use Rattle.numbering.proofs.Limits.{too-large, too-small, enough}
 use Rattle.rewriting.specs.Rewriting.{rewriteInto}
-use Rattle.rewriting.specs.Parts.{intoRoom}
-use Rattle.rewriting.proofs.Order.{into-refused, into-accepted, fitted-11, fitted-20, fitted-21}
+use Rattle.rewriting.specs.Parts.{fittedInto}
+use Rattle.rewriting.proofs.Order.{fitted-into, into-refused, into-accepted}
+use Rattle.rewriting.proofs.Written.{made}
 
--- the file's chart c is judged, and fits the board
-pub record Fitting (K : ℕ) (bs : List ℕ) (c : Chart) : Type 0 where
-  pub judged : judgedIn bs ≡ result c
-  pub limit : K ≤ 64
-  pub fits : used c ≤ K
+-- what a chart that is judged can be refused for: the board's limit, the timers used, the room in the buffer
+pub data Stop : Type 0 where
+  at-limit : Stop
+  at-used : Stop
+  at-room : Stop
+
+abbrev pub numberOf : Stop → ℕ
+numberOf at-limit = 11
+numberOf at-used = 20
+numberOf at-room = 21
+
+-- each where those before it are not
+abbrev pub Stops : (K room : ℕ) → Stop → Chart → Type 0
+Stops K room at-limit c = 64 < K
+Stops K room at-used c = (K ≤ 64) × (K < used c)
+Stops K room at-room c = (K ≤ 64) × (used c ≤ K) × (room < length (fileOf (rewritten c)))
+
+-- the numbers tell them apart
+stopOf : ℕ → Stop
+stopOf n = elim (leb n 11) [ true ↦ at-limit | false ↦ elim (leb n 20) [ true ↦ at-used | false ↦ at-room ] ]
+
+stop-is : (s : Stop) → stopOf (numberOf s) ≡ s
+unfolding stopOf
+stop-is at-limit = refl
+stop-is at-used = refl
+stop-is at-room = refl
+
+pub same-stop : (s t : Stop) → numberOf s ≡ numberOf t → s ≡ t
+same-stop s t e = sym (stop-is s) ∙ ap stopOf e ∙ stop-is t
+
+-- ---- of a chart that is judged
+
+module _ (K room : ℕ) (c : Chart) where
+  pub stopped : (s : Stop) → Stops K room s c → fittedInto K room c ≡ refused (numberOf s) nowhere
+  stopped at-limit h = fitted-into K room c (too-large K (used c) h .answer c refl)
+  stopped at-used h = fitted-into K room c (too-small K (used c) (h .0) (h .1) .answer c refl)
+  stopped at-room h =
+      fitted-into K room c (enough K (used c) (h .0) (h .1) .answer c refl) ∙ rw (lt-leb (length (fileOf (rewritten c))) room (h .2))
+
+  returned : K ≤ 64 → used c ≤ K → length (fileOf (rewritten c)) ≤ room → fittedInto K room c ≡ result (made c)
+  returned h l r = fitted-into K room c (enough K (used c) h l .answer c refl) ∙ rw (le-leb (length (fileOf (rewritten c))) room r)
+
+-- ---- of a file
 
 pub data Outcome (K room : ℕ) (bs : List ℕ) : Type 0 where
   is-refused : (n p : ℕ) → judgedIn bs ≡ refused n p → rewriteInto K room bs ≡ refused n p → Outcome K room bs
-  is-over-limit : (c : Chart) → judgedIn bs ≡ result c → 64 < K → rewriteInto K room bs ≡ refused 11 nowhere → Outcome K room bs
-  is-over-used : (c : Chart) → judgedIn bs ≡ result c → K ≤ 64 → K < used c → rewriteInto K room bs ≡ refused 20 nowhere → Outcome K room bs
-  is-short : (c : Chart) → Fitting K bs c → room < length (fileOf (rewritten c)) → rewriteInto K room bs ≡ refused 21 nowhere → Outcome K room bs
-  is-rewritten : (c : Chart) → Fitting K bs c → length (fileOf (rewritten c)) ≤ room
-      → rewriteInto K room bs ≡ result (record { used = used c; chart = rewritten c }) → Outcome K room bs
+  is-stopped : (c : Chart) (s : Stop) → judgedIn bs ≡ result c → Stops K room s c → rewriteInto K room bs ≡ refused (numberOf s) nowhere
+      → Outcome K room bs
+  is-returned : (x : Rewriting) → rewriteInto K room bs ≡ result x → Outcome K room bs
 
 module _ (K room : ℕ) (bs : List ℕ) where
-  module _ (c : Chart) (e : judgedIn bs ≡ result c) where
-    pub over-limit : 64 < K → rewriteInto K room bs ≡ refused 11 nowhere
-    over-limit h = into-accepted K room bs e ∙ fitted-11 K room c h
-
-    pub over-used : K ≤ 64 → K < used c → rewriteInto K room bs ≡ refused 20 nowhere
-    over-used h l = into-accepted K room bs e ∙ fitted-20 K room c h l
-
-  module _ (c : Chart) (f : Fitting K bs c) where
-    pub too-short : room < length (fileOf (rewritten c)) → rewriteInto K room bs ≡ refused 21 nowhere
-    unfolding intoRoom
-    too-short h = into-accepted K room bs (f .judged) ∙ fitted-21 K room c (f .limit) (f .fits) ∙ rw (lt-leb (length (fileOf (rewritten c))) room h)
-
-    pub is-written : length (fileOf (rewritten c)) ≤ room → rewriteInto K room bs ≡ result (record { used = used c; chart = rewritten c })
-    unfolding intoRoom
-    is-written h = into-accepted K room bs (f .judged) ∙ fitted-21 K room c (f .limit) (f .fits) ∙ rw (le-leb (length (fileOf (rewritten c))) room h)
+  pub into-stopped : (c : Chart) (s : Stop) → judgedIn bs ≡ result c → Stops K room s c → rewriteInto K room bs ≡ refused (numberOf s) nowhere
+  into-stopped c s e h = into-accepted K room bs e ∙ stopped K room c s h
 
   pub outcome : Outcome K room bs
   outcome = go (judgedIn bs) refl
     where
-      in-room : (c : Chart) → Fitting K bs c → (room < length (fileOf (rewritten c))) ⊎ (length (fileOf (rewritten c)) ≤ room) → Outcome K room bs
-      in-room c f (inl h) = is-short c f h (too-short c f h)
-      in-room c f (inr h) = is-rewritten c f h (is-written c f h)
+      stop : (c : Chart) (s : Stop) → judgedIn bs ≡ result c → Stops K room s c → Outcome K room bs
+      stop c s e h = is-stopped c s e h (into-stopped c s e h)
 
-      on-board : (c : Chart) → judgedIn bs ≡ result c → K ≤ 64 → (K < used c) ⊎ (used c ≤ K) → Outcome K room bs
-      on-board c e h (inl l) = is-over-used c e h l (over-used c e h l)
-      on-board c e h (inr l) = in-room c (record { judged = e; limit = h; fits = l }) (lt-or-le room (length (fileOf (rewritten c))))
-
-      below-limit : (c : Chart) → judgedIn bs ≡ result c → (64 < K) ⊎ (K ≤ 64) → Outcome K room bs
-      below-limit c e (inl h) = is-over-limit c e h (over-limit c e h)
-      below-limit c e (inr h) = on-board c e h (lt-or-le K (used c))
+      of : (c : Chart) → judgedIn bs ≡ result c → (64 < K) ⊎ (K ≤ 64) → (K < used c) ⊎ (used c ≤ K)
+          → (room < length (fileOf (rewritten c))) ⊎ (length (fileOf (rewritten c)) ≤ room) → Outcome K room bs
+      of c e (inl h) l r = stop c at-limit e h
+      of c e (inr h) (inl l) r = stop c at-used e (h, l)
+      of c e (inr h) (inr l) (inl r) = stop c at-room e (h, l, r)
+      of c e (inr h) (inr l) (inr r) = is-returned (made c) (into-accepted K room bs e ∙ returned K room c h l r)
 
       go : (y : Answer Chart) → judgedIn bs ≡ y → Outcome K room bs
-      go (result c) e = below-limit c e (lt-or-le 64 K)
+      go (result c) e = of c e (lt-or-le 64 K) (lt-or-le K (used c)) (lt-or-le room (length (fileOf (rewritten c))))
       go (refused n p) e = is-refused n p e (into-refused K room bs e)

@@ -1,99 +1,79 @@
--- The renamed lists, handed to the writer, are those of the rewritten chart. Assumes nothing.
-use mathlib.Core.Path.{_≡_, refl, sym, ap, _∙_}
-use mathlib.Core.List.{List, map}
-use Prim.Native.Nat.{ℕ, _≤_}
-use native.Mathlib.Omega.{arith}
-use lib.ListN.{length, replicate}
-use Rattle.model.specs.Answer.{Answer, result, refused, then}
-use Rattle.model.specs.Chart.{Test, Chart}
+-- What the writer answers of the renamed lists is what the rewriting answers. Nothing is hard: the renamed lists hold the rewritten chart, which is
+-- valid. Assumes nothing.
+use mathlib.Core.Path.{_≡_, refl, ap}
+use mathlib.Core.Bool.{Bool, true, false}
+use mathlib.Core.List.{List}
+use Prim.Native.Nat.{ℕ}
+use lib.Dec.{leb}
+use lib.ListN.{length}
+use Rattle.model.specs.Answer.{Answer, result, then, unless, nowhere}
+use Rattle.model.specs.Chart.{Transition, Chart, Nth}
 use Rattle.model.specs.Valid.{Valid}
-use Rattle.model.specs.Live.{startsSet}
 use Rattle.model.specs.FirstFit.{board, used}
-use Rattle.model.specs.Rewrite.{numbering, newTransition, rewritten}
-use Rattle.model.specs.Judge.{Rewriting}
-use Rattle.model.proofs.RewrittenValid.{rewritten-valid}
+use Rattle.model.specs.Rewrite.{Numbering, numbering, rewrittenBy, rewritten}
+use Rattle.model.specs.Plan.{Numbered}
+use Rattle.model.specs.Judge.{Rewriting, fitted}
 use Rattle.file_format.specs.File.{fileOf}
-use Rattle.chart_lists.specs.Lists.{Lists, lists, allTests, listsOf, put}
+use Rattle.chart_lists.specs.Lists.{Lists, listsOf, put, overwritten}
+use Rattle.chart_lists.specs.Holds.{Holds}
 use Rattle.chart_lists.specs.declared.Header.{Header}
 use Rattle.chart_lists.specs.Header.{headerOf}
-use Rattle.chart_lists.proofs.Put.{take-put}
-use Rattle.writer.specs.Begins.{Begins, ListsBegin}
-use Rattle.writer.specs.Handing.{chartFrom, writeInto, writeAnswer}
-use Rattle.writer.specs.Handing.{bufferAfter as writtenAfter}
-use Rattle.writer.proofs.ValidHanded.{valid-handed}
-use Rattle.rewriting.specs.Rewriting.{figuresOf, bufferAfter}
-use Rattle.rewriting.specs.Parts.{intoRoom, fittedInto, ListsOfChart, FittingNumbers}
-use Rattle.rewriting.proofs.RewrittenLists.{rewritten-lists, rewritten-numbers}
-use Rattle.rewriting.proofs.Order.{fitted-21}
-use Rattle.rewriting.proofs.Board.{judged-plan, tests-numbered}
+use Rattle.chart_lists.proofs.Begins.{begins-put}
+use Rattle.list_judging.specs.FromLists.{chartFrom}
+use Rattle.list_judging.proofs.ValidFrom.{valid-from}
+use Rattle.writer.specs.Writing.{writeInto, writeAnswer}
+use Rattle.rewriting.specs.Rewriting.{newFile, valuesOf}
+use Rattle.rewriting.specs.Parts.{intoRoom, fittedInto}
+use Rattle.rewriting.proofs.RewrittenLists.{withNames, withTimers, holds-rewritten, header-rewritten}
+use Rattle.rewriting.proofs.Order.{fitted-into}
 
--- the numbers of a chart with another number of timers
-abbrev pub withTimers : Header → ℕ → Header
-withTimers m n = record { locations = m .locations; initial = m .initial; timers = n; accepting = m .accepting; transitions = m .transitions }
+-- ---- the writer, called on the renamed lists
 
--- the lists with other starts and other timers of tests
-abbrev pub withNames : Lists → (starts timers : List ℕ) → Lists
-withNames l w j = lists (l .accepting) (l .sources) (l .targets) (l .events) w (l .test-counts) j (l .codes) (l .constants)
+module _ (N : Numbering) (c : Chart) (numbered : (i : ℕ) (r : Transition) → Nth c i r → Numbered N (r .source) (r .tests))
+    (valid : Valid 2 (rewrittenBy N c)) {m : Header} (is : m ≡ headerOf c) {l : Lists} (held : Holds c l) {count : ℕ} (u : count ≡ N .used)
+    (x y : List ℕ) {starts timers : List ℕ} (w : starts ≡ put (listsOf (rewrittenBy N c) .starts) x)
+    (j : timers ≡ put (listsOf (rewrittenBy N c) .timers) y) where
+  chart-from : chartFrom (withTimers m count) (withNames l starts timers) ≡ result (rewrittenBy N c)
+  chart-from =
+      let h = holds-rewritten N c numbered valid held (begins-put _ x w) (begins-put _ y j) in
+      rw (header-rewritten N c is u) (valid-from (rewrittenBy N c) valid (withNames l starts timers) h)
 
-put-begins : (xs l : List ℕ) → Begins xs (put xs l)
-put-begins xs l = record { is = take-put xs l (length xs) refl }
+  pub write-into : (room : ℕ) → writeInto room (withTimers m count) (withNames l starts timers) ≡ intoRoom room (rewrittenBy N c)
+  unfolding writeInto intoRoom
+  write-into room = rw chart-from
 
-module _ {c : Chart} {m : Header} {l : Lists} {tested : List ℕ} (x : ListsOfChart c m l tested) {count : ℕ} {numbers : List ℕ}
-    (f : FittingNumbers c count numbers) where
-  valid-rewritten : Valid 2 (rewritten c)
-  unfolding rewritten used numbering
-  valid-rewritten = rewritten-valid c (numbering (board c)) (judged-plan (x .valid) (x .accepted)) 2 (x .valid) (omega (arith, f .count-is, f .few))
+  pub write-answer : (room : ℕ) → writeAnswer room (withTimers m count) (withNames l starts timers)
+      ≡ then (intoRoom room (rewrittenBy N c)) (λ d. result (length (fileOf d)))
+  unfolding writeAnswer
+  write-answer room = ap (λ (y : Answer Chart). then y (λ d. result (length (fileOf d)))) (write-into room)
 
-  module _ {starts timers : List ℕ}
-      (w : starts ≡ put (map startsSet (map (newTransition (numbering (board c))) (c .transitions))) (replicate 512 0))
-      (j : timers ≡ put (map (λ (t : Test). t .timer) (allTests (map (newTransition (numbering (board c))) (c .transitions)))) (replicate 4096 0)) where
-    lists-begin : ListsBegin (listsOf (rewritten c)) (withNames l starts timers)
-    unfolding rewritten
-    lists-begin = rw (w, j, rewritten-lists (numbering (board c)) c (tests-numbered (x .valid))) (record {
-      accepting = x .begins .accepting;
-      sources = x .begins .sources;
-      targets = x .begins .targets;
-      events = x .begins .events;
-      starts = put-begins _ (replicate 512 0);
-      test-counts = x .begins .test-counts;
-      timers = put-begins _ (replicate 4096 0);
-      codes = x .begins .codes;
-      constants = x .begins .constants;
-    })
+-- ---- what the writer answers of the rewritten chart is what the rewriting answers
 
-    numbers-rewritten : withTimers m count ≡ headerOf (rewritten c)
-    unfolding rewritten used numbering
-    numbers-rewritten = sym (rewritten-numbers (numbering (board c)) c (x .numbers-are) ∙ ap (withTimers m) (sym (f .count-is)))
+-- the rewritten chart, with the timers that it uses
+abbrev pub made : Chart → Rewriting
+made c = record { used = used c; chart = rewritten c }
 
-    handed-rewritten : chartFrom (withTimers m count) (withNames l starts timers) ≡ result (rewritten c)
-    handed-rewritten = rw numbers-rewritten (valid-handed (rewritten c) valid-rewritten (withNames l starts timers) lists-begin)
-
-    pub write-into : (room : ℕ) → writeInto room (withTimers m count) (withNames l starts timers) ≡ intoRoom room (rewritten c)
-    unfolding writeInto intoRoom
-    write-into room = rw handed-rewritten
-
-    pub write-answer : (room : ℕ) → writeAnswer room (withTimers m count) (withNames l starts timers) ≡ then (intoRoom room (rewritten c)) (λ d. result (length (fileOf d)))
-    unfolding writeAnswer
-    write-answer room = ap (λ (y : Answer Chart). then y (λ d. result (length (fileOf d)))) (write-into room)
-
--- ---- what the writer answers is what the rewriting answers
-
-module _ (K room : ℕ) (c : Chart) (limit : K ≤ 64) (fits : used c ≤ K) where
-  -- the figures, with the timers used beside the length
-  pub figures-written : {w : Answer ℕ} {count : ℕ} → count ≡ used c → w ≡ then (intoRoom room (rewritten c)) (λ d. result (length (fileOf d)))
-      → then w (λ n. result (record { used = count; length = n })) ≡ then (fittedInto K room c) (λ y. result (figuresOf y))
-  unfolding figuresOf
-  figures-written u e = rw (u, e, fitted-21 K room c limit fits) (go (intoRoom room (rewritten c)))
+module _ (K room : ℕ) (c : Chart) (e : result (made c) ≡ fitted K c) where
+  -- the timers used beside the length
+  pub values-written : {w : Answer ℕ} {count : ℕ} → count ≡ used c
+      → w ≡ then (intoRoom room (rewrittenBy (numbering (board c)) c)) (λ d. result (length (fileOf d)))
+      → then w (λ n. result (record { used = count; length = n })) ≡ then (fittedInto K room c) (λ y. result (valuesOf y))
+  unfolding valuesOf intoRoom rewritten
+  values-written u f = rw (u, f, fitted-into K room c e) (go (leb (length (fileOf (rewritten c))) room))
     where
-      go : (y : Answer Chart)
-          → then (then y (λ (d : Chart). result (length (fileOf d)))) (λ (n : ℕ). result (record { used = used c; length = n }))
-          ≡ then (then y (λ (d : Chart). result (record { used = used c; chart = d }))) (λ (z : Rewriting). result (figuresOf z))
-      go (result d) = refl
-      go (refused n p) = refl
+      go : (b : Bool)
+          → then (then (unless b 21 nowhere (result (rewritten c))) (λ (d : Chart). result (length (fileOf d))))
+          (λ (n : ℕ). result (record { used = used c; length = n }))
+          ≡ then (unless b 21 nowhere (result (made c))) (λ (y : Rewriting). result (valuesOf y))
+      go true = refl
+      go false = refl
 
-  pub buffer-written : (out : List ℕ) → writtenAfter (intoRoom room (rewritten c)) out ≡ bufferAfter (fittedInto K room c) out
-  buffer-written out = rw (fitted-21 K room c limit fits) (go (intoRoom room (rewritten c)))
+  pub buffer-written : (out : List ℕ)
+      → overwritten fileOf (intoRoom room (rewrittenBy (numbering (board c)) c)) out ≡ overwritten newFile (fittedInto K room c) out
+  unfolding intoRoom rewritten
+  buffer-written out = rw (fitted-into K room c e) (go (leb (length (fileOf (rewritten c))) room))
     where
-      go : (y : Answer Chart) → writtenAfter y out ≡ bufferAfter (then y (λ (d : Chart). result (record { used = used c; chart = d }))) out
-      go (result d) = refl
-      go (refused n p) = refl
+      go : (b : Bool)
+          → overwritten fileOf (unless b 21 nowhere (result (rewritten c))) out ≡ overwritten newFile (unless b 21 nowhere (result (made c))) out
+      go true = refl
+      go false = refl

@@ -1,3 +1,4 @@
 pub mod Rewriting
 pub mod Parts
+pub mod Returned
 pub mod Refusals

@@ -1,4 +1,4 @@
--- What the header of a chart says of it. Assumes nothing.
+-- What the header of a chart says of it, beside the laws of chart_lists/proofs/Fronts. Assumes nothing.
 use mathlib.Core.Path.{_≡_, ap}
 use lib.ListN.{length}
 use Rattle.model.specs.Chart.{Chart}
@@ -6,17 +6,9 @@ use Rattle.chart_lists.specs.declared.Header.{Header}
 use Rattle.chart_lists.specs.Header.{headerOf}
 
 module _ (c : Chart) {h : Header} (e : h ≡ headerOf c) where
-  pub transitions-are : h .transitions ≡ length (c .transitions)
-  unfolding headerOf
-  transitions-are = ap (λ (x : Header). x .transitions) e
-
   pub initial-is : h .initial ≡ c .initial
   unfolding headerOf
   initial-is = ap (λ (x : Header). x .initial) e
-
-  pub timers-are : h .timers ≡ c .timers
-  unfolding headerOf
-  timers-are = ap (λ (x : Header). x .timers) e
 
   pub accepting-are : h .accepting ≡ length (c .accepting)
   unfolding headerOf

@@ -2,22 +2,26 @@
 use crate::input::*;
 use crate::lent::*;
 use crate::show::*;
+use chart_lists::MOST_LOCATIONS;
+use chart_lists::MOST_TIMERS;
+
+// The longest step list.
+const STEPS: usize = 70016;
 
 pub fn analyse(file: &[u8], values: &[u8]) {
-    let mut list = [FILLED64; 256];
-    let n = count(values, 0, 256);
-    let live = &mut list[0..n];
+    let mut list = [FILLED64; MOST_LOCATIONS];
+    let live = lent64(&mut list, values, 0);
     let answer = analysis::analyse(file, live);
     match answer {
-        analysis::Analysis::Refused(r) => refusal(r, changed64(live, 0)),
+        analysis::Analysis::Refused(r) => refusal(r, changed64(0, live, 0)),
         analysis::Analysis::Found { used, floor } => {
-            let locations = count(values, 1, 256);
+            let locations = count(values, 1, MOST_LOCATIONS);
             item(b"used ", used as u64);
             item(b" floor ", floor as u64);
-            item(b" beyond ", changed64(live, locations) as u64);
+            item(b" beyond ", changed64(0, live, locations) as u64);
             text(b"\nlive");
             sets(live, locations);
-            text(b"\n");
+            end();
         }
     }
 }
@@ -30,12 +34,11 @@ fn sets(live: &[u64], n: usize) {
 }
 
 pub fn rewrite(input: &[u8], values: &[u8]) {
-    let mut buffer = [FILLED8; 65536];
-    let n = count(values, 1, 65536);
-    let out = &mut buffer[0..n];
+    let mut buffer = [FILLED8; BUFFER];
+    let out = lent8(&mut buffer, values, 1);
     let answer = rewriting::rewrite(input, low32(number(values, 0)), out);
     match answer {
-        rewriting::Rewritten::Refused(r) => refusal(r, changed8(out, 0)),
+        rewriting::Rewritten::Refused(r) => refusal(r, changed8(0, out, 0)),
         rewriting::Rewritten::File { used, length } => {
             item(b"used ", used as u64);
             file(b" length ", out, length);
@@ -44,12 +47,12 @@ pub fn rewrite(input: &[u8], values: &[u8]) {
 }
 
 pub fn play(file: &[u8], values: &[u8], vector: &[u8]) {
-    let zeros = count(values, 0, 70016);
-    let mut counts = [0u32; 64];
+    let zeros = count(values, 0, STEPS);
+    let mut counts = [0u32; MOST_TIMERS];
     let a = list32(field(vector, 3), 0, &mut counts);
-    let mut transitions = [0u32; 70016];
+    let mut transitions = [0u32; STEPS];
     let b = list32(field(vector, 4), zeros, &mut transitions);
-    let mut times = [0u64; 70016];
+    let mut times = [0u64; STEPS];
     let c = list64(field(vector, 5), zeros, &mut times);
     let answer = player::play(file, a, b, c);
     match answer {
@@ -62,7 +65,7 @@ pub fn play(file: &[u8], values: &[u8], vector: &[u8]) {
             item(b"location ", location as u64);
             item(b" time ", time);
             item(b" accepting ", accepting as u64);
-            text(b"\n");
+            end();
         }
     }
 }

@@ -2,41 +2,41 @@
 use crate::input::*;
 use crate::lent::*;
 use crate::show::*;
-use chart_lists::Header;
+use chart_lists::*;
 
 // The nine lists, each as long as the largest chart's.
 struct Lists {
-    accepting: [u16; 256],
-    sources: [u16; 512],
-    targets: [u16; 512],
-    events: [u8; 512],
-    starts: [u64; 512],
-    test_counts: [u8; 512],
-    timers: [u8; 4096],
-    codes: [u8; 4096],
-    constants: [u16; 4096],
+    accepting: [u16; MOST_LOCATIONS],
+    sources: [u16; MOST_TRANSITIONS],
+    targets: [u16; MOST_TRANSITIONS],
+    events: [u8; MOST_TRANSITIONS],
+    starts: [u64; MOST_TRANSITIONS],
+    test_counts: [u8; MOST_TRANSITIONS],
+    timers: [u8; MOST_TESTS],
+    codes: [u8; MOST_TESTS],
+    constants: [u16; MOST_TESTS],
 }
 
 // Reads a file into lists of the given lengths.
 pub fn read(file: &[u8], lengths: &[u8]) {
-    let mut accepting = [FILLED16; 256];
-    let a = &mut accepting[0..count(lengths, 0, 256)];
-    let mut sources = [FILLED16; 512];
-    let b = &mut sources[0..count(lengths, 1, 512)];
-    let mut targets = [FILLED16; 512];
-    let c = &mut targets[0..count(lengths, 2, 512)];
-    let mut events = [FILLED8; 512];
-    let d = &mut events[0..count(lengths, 3, 512)];
-    let mut starts = [FILLED64; 512];
-    let e = &mut starts[0..count(lengths, 4, 512)];
-    let mut test_counts = [FILLED8; 512];
-    let f = &mut test_counts[0..count(lengths, 5, 512)];
-    let mut timers = [FILLED8; 4096];
-    let g = &mut timers[0..count(lengths, 6, 4096)];
-    let mut codes = [FILLED8; 4096];
-    let h = &mut codes[0..count(lengths, 7, 4096)];
-    let mut constants = [FILLED16; 4096];
-    let i = &mut constants[0..count(lengths, 8, 4096)];
+    let mut accepting = [FILLED16; MOST_LOCATIONS];
+    let a = lent16(&mut accepting, lengths, 0);
+    let mut sources = [FILLED16; MOST_TRANSITIONS];
+    let b = lent16(&mut sources, lengths, 1);
+    let mut targets = [FILLED16; MOST_TRANSITIONS];
+    let c = lent16(&mut targets, lengths, 2);
+    let mut events = [FILLED8; MOST_TRANSITIONS];
+    let d = lent8(&mut events, lengths, 3);
+    let mut starts = [FILLED64; MOST_TRANSITIONS];
+    let e = lent64(&mut starts, lengths, 4);
+    let mut test_counts = [FILLED8; MOST_TRANSITIONS];
+    let f = lent8(&mut test_counts, lengths, 5);
+    let mut timers = [FILLED8; MOST_TESTS];
+    let g = lent8(&mut timers, lengths, 6);
+    let mut codes = [FILLED8; MOST_TESTS];
+    let h = lent8(&mut codes, lengths, 7);
+    let mut constants = [FILLED16; MOST_TESTS];
+    let i = lent16(&mut constants, lengths, 8);
     let answer = reader::read_chart(file, a, b, c, d, e, f, g, h, i);
     let lists = Lists {
         accepting,
@@ -53,10 +53,10 @@ pub fn read(file: &[u8], lengths: &[u8]) {
 }
 
 // Shows a refusal, or a chart and the file that is written of it.
-fn show_read(answer: chart_lists::Read, lists: Lists) {
+fn show_read(answer: Read, lists: Lists) {
     match answer {
-        chart_lists::Read::Refused(r) => refusal(r, changed(lists, 0, 0, 0)),
-        chart_lists::Read::Chart(header) => {
+        Read::Refused(r) => refusal(r, changed(lists, 0, 0, 0)),
+        Read::Chart(header) => {
             show_chart(header, lists);
             write_again(header, lists);
         }
@@ -66,15 +66,15 @@ fn show_read(answer: chart_lists::Read, lists: Lists) {
 // How many entries are not as they were: from the a-th on in the list of accepting locations, from the n-th on in those of the transitions, and from
 // the g-th on in those of the tests.
 fn changed(lists: Lists, a: usize, n: usize, g: usize) -> usize {
-    let mut sum = changed16(&lists.accepting, a);
-    sum = plus(sum, changed16(&lists.sources, n));
-    sum = plus(sum, changed16(&lists.targets, n));
-    sum = plus(sum, changed8(&lists.events, n));
-    sum = plus(sum, changed64(&lists.starts, n));
-    sum = plus(sum, changed8(&lists.test_counts, n));
-    sum = plus(sum, changed8(&lists.timers, g));
-    sum = plus(sum, changed8(&lists.codes, g));
-    plus(sum, changed16(&lists.constants, g))
+    let mut sum = changed16(0, &lists.accepting, a);
+    sum = changed16(sum, &lists.sources, n);
+    sum = changed16(sum, &lists.targets, n);
+    sum = changed8(sum, &lists.events, n);
+    sum = changed64(sum, &lists.starts, n);
+    sum = changed8(sum, &lists.test_counts, n);
+    sum = changed8(sum, &lists.timers, g);
+    sum = changed8(sum, &lists.codes, g);
+    changed16(sum, &lists.constants, g)
 }
 
 fn show_chart(header: Header, lists: Lists) {
@@ -88,7 +88,7 @@ fn show_chart(header: Header, lists: Lists) {
     item(b" transitions ", n as u64);
     let g = total(&lists.test_counts, n);
     item(b" beyond ", changed(lists, a, n, g) as u64);
-    text(b"\n");
+    end();
     transitions(lists, n);
 }
 
@@ -127,7 +127,7 @@ fn transition(lists: Lists, i: usize) {
         total(&lists.test_counts, i),
         total(&lists.test_counts, plus(i, 1)),
     );
-    text(b"\n");
+    end();
 }
 
 fn tests(lists: Lists, from: usize, to: usize) {
@@ -143,7 +143,7 @@ fn test(lists: Lists, i: usize) {
 }
 
 fn write_again(header: Header, lists: Lists) {
-    let mut out = [FILLED8; 65536];
+    let mut out = [FILLED8; BUFFER];
     let answer = writer::write(
         header,
         &lists.accepting,
@@ -162,24 +162,26 @@ fn write_again(header: Header, lists: Lists) {
 
 // Writes the nine lists of a vector.
 pub fn write(vector: &[u8], values: &[u8]) {
-    let mut accepting = [0u16; 512];
+    let mut out = [FILLED8; BUFFER];
+    write_lent(vector, header(values), lent8(&mut out, values, 5));
+}
+
+fn write_lent(vector: &[u8], header: Header, out: &mut [u8]) {
+    let mut accepting = [0u16; MOST_TRANSITIONS];
     let a = list16(field(vector, 2), &mut accepting);
-    let mut sources = [0u16; 512];
+    let mut sources = [0u16; MOST_TRANSITIONS];
     let b = list16(field(vector, 3), &mut sources);
-    let mut targets = [0u16; 512];
+    let mut targets = [0u16; MOST_TRANSITIONS];
     let c = list16(field(vector, 4), &mut targets);
     let d = field(vector, 5);
-    let mut starts = [0u64; 512];
+    let mut starts = [0u64; MOST_TRANSITIONS];
     let e = list64(field(vector, 6), 0, &mut starts);
     let f = field(vector, 7);
     let g = field(vector, 8);
     let h = field(vector, 9);
-    let mut constants = [0u16; 512];
+    let mut constants = [0u16; MOST_TRANSITIONS];
     let i = list16(field(vector, 10), &mut constants);
-    let mut buffer = [FILLED8; 65536];
-    let n = count(values, 5, 65536);
-    let out = &mut buffer[0..n];
-    let answer = writer::write(header(values), a, b, c, d, e, f, g, h, i, out);
+    let answer = writer::write(header, a, b, c, d, e, f, g, h, i, out);
     show_written(answer, out);
 }
 
@@ -195,7 +197,7 @@ fn header(values: &[u8]) -> Header {
 
 fn show_written(answer: writer::Written, out: &[u8]) {
     match answer {
-        writer::Written::Refused(r) => refusal(r, changed8(out, 0)),
+        writer::Written::Refused(r) => refusal(r, changed8(0, out, 0)),
         writer::Written::File(n) => file(b"written ", out, n),
     }
 }

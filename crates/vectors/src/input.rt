@@ -64,7 +64,7 @@ pub fn list16<'a>(s: &[u8], list: &'a mut [u16]) -> &'a mut [u16] {
     &mut list[0..n]
 }
 
-// The same with zeros before the numbers: what is left of the first has an index past the end.
+// The same with zeros before the numbers: an index left of the first number wraps, and past the end every number is 0.
 pub fn list32<'a>(s: &[u8], zeros: usize, list: &'a mut [u32]) -> &'a mut [u32] {
     let n = least(plus(s.len() >> 3, zeros), list.len());
     for i in 0..n {

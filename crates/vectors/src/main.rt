@@ -1,7 +1,7 @@
 // Runs the vectors of vectors/*.py through the entry points, and prints what comes back.
 //
-// Standard input, which vectors/make packs, holds fields (see input). The first says how many vectors there are; each other is a vector, itself made of
-// fields: a letter, values, and then a file or lists.
+// Standard input, which vectors/make packs, holds fields (see input). The first says how many vectors there are; each other is a vector, itself made
+// of fields: a letter, values, and then a file or lists.
 //   'r'  the lengths of the nine lists to lend; a file to read
 //   'w'  the header and the length of the buffer to lend; nine lists to write
 //   'a'  the length of the list to lend and the number of locations; a file to analyse

@@ -6,6 +6,10 @@ pub fn text(s: &[u8]) {
     io::write_all(1, s);
 }
 
+pub fn end() {
+    text(b"\n");
+}
+
 pub fn item(label: &[u8], n: u64) {
     text(label);
     io::print_decimal(1, n);
@@ -16,7 +20,7 @@ pub fn refusal(r: Refusal, changed: usize) {
     item(b"refused ", r.number as u64);
     item(b" ", r.place);
     item(b" changed ", changed as u64);
-    text(b"\n");
+    end();
 }
 
 // Whether the i-th of n entries is shown: one of so many first ones, or the last.
@@ -42,7 +46,7 @@ pub fn file(label: &[u8], out: &[u8], n: usize) {
     } else {
         text(b"--");
     }
-    text(b"\n");
+    end();
 }
 
 fn bytes(out: &[u8], from: usize, to: usize) {

@@ -4,7 +4,7 @@ use lib.ListN.{length-take}
 use Prim.Native.Nat.{ℕ}
 use native.Mathlib.Omega.{arith}
 use Rattle.file_format.specs.Parse.{Bytes}
-use Rattle.judgement.proofs.Loading.{bytes-are}
+use Rattle.judgement.proofs.Reading.{bytes-are}
 use Rattle.rewriting.specs.Rewriting.{rewrittenAs}
 use Rattle.equivalence.proofs.RewrittenFile.{Left, left, claim-of, board-refused, board-played}
 use borrow.Author.Needs.{needs}

@@ -28,13 +28,17 @@ same-length : tie.Need-same-length
 same-length c = search needs
 
 returns : tie.Need-returns
-returns c = let e = c .before .before .before .before .before .analyse .ensures in (ap analysisOf (sym (ap analysisAs (c .before .a .given .1)) ∙ e .0), e .1)
+returns c =
+    let e = c .before .before .before .before .before .analyse .ensures in
+    (ap analysisOf (sym (ap analysisAs (c .before .a .given .1)) ∙ e .0), e .1)
 
 same-length-2 : tie.Need-same-length-2
 same-length-2 c = search needs
 
 returns-2 : tie.Need-returns-2
-returns-2 c = let e = c .before .before .before .before .before .before .analyse .ensures in (ap analysisOf (sym (ap analysisAs (c .before .before .a2 .given .1)) ∙ e .0), e .1)
+returns-2 c =
+    let e = c .before .before .before .before .before .before .analyse .ensures in
+    (ap analysisOf (sym (ap analysisAs (c .before .before .a2 .given .1)) ∙ e .0), e .1)
 
 pub chart-analyse-spec : {M : Type 1} → statement M
 chart-analyse-spec =

@@ -36,7 +36,9 @@ cast-t13 : tie.Need-cast-t13
 cast-t13 c = search needs
 
 returns : tie.Need-returns
-returns c = let g = c .before .a .given .0 in arrived (g .0) (g .1 .0) (g .1 .1 .0) ∙ ap playingOf (sym (ap playedAs (c .before .a .given .1)) ∙ c .before .before .before .play .ensures)
+returns c =
+    let g = c .before .a .given .0 in
+    arrived (g .0) (g .1 .0) (g .1 .1 .0) ∙ ap playingOf (sym (ap playedAs (c .before .a .given .1)) ∙ c .before .before .before .play .ensures)
 
 returns-2 : tie.Need-returns-2
 returns-2 c = ap playingOf (sym (ap playedAs (c .before .before .a2 .given .1)) ∙ c .before .before .before .before .play .ensures)

@@ -1,3 +1,4 @@
+-- `quad_at` puts two numbers together, the first one the higher. Assumes nothing.
 use native.Mathlib.Omega.{arith}
 use Rattle.fields.proofs.Answers.{first-refused, second-refused, both-found}
 use borrow.Author.Needs.{needs}
@@ -31,7 +32,9 @@ returns-2 c =
     second-refused 2 2 (d .before .before .pair-at .ensures) (d .a .given .1) (c .before .before .pair-at2 .ensures) (c .enum-told2 .given .1)
 
 mul-t9 : tie.Need-mul-t9
-mul-t9 c = let d = c .before .before .before .before .before in record { fits = omega (arith, d .before .before .pair-at .ensures .small _ _ (d .a .given .1)) }
+mul-t9 c =
+    let d = c .before .before .before .before .before in
+    record { fits = omega (arith, d .before .before .pair-at .ensures .small _ _ (d .a .given .1)) }
 
 add-t10 : tie.Need-add-t10
 add-t10 c = record { fits = omega (arith, mul-t9 c .fits, c .before .before .before .pair-at2 .ensures .small _ _ (c .before .b .given .1)) }

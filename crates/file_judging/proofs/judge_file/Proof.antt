@@ -1,3 +1,4 @@
+-- `judge_file` judges frame, header and transitions one after another, and that no byte is left. Assumes nothing.
 use Rattle.fields.proofs.Answers.{told, turned}
 use mathlib.Core.Path.{sym, ap, _∙_}
 use denote.Ref.{now}
@@ -25,7 +26,8 @@ refusal-of-requires c κs = search needs
 returns : tie.Need-returns
 returns c =
     let s = now (c .before .before .before .before .before .args .s) in
-    rw (c .refusal-of .ensures, c .before .enum-told .given .1) (judge-frame s (sym (c .before .before .before .frame .ensures) ∙ ap (frameAs s) (c .before .enum-told .given .1)))
+    let e = sym (c .before .before .before .frame .ensures) ∙ ap (frameAs s) (c .before .enum-told .given .1) in
+    rw (c .refusal-of .ensures, c .before .enum-told .given .1) (judge-frame s e)
 
 header-at-requires : tie.Need-header-at-requires
 header-at-requires c κs = search needs
@@ -44,7 +46,8 @@ returns-2 c =
     let c₁ = c .before .before .before .before in
     let s = now (c₁ .before .before .before .before .before .args .s) in
     let e₁ = sym (c₁ .before .before .before .frame .ensures) ∙ ap (frameAs s) (c₁ .before .a .given .1) in
-    rw (c .header-refusal .ensures, c .before .enum-told2 .given .1) (judge-header s e₁ (told (headerAs s) (c .before .enum-told2 .given .1) (c .before .before .before .header-at .ensures)))
+    let h = told (headerAs s) (c .before .enum-told2 .given .1) (c .before .before .before .header-at .ensures) in
+    rw (c .header-refusal .ensures, c .before .enum-told2 .given .1) (judge-header s e₁ h)
 
 skip-records-requires : tie.Need-skip-records-requires
 skip-records-requires c κs =

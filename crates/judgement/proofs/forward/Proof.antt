@@ -19,13 +19,19 @@ slice-aggregate-settle-in-place : tie.Need-slice-aggregate-settle-in-place
 slice-aggregate-settle-in-place c = sym (own-length (c .before .before .before .before .before .before .pre .0))
 
 settle-in-place-requires : tie.Need-settle-in-place-requires
-settle-in-place-requires c κs = let p = c .before .before .before .before .before .before .before .pre in (front-safe (p .0) (p .1), sym (own-length (p .0)))
+settle-in-place-requires c κs =
+    let p = c .before .before .before .before .before .before .before .pre in
+    (front-safe (p .0) (p .1), sym (own-length (p .0)))
 
 same-length : tie.Need-same-length
 same-length c = search needs
 
 returns : tie.Need-returns
-returns c = let p = c .before .before .before .before .before .before .before .before .before .before .pre in front-flow (p .0) (p .1) (c .before .before .settle-in-place .ensures)
+returns c =
+    let d = c .before .before in
+    let s = d .before in
+    let p = s .before .before .before .before .before .before .before .pre in
+    front-flow (p .0) (p .1) (d .settle-in-place .ensures)
 
 pub forward-spec : {M : Type 1} → statement M
 forward-spec =

@@ -1,7 +1,5 @@
 -- `judge_chart`: the lists' fronts are the chart's, so are the sets that are made, and 9 and 10 are judged of them. Assumes nothing.
 use mathlib.Core.Path.{_≡_}
-use mathlib.Core.List.{List}
-use Prim.Native.Nat.{ℕ}
 use native.Mathlib.Omega.{arith}
 use borrow.Author.Needs.{needs}
 use Rattle.model.specs.Chart.{Chart}

@@ -31,8 +31,8 @@ unreached-are : (c : tie.After-first-unreached) → let f = c .before .before .b
 unreached-are c =
     let f = c .before .before .before .before in
     let a = start f .args in
-    c .first-unreached .ensures
-    ∙ ap (unreachedIn (a .header .timers) (a .header .initial) (a .sources .now) (a .targets .now)) (seen-sets (start f .pre .0) (f .forward .ensures) _)
+    let s = seen-sets (start f .pre .0) (f .forward .ensures) _ in
+    c .first-unreached .ensures ∙ ap (unreachedIn (a .header .timers) (a .header .initial) (a .sources .now) (a .targets .now)) s
 
 -- the place of 10, if there is one
 unstarted-are : (c : tie.After-first-testing) → let f = c .before .before .before .before .before .before .before in let a = start f .args in
@@ -40,8 +40,8 @@ unstarted-are : (c : tie.After-first-testing) → let f = c .before .before .bef
 unstarted-are c =
     let f = c .before .before .before .before .before .before .before in
     let a = start f .args in
-    c .first-testing .ensures
-    ∙ ap (λ (s : List ℕ). lowest (testsAt (a .sources .now) (a .tested .now) s) (length (a .sources .now))) (seen-sets (start f .pre .0) (f .forward .ensures) _)
+    let s = seen-sets (start f .pre .0) (f .forward .ensures) _ in
+    c .first-testing .ensures ∙ ap (λ (s : List ℕ). lowest (testsAt (a .sources .now) (a .tested .now) s) (length (a .sources .now))) s
 
 -- ----
 

@@ -1,6 +1,6 @@
 -- `play` judges the file, and plays on the chart that is left. Hard is only the way from an arm of the answer back to the judgement: its places have
 -- names. Assumes nothing.
-use mathlib.Core.Path.{_≡_, refl, sym, ap, _∙_}
+use mathlib.Core.Path.{_≡_, sym, ap, _∙_}
 use mathlib.Core.List.{List}
 use Prim.Native.Nat.{ℕ}
 use borrow.Author.Needs.{needs}
@@ -10,10 +10,9 @@ use Rattle.file_format.specs.File.{chartIn}
 use Rattle.chart_lists.specs.Lists.{Lists, lists}
 use Rattle.chart_lists.specs.Holds.{Holds}
 use Rattle.chart_lists.specs.Read.{readAs}
-use Rattle.judgement.specs.Judging.{largest}
-use Rattle.judgement.proofs.Loading.{bytes-are}
-use Rattle.judgement.proofs.Handed.{JudgedChart, judged-chart}
-use Rattle.player.proofs.Files.{holds-played, left-holds, accepted-answer, refused-answer}
+use Rattle.judgement.specs.Charts.{AcceptedChart}
+use Rattle.judgement.proofs.Callers.{judged-chart}
+use Rattle.player.proofs.Files.{holds-played, accepted-answer, refused-answer}
 use Rattle.player.proofs.play.Statement.{statement}
 use Rattle.player.proofs.play.Tie as tie
 
@@ -30,9 +29,7 @@ left a = let l = a .judge .last in let r = l .1 .1 .1 .1 .1 in
     lists (l .1 .0) (l .1 .1 .0) (l .1 .1 .1 .0) (l .1 .1 .1 .1 .0) (r .0) (r .1 .0) (r .1 .1 .0) (r .1 .1 .1 .0) (r .1 .1 .1 .1 .0)
 
 holds-left : (a : tie.After-judge) (ch : Chart) → chartIn (file a) ≡ result ch → Holds ch (left a)
-holds-left a =
-    let known = cleared a .before .before .before .before .before .before .before .shared-slice-known in
-    left-holds (file a) (bytes-are (file a) (λ i. known .given i .fits)) (a .judge .ensures .1 .0)
+holds-left a = a .judge .ensures .1 .0
 
 -- the way back from the arms of the answer
 abbrev unlent : tie.After-tested2 → tie.After-starts2
@@ -72,8 +69,7 @@ slice-aggregate-judge-10 : tie.Need-slice-aggregate-judge-10
 slice-aggregate-judge-10 c = search needs
 
 judge-requires : tie.Need-judge-requires
-unfolding largest
-judge-requires c κs = record { lists-are = refl; tested-are = refl }
+judge-requires c κs = search needs
 
 enum-known-answer : tie.Need-enum-known-answer
 enum-known-answer c = search needs
@@ -106,7 +102,7 @@ slice-aggregate-play-chart-8 : tie.Need-slice-aggregate-play-chart-8
 slice-aggregate-play-chart-8 c = search needs
 
 -- the chart that is accepted
-accepted : (a : tie.After-answer2) → JudgedChart (file (judged (a .before .before))) (a .answer2 .given .0 .0)
+accepted : (a : tie.After-answer2) → AcceptedChart (file (judged (a .before .before))) (a .answer2 .given .0 .0)
 accepted a = judged-chart _ (ap readAs (sym (a .answer2 .given .1)) ∙ judged (a .before .before) .judge .ensures .0)
 
 abbrev answered : tie.After-constants3 → tie.After-answer2
@@ -114,7 +110,7 @@ answered a = a .before .before .before .before .before .before .before .before .
 
 play-chart-requires : tie.Need-play-chart-requires
 play-chart-requires c κs = let a = answered c in let j = accepted a in
-    (j .chart, j .numbers-are, holds-played (holds-left (judged (a .before .before)) (j .chart) (j .reads)))
+    (j .chart, j .header-is, holds-played (holds-left (judged (a .before .before)) (j .chart) (j .reads)))
 
 returns : tie.Need-returns
 returns c = let a = c .before in refused-answer _ _ _ _ (ap readAs (sym (a .answer .given .1)) ∙ judged (a .before .before) .judge .ensures .0)
@@ -124,7 +120,7 @@ returns-2 c =
     let a = answered (c .before) in
     let j = accepted a in
     let held = holds-played (holds-left (judged (a .before .before)) (j .chart) (j .reads)) in
-    accepted-answer _ _ _ _ j (c .play-chart .ensures (j .chart) (j .numbers-are) held)
+    accepted-answer _ _ _ _ j (c .play-chart .ensures (j .chart) (j .header-is) held)
 
 pub play-spec : {M : Type 1} → statement M
 play-spec =

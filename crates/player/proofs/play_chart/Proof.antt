@@ -8,7 +8,8 @@ use Rattle.chart_lists.specs.Holds.{Holds}
 use Rattle.chart_lists.specs.declared.Header.{Header}
 use Rattle.chart_lists.specs.Header.{headerOf}
 use Rattle.chart_lists.proofs.Begins.{begins-take, begins-part}
-use Rattle.steps.proofs.Headers.{timers-are, accepting-are}
+use Rattle.chart_lists.proofs.Fronts.{timers-are}
+use Rattle.steps.proofs.Headers.{accepting-are}
 use Rattle.steps.proofs.Held.{holds-steps}
 use Rattle.player.proofs.Inputs.{number-refused, count-refused, allowed, lengths-refused, steps-answer}
 use Rattle.player.proofs.play_chart.Statement.{statement}

@@ -1,30 +1,59 @@
+-- `read_chart`: a file that is refused, or a list that is too short, leaves the lists as they were; else they are filled in a second walk, which
+-- answers as the first did. Assumes nothing.
 use mathlib.Core.Path.{_≡_, sym, _∙_, subst}
 use mathlib.Core.Bool.{true}
+use mathlib.Core.List.{List}
+use Prim.Native.Nat.{ℕ}
 use denote.Ref.{now}
-use Rattle.chart_lists.specs.Lists.{Lists, lists}
-use Rattle.reader.specs.Meaning.{ChartIs, FileJudged}
-use Rattle.reader.proofs.Lengths.{not-no, not-yes}
-use Rattle.reader.proofs.ReadParts.{enoughFor, refused-file, refused-room, room, tests-fit, read-done}
 use borrow.Author.Needs.{needs}
+use Rattle.chart_lists.specs.Lists.{Lists, lists}
+use Rattle.file_judging.specs.Meaning.{ChartIs, JudgesFile}
+use Rattle.reader.proofs.Lengths.{not-no, not-yes}
+use Rattle.reader.proofs.ReadParts.{enoughFor, refused-file, refused-room, room, read-done}
 use Rattle.reader.proofs.read_chart.Statement.{statement}
 use Rattle.reader.proofs.read_chart.Tie as tie
 
--- the function's start, seen from where the room was found
-abbrev start : tie.Else1 → tie.Start
-start c = c .before .before .before .before .before .before .before .before .before .before .before .before .before .before .before .before .before
+-- ---- places, and what is known there
 
--- the lent lists as they were
-abbrev lent : tie.Else1 → Lists
-lent c =
-    let a = start c .args in
-    lists (now (a .accepting)) (now (a .sources)) (now (a .targets)) (now (a .events)) (now (a .starts)) (now (a .test-counts)) (now (a .timers)) (now (a .codes)) (now (a .constants))
+abbrev lent : tie.After-judge-file → tie.After-slice-known5
+lent d = d .before .before .before .before .before
 
--- the file's chart, and that the lists have room for it
-chart-is : (c : tie.Else1) → let g = c .before .before .before .before .a .given .0 in ChartIs (now (start c .args .file)) (g .0) (g .1 .0) (g .1 .1 .0) (g .1 .1 .1 .0)
-chart-is c = subst (FileJudged (now (start c .args .file))) (c .before .before .before .before .a .given .1) (c .before .before .before .before .before .before .judge-file .ensures)
+abbrev start : tie.After-judge-file → tie.Start
+start d = lent d .before .before .before .before .before .before
 
-has-room : (c : tie.Else1) → let g = c .before .before .before .before .a .given .0 in enoughFor (now (start c .args .file)) (lent c) (g .0 .accepting) (g .0 .transitions) (g .1 .1 .1 .0) ≡ true
+abbrev file : tie.After-judge-file → List ℕ
+file d = now (start d .args .file)
+
+abbrev before : tie.After-judge-file → Lists
+before d =
+    let a = start d .args in
+    lists (now (a .accepting)) (now (a .sources)) (now (a .targets)) (now (a .events)) (now (a .starts)) (now (a .test-counts)) (now (a .timers))
+    (now (a .codes)) (now (a .constants))
+
+-- where the room is judged
+abbrev judged : tie.After-room → tie.After-judge-file
+judged c = c .before .before .before .before .before .before
+
+abbrev header-of : tie.After-room → tie.After-a
+header-of c = c .before .before .before .before
+
+-- the file's chart
+chart-is : (c : tie.After-room) → let g = header-of c .a .given .0 in ChartIs (file (judged c)) (g .0) (g .1 .0)
+chart-is c = subst (JudgesFile (file (judged c))) (header-of c .a .given .1) (judged c .judge-file .ensures)
+
+-- the lists have room for it
+has-room : (c : tie.Else1) → let r = c .before in let g = header-of r .a .given .0 in
+    enoughFor (file (judged r)) (before (judged r)) (g .0 .accepting) (g .0 .transitions) (g .1 .0) ≡ true
 has-room c = sym (c .before .room .ensures) ∙ not-yes _ (c .if1 .left)
+
+-- where the lists are filled, from the end
+abbrev halfway : tie.After-slice-known18 → tie.After-slice-known14
+halfway c = c .before .before .before .before .before .before .before .before
+
+abbrev filled : tie.After-slice-known18 → tie.After-fill
+filled c = let d = halfway c .before .before .before .before .before in d .before .before .before .before .before
+
+-- ----
 
 judge-file-requires : tie.Need-judge-file-requires
 judge-file-requires c κs = search needs
@@ -40,8 +69,9 @@ judged-refusal-requires c κs = search needs
 
 returns : tie.Need-returns
 returns c =
-    let a = c .before .before .before .before .before .before .before .before .before .before .before .before .before .before .args in
-    rw (c .judged-refusal .ensures, c .before .enum-told .given .1) (refused-file (now (a .file)) _ (subst (FileJudged (now (a .file))) (c .before .enum-told .given .1) (c .before .before .before .judge-file .ensures)))
+    let d = c .before .before .before in
+    let e = subst (JudgesFile (file d)) (c .before .enum-told .given .1) (d .judge-file .ensures) in
+    rw (c .judged-refusal .ensures, c .before .enum-told .given .1) (refused-file (file d) (before d) e)
 
 cast-room : tie.Need-cast-room
 cast-room c = search needs
@@ -54,18 +84,14 @@ room-requires c κs = search needs
 
 returns-2 : tie.Need-returns-2
 returns-2 c =
-    let a = c .before .before .before .before .before .before .before .before .before .before .before .before .before .before .before .before .before .args in
-    let h = subst (FileJudged (now (a .file))) (c .before .before .before .before .a .given .1) (c .before .before .before .before .before .before .judge-file .ensures) in
-    refused-room (now (a .file)) _ h (sym (c .before .room .ensures) ∙ not-no _ (c .if1 .taken))
+    let r = c .before in
+    refused-room (file (judged r)) (before (judged r)) (chart-is r) (sym (r .room .ensures) ∙ not-no _ (c .if1 .taken))
 
-fill-accepting-requires : tie.Need-fill-accepting-requires
-fill-accepting-requires c κs = let d = c .before in room _ (lent d) (chart-is d) (has-room d) .accepting-fit
-
-fill-records-requires : tie.Need-fill-records-requires
-fill-records-requires c κs =
-    let d = c .before .before .before .before .before .before .before .before .before .before .before .before in
-    let r = room _ (lent d) (chart-is d) (has-room d) in
-    ((chart-is d .few-timers, r .sources-fit, r .targets-fit, r .events-fit, r .starts-fit, r .test-counts-fit), tests-fit _ (lent d) (chart-is d) (has-room d))
+fill-requires : tie.Need-fill-requires
+fill-requires c κs =
+    let e = c .before .before .before .before .before .before .before .before .before in
+    let r = e .before in
+    room (file (judged r)) (before (judged r)) (chart-is r) (has-room e)
 
 same-length : tie.Need-same-length
 same-length c = search needs
@@ -96,9 +122,11 @@ same-length-9 c = search needs
 
 returns-3 : tie.Need-returns-3
 returns-3 c =
-    let r = c .before .before .before .before .before .before .before .before .before .before .before .before .before .before .before .before in
-    let d = r .before .before .before .before .before .before .before .before .before .before .before .before .before in
-    read-done _ (lent d) (chart-is d) (has-room d) (r .before .before .before .before .before .before .before .before .before .before .before .fill-accepting .ensures) (r .fill-records .ensures)
+    let f = filled c in
+    let d = f .before in
+    let e = d .before .before .before .before .before .before .before .before .before in
+    let r = e .before in
+    read-done (file (judged r)) (before (judged r)) (chart-is r) (has-room e) (f .fill .ensures .0) (f .fill .ensures .1)
 
 pub read-chart-spec : {M : Type 1} → statement M
 read-chart-spec =
@@ -113,8 +141,7 @@ read-chart-spec =
     cast-room-2
     room-requires
     returns-2
-    fill-accepting-requires
-    fill-records-requires
+    fill-requires
     same-length
     same-length-2
     same-length-3

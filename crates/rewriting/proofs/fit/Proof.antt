@@ -1,172 +1,184 @@
--- `fit` meets its contract: 11, then 20 where more numbers are used than asked for, then what the writer answers. Assumes nothing.
+-- `fit` meets its contract: the board's limit refuses, or the numbers fit and the writer's answer decides. Assumes nothing.
 use mathlib.Core.Path.{_≡_, sym, ap, _∙_}
-use Prim.Native.Nat.{_≤_}
+use Prim.Native.Nat.{_*_, _≤_}
 use native.Mathlib.Omega.{arith}
 use denote.Ref.{now}
 use lib.ListN.{length}
-use Rattle.model.specs.Answer.{result, refused, then, nowhere}
-use Rattle.model.specs.Chart.{Chart}
-use Rattle.model.specs.FirstFit.{used}
-use Rattle.model.specs.Rewrite.{rewritten}
-use Rattle.file_format.specs.File.{fileOf}
-use Rattle.chart_lists.specs.Lists.{lists}
-use Rattle.writer.specs.declared.Written.{Written}
-use Rattle.writer.specs.Handing.{writtenAs}
-use Rattle.rewriting.specs.Rewriting.{figuresOf, bufferAfter}
-use Rattle.rewriting.specs.Parts.{intoRoom, fittedInto, ListsOfChart}
-use Rattle.rewriting.proofs.Order.{fitted-11, fitted-20, figures-refused, buffer-refused}
-use Rattle.rewriting.proofs.Lent.{few-locations, live-lent, numbers-lent, lent-lists, lent-numbers, made-room, seen-length, seen-fit}
-use Rattle.rewriting.proofs.Written.{figures-written, buffer-written}
 use borrow.Author.Needs.{needs}
+use Rattle.model.specs.Answer.{result, then}
+use Rattle.model.specs.Chart.{Chart}
+use Rattle.model.specs.Valid.{Valid}
+use Rattle.model.specs.Live.{testedSets}
+use Rattle.model.specs.FirstFit.{board}
+use Rattle.model.specs.Rewrite.{numbering}
+use Rattle.model.specs.Judge.{judged, fitted}
+use Rattle.chart_lists.specs.Header.{headerOf}
+use Rattle.chart_lists.specs.Lists.{overwritten}
+use Rattle.chart_lists.specs.Begins.{Begins}
+use Rattle.chart_lists.specs.Holds.{Holds}
+use Rattle.chart_lists.specs.Lent.{passed}
+use Rattle.chart_lists.proofs.Fronts.{locations-are}
+use Rattle.numbering.specs.ChartNumbered.{ChartNumbered}
+use Rattle.numbering.specs.Limits.{limitAs}
+use Rattle.numbering.specs.declared.Limit.{Limit}
+use Rattle.numbering.proofs.FileNumbers.{holds-edges}
+use Rattle.writer.specs.declared.Written.{Written}
+use Rattle.writer.specs.Writing.{writtenAs}
+use Rattle.rewriting.specs.Rewriting.{newFile, valuesOf}
+use Rattle.rewriting.specs.Parts.{fittedInto}
+use Rattle.rewriting.proofs.Order.{fitted-into, values-refused, buffer-refused}
+use Rattle.rewriting.proofs.Board.{board-used, board-cells, board-valid}
+use Rattle.rewriting.proofs.Written.{made, values-written, buffer-written}
 use Rattle.rewriting.proofs.fit.Statement.{statement}
 use Rattle.rewriting.proofs.fit.Tie as tie
 
-returns : tie.Need-returns
-returns c = let a = c .before .before .before .before .before .before .before .before .before .before .before .before .args in let out = now (a .out) in (
-  λ d x. figures-refused (a .k) (length out) d (fitted-11 (a .k) (length out) d (c .if1 .taken)),
-  λ d x. buffer-refused (a .k) (length out) d (fitted-11 (a .k) (length out) d (c .if1 .taken)) out,
-)
+-- the way back to the start
+abbrev start : tie.After-cells → tie.Start
+start c = c .before .before .before .before .before .before .before
 
--- past the test of K
-abbrev known : tie.After-struct-known → tie.Start
-known c = c .before .before .before .before .before .before .before .before .before .before .before .before .before
+abbrev numbered : tie.After-judge-limit → tie.After-number-chart
+numbered c = c .before .before .before
 
-cast-n : tie.Need-cast-n
-cast-n c = search needs
+abbrev entry : tie.After-judge-limit → tie.Start
+entry c = start (numbered c .before)
 
-array-borrow-prefix-live : tie.Need-array-borrow-prefix-live
-array-borrow-prefix-live c = few-locations (known c .pre .lists-are)
+-- the lists are those of the chart, which is judged
+abbrev Given : tie.Start → Chart → Type 0
+Given s d = let a = s .args in
+    (a .header ≡ headerOf d) × (judged d ≡ result d) × Valid 2 d
+    × Holds d (passed (a .accepting) (a .sources) (a .targets) (a .events) (a .starts) (a .test-counts) (a .timers) (a .codes) (a .constants))
+    × Begins (testedSets d) (now (a .tested))
+
+-- what numbering leaves
+left : (c : tie.After-judge-limit) (d : Chart) → Given (entry c) d → let n = numbered c .number-chart in
+    ChartNumbered d (n .last .1 .1 .1 .1 .1 .0) (n .last .1 .1 .1 .1 .1 .1 .0) (n .result)
+left c d g = numbered c .number-chart .ensures d (g .0) (holds-edges (g .3)) (g .4)
+
+-- what the judgement of the limit says
+limited : (c : tie.After-judge-limit) (d : Chart) → Given (entry c) d → {l : Limit} → c .judge-limit .result ≡ l
+    → limitAs l d ≡ fitted (entry c .args .k) d
+limited c d g e = sym (ap (λ (l : Limit). limitAs l d) e) ∙ c .judge-limit .ensures .answer d (left c d g .used-is)
 
 slice-aggregate-number-chart : tie.Need-slice-aggregate-number-chart
-slice-aggregate-number-chart c = sym (live-lent (known (c .before) .pre .lists-are))
-
-mul-numbers : tie.Need-mul-numbers
-mul-numbers c = search needs
-
-array-borrow-prefix-numbers : tie.Need-array-borrow-prefix-numbers
-array-borrow-prefix-numbers c = omega (arith, few-locations (known (c .before) .pre .lists-are))
+slice-aggregate-number-chart c = search needs
 
 slice-aggregate-number-chart-2 : tie.Need-slice-aggregate-number-chart-2
-slice-aggregate-number-chart-2 c = sym (numbers-lent (known (c .before .before) .pre .lists-are))
+slice-aggregate-number-chart-2 c = search needs
 
 number-chart-requires : tie.Need-number-chart-requires
-number-chart-requires c κs = let p = known (c .before .before) .pre in (record { chart = p .chart; lists = lent-lists (p .lists-are) }, lent-numbers (p .lists-are))
+number-chart-requires c κs =
+    let p = start c .pre in
+    let most : start c .args .header .locations ≤ 256 = omega (arith, locations-are (p .0) (p .1), p .3 .few-locations) in
+    let cells : 64 * start c .args .header .locations ≤ 16384 = omega (arith, most) in
+    ((p .0, p .1, holds-edges (p .4), p .5), most, cells)
 
--- the lists are those of the chart
-abbrev Of : tie.Start → Chart → Type 0
-Of s d = ListsOfChart d (s .args .m) (lists (now (s .args .accepting)) (now (s .args .sources)) (now (s .args .targets)) (now (s .args .events)) (now (s .args .starts)) (now (s .args .test-counts)) (now (s .args .timers)) (now (s .args .codes)) (now (s .args .constants))) (now (s .args .tested))
+judge-limit-requires : tie.Need-judge-limit-requires
+judge-limit-requires c κs = search needs
 
-over : (c : tie.Then2) (d : Chart) → Of (known (c .before .before .before .before .before .before)) d → let a = known (c .before .before .before .before .before .before) .args in fittedInto (a .k) (length (now (a .out))) d ≡ refused 20 nowhere
-over c d x =
-    let a = known (c .before .before .before .before .before .before) .args in
-    fitted-20 (a .k) (length (now (a .out))) d (c .before .before .before .before .before .before .before .if1 .left) (omega (arith, c .if2 .taken, c .before .before .before .number-chart .ensures d (lent-lists x) .used-is))
+enum-known-limit : tie.Need-enum-known-limit
+enum-known-limit c = search needs
 
-returns-2 : tie.Need-returns-2
-returns-2 c =
-    let a = known (c .before .before .before .before .before .before) .args in
-    let out = now (a .out) in (
-      λ d x. figures-refused (a .k) (length out) d (over c d x),
-      λ d x. buffer-refused (a .k) (length out) d (over c d x) out,
+returns : tie.Need-returns
+returns c =
+    let j = c .before .before .before in
+    let a = entry j .args in
+    let f = c .before .limit .given .1 in (
+      λ d is e v h t. values-refused (fitted-into (a .k) (length (now (a .out))) d (limited j d (is, e, v, h, t) f)),
+      λ d is e v h t. buffer-refused (fitted-into (a .k) (length (now (a .out))) d (limited j d (is, e, v, h, t) f)) (now (a .out)),
     )
 
+enum-told : tie.Need-enum-told
+enum-told c = search needs
+
+-- where the limit is enough
+abbrev judged-so : tie.After-enum-told → tie.After-judge-limit
+judged-so c = c .before .before
+
+few : (c : tie.After-enum-told) → numbered (judged-so c) .number-chart .result .used ≤ 64
+few c = let f = judged-so c .judge-limit .ensures .fits (c .enum-told .given .1) in omega (arith, f .0, f .1)
+
 cast-write-renamed : tie.Need-cast-write-renamed
-cast-write-renamed c = search needs
-
-mul-numbers-2 : tie.Need-mul-numbers-2
-mul-numbers-2 c = search needs
-
-array-share-prefix-numbers : tie.Need-array-share-prefix-numbers
-array-share-prefix-numbers c = let p = known (c .before .before .before .before .before .before) .pre in made-room (p .lists-are) (c .before .before .before .number-chart .ensures (p .chart) (lent-lists (p .lists-are))) _
-
-slice-aggregate-write-renamed : tie.Need-slice-aggregate-write-renamed
-slice-aggregate-write-renamed c = let p = known (c .before .before .before .before .before .before .before) .pre in sym (seen-length (p .lists-are) (c .before .before .before .before .number-chart .ensures (p .chart) (lent-lists (p .lists-are))) _)
+cast-write-renamed c = omega (arith, few c)
 
 write-renamed-requires : tie.Need-write-renamed-requires
 write-renamed-requires c κs =
-    let s = known (c .before .before .before .before .before .before .before .before) in
-    let p = s .pre in
-    record {
-      chart = p .chart;
-      tested = now (s .args .tested);
-      lists-are = p .lists-are;
-      numbers-fit = seen-fit (p .lists-are) (c .before .before .before .before .before .number-chart .ensures (p .chart) (lent-lists (p .lists-are))) _ (omega (arith, c .before .before .if2 .left, c .before .before .before .before .before .before .before .before .before .if1 .left));
-    }
+    let t = c .before .before in
+    let p = entry (judged-so t) .pre in
+    let x = left (judged-so t) (p .0) (p .1, p .2, p .3, p .4, p .5) in
+    (p .0, numbering (board (p .0)), p .1, p .4, board-cells (p .3) (p .2) x (few t))
 
-enum-known-w : tie.Need-enum-known-w
-enum-known-w c = search needs
+enum-known-written : tie.Need-enum-known-written
+enum-known-written c = search needs
 
-enum-known-w-2 : tie.Need-enum-known-w-2
-enum-known-w-2 c = search needs
+enum-known-written-2 : tie.Need-enum-known-written-2
+enum-known-written-2 c = search needs
+
+-- after the file is written
+abbrev told : tie.After-write-renamed → tie.After-enum-told
+told c = c .before .before .before
+
+abbrev first : tie.After-write-renamed → tie.Start
+first c = entry (judged-so (told c))
+
+enough : (c : tie.After-write-renamed) (d : Chart) → Given (first c) d → result (made d) ≡ fitted (first c .args .k) d
+enough c d g = limited (judged-so (told c)) d g (told c .enum-told .given .1)
+
+buffer : (c : tie.After-write-renamed) (d : Chart) → Given (first c) d → let a = first c .args in
+    c .write-renamed .last .1 .1 .1 .1 .1 .1 .1 .1 .1 .1 .1 .1 .0
+    ≡ overwritten newFile (fittedInto (a .k) (length (now (a .out))) d) (now (a .out))
+buffer c d g =
+    let a = first c .args in
+    let x = left (judged-so (told c)) d g in
+    let u = few (told c) in
+    let cells = board-cells (g .2) (g .1) x u in
+    c .write-renamed .ensures .1 d (numbering (board d)) (g .0) (g .3) cells (board-valid (g .2) (g .1) x u) (board-used (g .2) (g .1) x)
+    ∙ buffer-written (a .k) (length (now (a .out))) d (enough c d g) (now (a .out))
+
+-- the writer's answer, with the timers used
+values : (c : tie.After-write-renamed) {w : Written} → c .write-renamed .result ≡ w → (d : Chart) → Given (first c) d → let a = first c .args in
+    then (writtenAs w) (λ n. result (record { used = numbered (judged-so (told c)) .number-chart .result .used; length = n }))
+    ≡ then (fittedInto (a .k) (length (now (a .out))) d) (λ y. result (valuesOf y))
+values c e d g =
+    let a = first c .args in
+    let x = left (judged-so (told c)) d g in
+    let u = few (told c) in
+    let cells = board-cells (g .2) (g .1) x u in
+    let r = c .write-renamed .ensures .0 d (numbering (board d)) (g .0) (g .3) cells (board-valid (g .2) (g .1) x u)
+    (board-used (g .2) (g .1) x) in
+    values-written (a .k) (length (now (a .out))) d (enough c d g) (x .used-is) (sym (ap writtenAs e) ∙ r)
 
 same-length : tie.Need-same-length
 same-length c = search needs
 
--- after the file is written
-abbrev Done : Type 0
-Done = tie.After-write-renamed
-
-abbrev start : Done → tie.Start
-start c = known (c .before .before .before .before .before .before .before .before .before)
-
-limit : (c : Done) → start c .args .k ≤ 64
-limit c = c .before .before .before .before .before .before .before .before .before .before .if1 .left
-
-count : (c : Done) (d : Chart) → Of (start c) d → c .before .before .before .before .before .before .number-chart .result ≡ used d
-count c d x = c .before .before .before .before .before .before .number-chart .ensures d (lent-lists x) .used-is
-
-fits : (c : Done) (d : Chart) → Of (start c) d → used d ≤ start c .args .k
-fits c d x = omega (arith, c .before .before .before .if2 .left, count c d x)
-
-answer : (c : Done) (d : Chart) → Of (start c) d
-    → writtenAs (c .write-renamed .result) ≡ then (intoRoom (length (now (start c .args .out))) (rewritten d)) (λ y. result (length (fileOf y)))
-answer c d x =
-    c .write-renamed .ensures .0 d (now (start c .args .tested)) x
-    (seen-fit x (c .before .before .before .before .before .before .number-chart .ensures d (lent-lists x)) _ (omega (arith, c .before .before .before .if2 .left, limit c)))
-
-buffer : (c : Done) (d : Chart) → Of (start c) d → let a = start c .args in
-    c .write-renamed .last .1 .1 .1 .1 .1 .1 .1 .1 .1 .1 .1 .1 .0 ≡ bufferAfter (fittedInto (a .k) (length (now (a .out))) d) (now (a .out))
-buffer c d x = let a = start c .args in
-    c .write-renamed .ensures .1 d (now (a .tested)) x
-    (seen-fit x (c .before .before .before .before .before .before .number-chart .ensures d (lent-lists x)) _ (omega (arith, c .before .before .before .if2 .left, limit c)))
-    ∙ buffer-written (a .k) (length (now (a .out))) d (limit c) (fits c d x) (now (a .out))
-
--- the writer's answer, with the timers used
-figures : (c : Done) {w : Written} → c .write-renamed .result ≡ w → (d : Chart) → Of (start c) d → let a = start c .args in
-    then (writtenAs w) (λ n. result (record { used = c .before .before .before .before .before .before .number-chart .result; length = n }))
-    ≡ then (fittedInto (a .k) (length (now (a .out))) d) (λ y. result (figuresOf y))
-figures c e d x = let a = start c .args in
-    figures-written (a .k) (length (now (a .out))) d (limit c) (fits c d x) (count c d x) (sym (ap writtenAs e) ∙ answer c d x)
-
-returns-3 : tie.Need-returns-3
-returns-3 c = let b = c .before .before .before .before .before in (figures b (c .before .w .given .1), buffer b)
+returns-2 : tie.Need-returns-2
+returns-2 c =
+    let w = c .before .before .before .before .before in
+    (λ d is e v h t. values w (c .before .written .given .1) d (is, e, v, h, t), λ d is e v h t. buffer w d (is, e, v, h, t))
 
 same-length-2 : tie.Need-same-length-2
 same-length-2 c = search needs
 
-returns-4 : tie.Need-returns-4
-returns-4 c = let b = c .before .before .before .before .before in (figures b (c .before .w2 .given .1), buffer b)
+returns-3 : tie.Need-returns-3
+returns-3 c =
+    let w = c .before .before .before .before .before in
+    (λ d is e v h t. values w (c .before .written2 .given .1) d (is, e, v, h, t), λ d is e v h t. buffer w d (is, e, v, h, t))
 
 pub fit-spec : {M : Type 1} → statement M
 fit-spec =
     tie.close
     (tie.spec
-    returns
-    cast-n
-    array-borrow-prefix-live
     slice-aggregate-number-chart
-    mul-numbers
-    array-borrow-prefix-numbers
     slice-aggregate-number-chart-2
     number-chart-requires
-    returns-2
+    judge-limit-requires
+    enum-known-limit
+    returns
+    enum-told
     cast-write-renamed
-    mul-numbers-2
-    array-share-prefix-numbers
-    slice-aggregate-write-renamed
     write-renamed-requires
-    enum-known-w
-    enum-known-w-2
+    enum-known-written
+    enum-known-written-2
     same-length
-    returns-3
+    returns-2
     same-length-2
-    returns-4)
+    returns-3)

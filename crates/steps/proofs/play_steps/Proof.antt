@@ -3,7 +3,8 @@
 use native.Mathlib.Omega.{arith}
 use borrow.Author.Needs.{needs}
 use Rattle.model.specs.Run.{outcome}
-use Rattle.steps.proofs.Headers.{transitions-are, initial-is}
+use Rattle.chart_lists.proofs.Fronts.{transitions-are}
+use Rattle.steps.proofs.Headers.{initial-is}
 use Rattle.steps.proofs.Held.{holds-counts}
 use Rattle.steps.proofs.Starting.{starting-small, starting-shows}
 use Rattle.steps.proofs.play_steps.Statement.{statement}

@@ -1,3 +1,4 @@
+-- `ends_at` reads four fields one after another: each refusal is the whole's, and the four values make it up. Assumes nothing.
 use mathlib.Core.Path.{_≡_}
 use native.Mathlib.Omega.{arith}
 use lib.ListN.{drop}
@@ -11,22 +12,40 @@ use Rattle.fields.proofs.Steps.{ends-length, ends-source, ends-target, 
 use Rattle.fields.proofs.record.ends_at.Statement.{statement}
 use Rattle.fields.proofs.record.ends_at.Tie as tie
 
--- what each field is where its value was bound
-length-at : (c : tie.After-known-told) → let a = c .before .before .before .before .before .args in
-    number 2 (drop (a .at) (now (a .s))) ≡ value (c .before .a .given .0 .0) (drop (c .before .a .given .0 .1 .0) (now (a .s)))
-length-at c = told (fieldAs (now (c .before .before .before .before .before .args .s))) (c .before .a .given .1) (c .before .before .before .pair-at .ensures .reads)
+-- ---- places, each where the next field is known
 
-source-at : (c : tie.After-known-told2) → let a = c .before .before .before .before .before .before .before .before .before .args in
-    below 2 (a .locations) 5 (a .place) (drop (c .before .before .before .before .before .a .given .0 .1 .0) (now (a .s))) ≡ value (c .before .b .given .0 .0) (drop (c .before .b .given .0 .1 .0) (now (a .s)))
-source-at c = told (fieldAs (now (c .before .before .before .before .before .before .before .before .before .args .s))) (c .before .b .given .1) (c .before .before .before .pair-below .ensures)
+abbrev first : tie.After-known-told → tie.Start
+first c = c .before .before .before .before .before
 
-target-at : (c : tie.After-known-told3) → let a = c .before .before .before .before .before .before .before .before .before .before .before .before .before .args in
-    below 2 (a .locations) 5 (a .place) (drop (c .before .before .before .before .before .b .given .0 .1 .0) (now (a .s))) ≡ value (c .before .d .given .0 .0) (drop (c .before .d .given .0 .1 .0) (now (a .s)))
-target-at c = told (fieldAs (now (c .before .before .before .before .before .before .before .before .before .before .before .before .before .args .s))) (c .before .d .given .1) (c .before .before .before .pair-below2 .ensures)
+abbrev second : tie.After-known-told2 → tie.After-known-told
+second c = c .before .before .before .before
 
-event-at : (c : tie.After-known-told4) → let a = c .before .before .before .before .before .before .before .before .before .before .before .before .before .before .before .before .before .args in
-    number 1 (drop (c .before .before .before .before .before .d .given .0 .1 .0) (now (a .s))) ≡ value (c .before .e .given .0 .0) (drop (c .before .e .given .0 .1 .0) (now (a .s)))
-event-at c = told (fieldAs (now (c .before .before .before .before .before .before .before .before .before .before .before .before .before .before .before .before .before .args .s))) (c .before .e .given .1) (c .before .before .before .byte-at .ensures .reads)
+abbrev third : tie.After-known-told3 → tie.After-known-told2
+third c = c .before .before .before .before
+
+abbrev fourth : tie.After-known-told4 → tie.After-known-told3
+fourth c = c .before .before .before .before
+
+-- ---- what each field is there
+
+length-at : (c : tie.After-known-told) → let a = first c .args in let g = c .before .a .given .0 in
+    number 2 (drop (a .at) (now (a .s))) ≡ value (g .0) (drop (g .1 .0) (now (a .s)))
+length-at c = told (fieldAs (now (first c .args .s))) (c .before .a .given .1) (c .before .before .before .pair-at .ensures .reads)
+
+source-at : (c : tie.After-known-told2) → let d = second c in let a = first d .args in let g = c .before .b .given .0 in
+    below 2 (a .locations) 5 (a .place) (drop (d .before .a .given .0 .1 .0) (now (a .s))) ≡ value (g .0) (drop (g .1 .0) (now (a .s)))
+source-at c = told (fieldAs (now (first (second c) .args .s))) (c .before .b .given .1) (c .before .before .before .pair-below .ensures)
+
+target-at : (c : tie.After-known-told3) → let d = third c in let a = first (second d) .args in let g = c .before .d .given .0 in
+    below 2 (a .locations) 5 (a .place) (drop (d .before .b .given .0 .1 .0) (now (a .s))) ≡ value (g .0) (drop (g .1 .0) (now (a .s)))
+target-at c = told (fieldAs (now (first (second (third c)) .args .s))) (c .before .d .given .1) (c .before .before .before .pair-below2 .ensures)
+
+event-at : (c : tie.After-known-told4) → let d = fourth c in let a = first (second (third d)) .args in let g = c .before .e .given .0 in
+    number 1 (drop (d .before .d .given .0 .1 .0) (now (a .s))) ≡ value (g .0) (drop (g .1 .0) (now (a .s)))
+event-at c =
+    told (fieldAs (now (first (second (third (fourth c))) .args .s))) (c .before .e .given .1) (c .before .before .before .byte-at .ensures .reads)
+
+-- ----
 
 pair-at-requires : tie.Need-pair-at-requires
 pair-at-requires c κs = search needs
@@ -43,7 +62,8 @@ refusal-of-requires c κs = search needs
 returns : tie.Need-returns
 returns c =
     let a = c .before .before .before .before .before .args in
-    ends-length (a .locations) (a .place) _ (turned (now (a .s)) (c .before .enum-told .given .1) (c .refusal-of .ensures) (c .before .before .before .pair-at .ensures .reads))
+    let e = turned (now (a .s)) (c .before .enum-told .given .1) (c .refusal-of .ensures) (c .before .before .before .pair-at .ensures .reads) in
+    ends-length (a .locations) (a .place) _ e
 
 pair-below-requires : tie.Need-pair-below-requires
 pair-below-requires c κs = search needs
@@ -60,8 +80,9 @@ refusal-of-requires-2 c κs = search needs
 returns-2 : tie.Need-returns-2
 returns-2 c =
     let c₁ = c .before .before .before .before in
-    let a = c₁ .before .before .before .before .before .args in
-    ends-source (a .locations) (a .place) _ (length-at c₁) (turned (now (a .s)) (c .before .enum-told2 .given .1) (c .refusal-of2 .ensures) (c .before .before .before .pair-below .ensures))
+    let a = first c₁ .args in
+    let e = turned (now (a .s)) (c .before .enum-told2 .given .1) (c .refusal-of2 .ensures) (c .before .before .before .pair-below .ensures) in
+    ends-source (a .locations) (a .place) _ (length-at c₁) e
 
 pair-below-requires-2 : tie.Need-pair-below-requires-2
 pair-below-requires-2 c κs = search needs
@@ -78,9 +99,10 @@ refusal-of-requires-3 c κs = search needs
 returns-3 : tie.Need-returns-3
 returns-3 c =
     let c₂ = c .before .before .before .before in
-    let c₁ = c₂ .before .before .before .before in
-    let a = c₁ .before .before .before .before .before .args in
-    ends-target (a .locations) (a .place) _ (length-at c₁) (source-at c₂) (turned (now (a .s)) (c .before .enum-told3 .given .1) (c .refusal-of3 .ensures) (c .before .before .before .pair-below2 .ensures))
+    let c₁ = second c₂ in
+    let a = first c₁ .args in
+    let e = turned (now (a .s)) (c .before .enum-told3 .given .1) (c .refusal-of3 .ensures) (c .before .before .before .pair-below2 .ensures) in
+    ends-target (a .locations) (a .place) _ (length-at c₁) (source-at c₂) e
 
 byte-at-requires : tie.Need-byte-at-requires
 byte-at-requires c κs = search needs
@@ -97,30 +119,37 @@ refusal-of-requires-4 c κs = search needs
 returns-4 : tie.Need-returns-4
 returns-4 c =
     let c₃ = c .before .before .before .before in
-    let c₂ = c₃ .before .before .before .before in
-    let c₁ = c₂ .before .before .before .before in
-    let a = c₁ .before .before .before .before .before .args in
-    ends-event (a .locations) (a .place) _ (length-at c₁) (source-at c₂) (target-at c₃) (turned (now (a .s)) (c .before .enum-told4 .given .1) (c .refusal-of4 .ensures) (c .before .before .before .byte-at .ensures .reads))
+    let c₂ = third c₃ in
+    let c₁ = second c₂ in
+    let a = first c₁ .args in
+    let e = turned (now (a .s)) (c .before .enum-told4 .given .1) (c .refusal-of4 .ensures) (c .before .before .before .byte-at .ensures .reads) in
+    ends-event (a .locations) (a .place) _ (length-at c₁) (source-at c₂) (target-at c₃) e
 
 cast-t22 : tie.Need-cast-t22
-cast-t22 c = let d = c .before .before .before .before .before .before .before .before .before .before .before .before in record { fits = omega (arith, d .before .before .before .pair-at .ensures .small _ _ (d .before .a .given .1)) }
+cast-t22 c =
+    let d = second (third (fourth c)) in
+    record { fits = omega (arith, d .before .before .before .pair-at .ensures .small _ _ (d .before .a .given .1)) }
 
 cast-t23 : tie.Need-cast-t23
-cast-t23 c = record { fits = omega (arith, below-limit _ _ _ _ _ (source-at (c .before .before .before .before .before .before .before .before)), c .before .before .before .before .before .before .before .before .before .before .before .before .before .before .before .before .before .good) }
+cast-t23 c =
+    let d = third (fourth c) in
+    record { fits = omega (arith, below-limit _ _ _ _ _ (source-at d), first (second d) .good) }
 
 cast-t24 : tie.Need-cast-t24
-cast-t24 c = record { fits = omega (arith, below-limit _ _ _ _ _ (target-at (c .before .before .before .before)), c .before .before .before .before .before .before .before .before .before .before .before .before .before .before .before .before .before .good) }
+cast-t24 c =
+    let d = fourth c in
+    record { fits = omega (arith, below-limit _ _ _ _ _ (target-at d), first (second (third d)) .good) }
 
 cast-t25 : tie.Need-cast-t25
 cast-t25 c = record { fits = omega (arith, c .before .before .before .byte-at .ensures .small _ _ (c .before .e .given .1)) }
 
 returns-5 : tie.Need-returns-5
 returns-5 c =
-    let c₄ = c in
-    let c₃ = c₄ .before .before .before .before in
-    let c₂ = c₃ .before .before .before .before in
-    let c₁ = c₂ .before .before .before .before in
-    let a = c₁ .before .before .before .before .before .args in ends-whole (a .locations) (a .place) _ (length-at c₁) (source-at c₂) (target-at c₃) (event-at c₄)
+    let c₃ = fourth c in
+    let c₂ = third c₃ in
+    let c₁ = second c₂ in
+    let a = first c₁ .args in
+    ends-whole (a .locations) (a .place) _ (length-at c₁) (source-at c₂) (target-at c₃) (event-at c)
 
 pub ends-at-spec : {M : Type 1} → statement M
 ends-at-spec =

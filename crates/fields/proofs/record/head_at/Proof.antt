@@ -1,3 +1,4 @@
+-- `head_at` reads the ends, the starts and the number of tests one after another, then judges the record's length and that number. Assumes nothing.
 use mathlib.Core.Path.{_≡_}
 use native.Mathlib.Omega.{arith}
 use lib.ListN.{drop}
@@ -12,23 +13,42 @@ use Rattle.fields.proofs.Steps.{head-ends, head-count, head-starts, hea
 use Rattle.fields.proofs.record.head_at.Statement.{statement}
 use Rattle.fields.proofs.record.head_at.Tie as tie
 
--- what each part is where its value was bound
-ends-at : (c : tie.After-known-told) → let a = c .before .before .before .before .before .args in let g = c .before .a .given .0 in
+-- ---- places, each where the next part is known
+
+abbrev first : tie.After-known-told → tie.Start
+first c = c .before .before .before .before .before
+
+abbrev second : tie.After-known-told2 → tie.After-known-told
+second c = c .before .before .before .before
+
+abbrev third : tie.After-known-told3 → tie.After-known-told2
+third c = c .before .before .before .before
+
+abbrev fourth : tie.After-known-told4 → tie.After-known-told3
+fourth c = c .before .before .before .before
+
+-- ---- what each part is there
+
+ends-at : (c : tie.After-known-told) → let a = first c .args in let g = c .before .a .given .0 in
     readEnds (a .locations) (a .place) (drop (a .at) (now (a .s)))
     ≡ value (record { length = g .0; source = g .1 .0; target = g .1 .1 .0; event = g .1 .1 .1 .0 }) (drop (g .1 .1 .1 .1 .0) (now (a .s)))
-ends-at c = told (endsAs (now (c .before .before .before .before .before .args .s))) (c .before .a .given .1) (c .before .before .before .ends-at .ensures)
+ends-at c = told (endsAs (now (first c .args .s))) (c .before .a .given .1) (c .before .before .before .ends-at .ensures)
 
-count-at : (c : tie.After-known-told2) → let a = c .before .before .before .before .before .before .before .before .before .args in
-    below 1 65 4 (a .place) (drop (c .before .before .before .before .before .a .given .0 .1 .1 .1 .1 .0) (now (a .s))) ≡ value (c .before .b .given .0 .0) (drop (c .before .b .given .0 .1 .0) (now (a .s)))
-count-at c = told (fieldAs (now (c .before .before .before .before .before .before .before .before .before .args .s))) (c .before .b .given .1) (c .before .before .before .byte-below .ensures)
+count-at : (c : tie.After-known-told2) → let d = second c in let a = first d .args in let g = c .before .b .given .0 in
+    below 1 65 4 (a .place) (drop (d .before .a .given .0 .1 .1 .1 .1 .0) (now (a .s))) ≡ value (g .0) (drop (g .1 .0) (now (a .s)))
+count-at c = told (fieldAs (now (first (second c) .args .s))) (c .before .b .given .1) (c .before .before .before .byte-below .ensures)
 
-starts-at : (c : tie.After-known-told3) → let a = c .before .before .before .before .before .before .before .before .before .before .before .before .before .args in
-    readStarts (a .timers) (a .place) (c .before .before .before .before .before .b .given .0 .0) (drop (c .before .before .before .before .before .b .given .0 .1 .0) (now (a .s))) ≡ value (c .before .d .given .0 .0) (drop (c .before .d .given .0 .1 .0) (now (a .s)))
-starts-at c = told (fieldAs (now (c .before .before .before .before .before .before .before .before .before .before .before .before .before .args .s))) (c .before .d .given .1) (c .before .before .before .starts-at .ensures)
+starts-at : (c : tie.After-known-told3) → let d = third c in let a = first (second d) .args in let h = d .before .b .given .0 in
+    let g = c .before .d .given .0 in
+    readStarts (a .timers) (a .place) (h .0) (drop (h .1 .0) (now (a .s))) ≡ value (g .0) (drop (g .1 .0) (now (a .s)))
+starts-at c = told (fieldAs (now (first (second (third c)) .args .s))) (c .before .d .given .1) (c .before .before .before .starts-at .ensures)
 
-tests-at : (c : tie.After-known-told4) → let a = c .before .before .before .before .before .before .before .before .before .before .before .before .before .before .before .before .before .args in
-    number 1 (drop (c .before .before .before .before .before .d .given .0 .1 .0) (now (a .s))) ≡ value (c .before .e .given .0 .0) (drop (c .before .e .given .0 .1 .0) (now (a .s)))
-tests-at c = told (fieldAs (now (c .before .before .before .before .before .before .before .before .before .before .before .before .before .before .before .before .before .args .s))) (c .before .e .given .1) (c .before .before .before .byte-at .ensures .reads)
+tests-at : (c : tie.After-known-told4) → let d = fourth c in let a = first (second (third d)) .args in let g = c .before .e .given .0 in
+    number 1 (drop (d .before .d .given .0 .1 .0) (now (a .s))) ≡ value (g .0) (drop (g .1 .0) (now (a .s)))
+tests-at c =
+    told (fieldAs (now (first (second (third (fourth c))) .args .s))) (c .before .e .given .1) (c .before .before .before .byte-at .ensures .reads)
+
+-- ----
 
 ends-at-requires : tie.Need-ends-at-requires
 ends-at-requires c κs = search needs
@@ -45,8 +65,8 @@ ends-refusal-requires c κs = search needs
 returns : tie.Need-returns
 returns c =
     let a = c .before .before .before .before .before .args in
-    rw (c .ends-refusal .ensures, c .before .enum-told .given .1)
-    (head-ends (a .locations) (a .timers) (a .place) _ (told (endsAs (now (a .s))) (c .before .enum-told .given .1) (c .before .before .before .ends-at .ensures)))
+    let e = told (endsAs (now (a .s))) (c .before .enum-told .given .1) (c .before .before .before .ends-at .ensures) in
+    rw (c .ends-refusal .ensures, c .before .enum-told .given .1) (head-ends (a .locations) (a .timers) (a .place) _ e)
 
 byte-below-requires : tie.Need-byte-below-requires
 byte-below-requires c κs = search needs
@@ -63,8 +83,9 @@ refusal-of-requires c κs = search needs
 returns-2 : tie.Need-returns-2
 returns-2 c =
     let c₁ = c .before .before .before .before in
-    let a = c₁ .before .before .before .before .before .args in
-    head-count (a .locations) (a .timers) (a .place) _ (ends-at c₁) (turned (now (a .s)) (c .before .enum-told2 .given .1) (c .refusal-of .ensures) (c .before .before .before .byte-below .ensures))
+    let a = first c₁ .args in
+    let e = turned (now (a .s)) (c .before .enum-told2 .given .1) (c .refusal-of .ensures) (c .before .before .before .byte-below .ensures) in
+    head-count (a .locations) (a .timers) (a .place) _ (ends-at c₁) e
 
 starts-at-requires : tie.Need-starts-at-requires
 starts-at-requires c κs = search needs
@@ -81,9 +102,10 @@ refusal-of-requires-2 c κs = search needs
 returns-3 : tie.Need-returns-3
 returns-3 c =
     let c₂ = c .before .before .before .before in
-    let c₁ = c₂ .before .before .before .before in
-    let a = c₁ .before .before .before .before .before .args in
-    head-starts (a .locations) (a .timers) (a .place) _ (ends-at c₁) (count-at c₂) (turned (now (a .s)) (c .before .enum-told3 .given .1) (c .refusal-of2 .ensures) (c .before .before .before .starts-at .ensures))
+    let c₁ = second c₂ in
+    let a = first c₁ .args in
+    let e = turned (now (a .s)) (c .before .enum-told3 .given .1) (c .refusal-of2 .ensures) (c .before .before .before .starts-at .ensures) in
+    head-starts (a .locations) (a .timers) (a .place) _ (ends-at c₁) (count-at c₂) e
 
 byte-at-requires : tie.Need-byte-at-requires
 byte-at-requires c κs = search needs
@@ -100,39 +122,42 @@ refusal-of-requires-3 c κs = search needs
 returns-4 : tie.Need-returns-4
 returns-4 c =
     let c₃ = c .before .before .before .before in
-    let c₂ = c₃ .before .before .before .before in
-    let c₁ = c₂ .before .before .before .before in
-    let a = c₁ .before .before .before .before .before .args in
-    head-tests (a .locations) (a .timers) (a .place) _ (ends-at c₁) (count-at c₂) (starts-at c₃) (turned (now (a .s)) (c .before .enum-told4 .given .1) (c .refusal-of3 .ensures) (c .before .before .before .byte-at .ensures .reads))
+    let c₂ = third c₃ in
+    let c₁ = second c₂ in
+    let a = first c₁ .args in
+    let e = turned (now (a .s)) (c .before .enum-told4 .given .1) (c .refusal-of3 .ensures) (c .before .before .before .byte-at .ensures .reads) in
+    head-tests (a .locations) (a .timers) (a .place) _ (ends-at c₁) (count-at c₂) (starts-at c₃) e
 
 cast-if1 : tie.Need-cast-if1
 cast-if1 c = search needs
 
 add-if1 : tie.Need-add-if1
-add-if1 c = record { fits = omega (arith, below-limit _ _ _ _ _ (count-at (c .before .before .before .before .before .before .before .before))) }
+add-if1 c = record { fits = omega (arith, below-limit _ _ _ _ _ (count-at (third (fourth c)))) }
 
 mul-if1 : tie.Need-mul-if1
 mul-if1 c = record { fits = omega (arith, c .before .before .before .byte-at .ensures .small _ _ (c .before .e .given .1)) }
 
 add-if1-2 : tie.Need-add-if1-2
-add-if1-2 c = record { fits = omega (arith, below-limit _ _ _ _ _ (count-at (c .before .before .before .before .before .before .before .before)), c .before .before .before .byte-at .ensures .small _ _ (c .before .e .given .1)) }
+add-if1-2 c =
+    let few = below-limit _ _ _ _ _ (count-at (third (fourth c))) in
+    record { fits = omega (arith, few, c .before .before .before .byte-at .ensures .small _ _ (c .before .e .given .1)) }
 
 returns-5 : tie.Need-returns-5
 returns-5 c =
     let c₄ = c .before in
-    let c₃ = c₄ .before .before .before .before in
-    let c₂ = c₃ .before .before .before .before in
-    let c₁ = c₂ .before .before .before .before in
-    let a = c₁ .before .before .before .before .before .args in
+    let c₃ = fourth c₄ in
+    let c₂ = third c₃ in
+    let c₁ = second c₂ in
+    let a = first c₁ .args in
     head-length (a .locations) (a .timers) (a .place) _ (ends-at c₁) (count-at c₂) (starts-at c₃) (tests-at c₄) (c .if1 .taken)
 
 returns-6 : tie.Need-returns-6
 returns-6 c =
     let c₄ = c .before .before in
-    let c₃ = c₄ .before .before .before .before in
-    let c₂ = c₃ .before .before .before .before in
-    let c₁ = c₂ .before .before .before .before in
-    let a = c₁ .before .before .before .before .before .args in
+    let c₃ = fourth c₄ in
+    let c₂ = third c₃ in
+    let c₁ = second c₂ in
+    let a = first c₁ .args in
     head-most (a .locations) (a .timers) (a .place) _ (ends-at c₁) (count-at c₂) (starts-at c₃) (tests-at c₄) (c .before .if1 .left) (c .if2 .taken)
 
 cast-t32 : tie.Need-cast-t32
@@ -141,10 +166,10 @@ cast-t32 c = search needs
 returns-7 : tie.Need-returns-7
 returns-7 c =
     let c₄ = c .before .before in
-    let c₃ = c₄ .before .before .before .before in
-    let c₂ = c₃ .before .before .before .before in
-    let c₁ = c₂ .before .before .before .before in
-    let a = c₁ .before .before .before .before .before .args in
+    let c₃ = fourth c₄ in
+    let c₂ = third c₃ in
+    let c₁ = second c₂ in
+    let a = first c₁ .args in
     head-whole (a .locations) (a .timers) (a .place) _ (ends-at c₁) (count-at c₂) (starts-at c₃) (tests-at c₄) (c .before .if1 .left) (c .if2 .left)
 
 pub head-at-spec : {M : Type 1} → statement M

@@ -1,3 +1,4 @@
+-- `starts_at` puts one started timer after another into a set; each is above the one before it. Assumes nothing.
 use mathlib.Core.Path.{_≡_, _∙_}
 use Prim.Native.Nat.{_-_}
 use native.Mathlib.Omega.{arith}
@@ -19,9 +20,12 @@ abbrev μ-loop : tie.MeasureT-loop
 μ-loop s at n timers place set₀ lowest₀ here₀ k₀ set lowest here k = n - k
 
 -- what stands at `here` where it is a number below the limit
-read-at : (c : tie.After-known-told Inv-loop μ-loop) → let d = c .before .before .before .before .before in let a = d .before .before .args in
-    below 1 (a .timers) 6 (a .place) (drop (d .loop .here) (now (a .s))) ≡ value (c .before .a .given .0 .0) (drop (c .before .a .given .0 .1 .0) (now (a .s)))
-read-at c = let d = c .before .before .before in told (fieldAs (now (d .before .before .before .before .args .s))) (c .before .a .given .1) (d .byte-below .ensures)
+abbrev start : tie.After-byte-below Inv-loop μ-loop → tie.Start Inv-loop μ-loop
+start d = d .before .before .before .before
+
+read-at : (c : tie.After-known-told Inv-loop μ-loop) → let d = c .before .before .before in let a = start d .args in let g = c .before .a .given .0 in
+    below 1 (a .timers) 6 (a .place) (drop (d .before .before .loop .here) (now (a .s))) ≡ value (g .0) (drop (g .1 .0) (now (a .s)))
+read-at c = let d = c .before .before .before in told (fieldAs (now (start d .args .s))) (c .before .a .given .1) (d .byte-below .ensures)
 
 loop-holds : tie.Need-loop-holds Inv-loop μ-loop
 loop-holds c = let a = c .before .args in starts-first (a .timers) (a .place) (now (a .s)) (a .at) (a .n)
@@ -39,7 +43,7 @@ returns : tie.Need-returns Inv-loop μ-loop
 returns c =
     let d = c .before .before in
     let k = d .byte-below .ensures in
-    let h = told (fieldAs (now (d .before .before .before .before .args .s))) (c .enum-told .given .1) k in
+    let h = told (fieldAs (now (start d .args .s))) (c .enum-told .given .1) k in
     (k ∙ h) ∙ starts-refused (d .before .before .loop .inv) (d .before .loop-test .taken) h
 
 returns-2 : tie.Need-returns-2 Inv-loop μ-loop
@@ -48,13 +52,15 @@ returns-2 c =
     starts-low (d .before .before .loop .inv) (d .before .loop-test .taken) (read-at (c .before)) (c .if1 .taken)
 
 with-requires : tie.Need-with-requires Inv-loop μ-loop
-with-requires c κs = omega (arith, below-limit _ _ _ _ _ (read-at (c .before)), c .before .before .before .before .before .before .before .before .pre)
+with-requires c κs = omega (arith, below-limit _ _ _ _ _ (read-at (c .before)), start (c .before .before .before .before) .pre)
 
 cast-with : tie.Need-cast-with Inv-loop μ-loop
 cast-with c = record { fits = omega (arith, with-requires c _) }
 
 add-lowest : tie.Need-add-lowest Inv-loop μ-loop
-add-lowest c = record { fits = omega (arith, below-limit _ _ _ _ _ (read-at (c .before .before)), c .before .before .before .before .before .before .before .before .before .pre) }
+add-lowest c =
+    let d = c .before .before .before .before .before in
+    record { fits = omega (arith, below-limit _ _ _ _ _ (read-at (c .before .before)), start d .pre) }
 
 add-k : tie.Need-add-k Inv-loop μ-loop
 add-k c = search needs
@@ -65,7 +71,8 @@ loop-less c = search needs
 loop-again : tie.Need-loop-again Inv-loop μ-loop
 loop-again c =
     let d = c .before .before .before .before .before in
-    rw (c .with .ensures) (starts-again (d .before .before .loop .inv) (d .before .loop-test .taken) (read-at (c .before .before)) (c .before .if1 .left))
+    rw (c .with .ensures)
+    (starts-again (d .before .before .loop .inv) (d .before .loop-test .taken) (read-at (c .before .before)) (c .before .if1 .left))
 
 returns-3 : tie.Need-returns-3 Inv-loop μ-loop
 returns-3 c = starts-done (c .before .loop .inv) (c .loop-test .left)

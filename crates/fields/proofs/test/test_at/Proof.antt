@@ -1,3 +1,4 @@
+-- `test_at` reads a timer, a code and a constant one after another: each refusal is the whole's, and the three make up the test. Assumes nothing.
 use mathlib.Core.Path.{_≡_, sym, ap, _∙_}
 use mathlib.Core.Option.{some}
 use native.Mathlib.Omega.{arith}
@@ -14,21 +15,39 @@ use Rattle.fields.proofs.Steps.{test-timer, test-code, test-unknown, te
 use Rattle.fields.proofs.test.test_at.Statement.{statement}
 use Rattle.fields.proofs.test.test_at.Tie as tie
 
--- what each field is where its value was bound
-timer-at : (c : tie.After-known-told) → let a = c .before .before .before .before .before .args in
-    below 1 (a .timers) 6 (a .place) (drop (a .at) (now (a .s))) ≡ value (c .before .a .given .0 .0) (drop (c .before .a .given .0 .1 .0) (now (a .s)))
-timer-at c = told (fieldAs (now (c .before .before .before .before .before .args .s))) (c .before .a .given .1) (c .before .before .before .byte-below .ensures)
+-- ---- places, each where the next field is known
 
-code-at : (c : tie.After-known-told2) → let a = c .before .before .before .before .before .before .before .before .before .args in
-    number 1 (drop (c .before .before .before .before .before .a .given .0 .1 .0) (now (a .s))) ≡ value (c .before .b .given .0 .0) (drop (c .before .b .given .0 .1 .0) (now (a .s)))
-code-at c = told (fieldAs (now (c .before .before .before .before .before .before .before .before .before .args .s))) (c .before .b .given .1) (c .before .before .before .byte-at .ensures .reads)
+abbrev first : tie.After-known-told → tie.Start
+first c = c .before .before .before .before .before
 
-comparison-at : (c : tie.After-known-told3) → comparisonOf (c .before .before .before .before .before .b .given .0 .0) ≡ some (c .before .d .given .0 .0)
+abbrev second : tie.After-known-told2 → tie.After-known-told
+second c = c .before .before .before .before
+
+abbrev third : tie.After-known-told3 → tie.After-known-told2
+third c = c .before .before .before .before
+
+abbrev fourth : tie.After-known-told4 → tie.After-known-told3
+fourth c = c .before .before .before .before
+
+-- ---- what each field is there
+
+timer-at : (c : tie.After-known-told) → let a = first c .args in let g = c .before .a .given .0 in
+    below 1 (a .timers) 6 (a .place) (drop (a .at) (now (a .s))) ≡ value (g .0) (drop (g .1 .0) (now (a .s)))
+timer-at c = told (fieldAs (now (first c .args .s))) (c .before .a .given .1) (c .before .before .before .byte-below .ensures)
+
+code-at : (c : tie.After-known-told2) → let d = second c in let a = first d .args in let g = c .before .b .given .0 in
+    number 1 (drop (d .before .a .given .0 .1 .0) (now (a .s))) ≡ value (g .0) (drop (g .1 .0) (now (a .s)))
+code-at c = told (fieldAs (now (first (second c) .args .s))) (c .before .b .given .1) (c .before .before .before .byte-at .ensures .reads)
+
+comparison-at : (c : tie.After-known-told3) → comparisonOf (third c .before .b .given .0 .0) ≡ some (c .before .d .given .0 .0)
 comparison-at c = sym (c .before .before .before .decode .ensures) ∙ ap decodedOf (c .before .d .given .1)
 
-constant-at : (c : tie.After-known-told4) → let a = c .before .before .before .before .before .before .before .before .before .before .before .before .before .before .before .before .before .args in
-    number 2 (drop (c .before .before .before .before .before .before .before .before .before .b .given .0 .1 .0) (now (a .s))) ≡ value (c .before .e .given .0 .0) (drop (c .before .e .given .0 .1 .0) (now (a .s)))
-constant-at c = told (fieldAs (now (c .before .before .before .before .before .before .before .before .before .before .before .before .before .before .before .before .before .args .s))) (c .before .e .given .1) (c .before .before .before .pair-at .ensures .reads)
+constant-at : (c : tie.After-known-told4) → let d = third (fourth c) in let a = first (second d) .args in let g = c .before .e .given .0 in
+    number 2 (drop (d .before .b .given .0 .1 .0) (now (a .s))) ≡ value (g .0) (drop (g .1 .0) (now (a .s)))
+constant-at c =
+    told (fieldAs (now (first (second (third (fourth c))) .args .s))) (c .before .e .given .1) (c .before .before .before .pair-at .ensures .reads)
+
+-- ----
 
 byte-below-requires : tie.Need-byte-below-requires
 byte-below-requires c κs = search needs
@@ -45,7 +64,8 @@ refusal-of-requires c κs = search needs
 returns : tie.Need-returns
 returns c =
     let a = c .before .before .before .before .before .args in
-    test-timer 2 (a .timers) (a .place) _ (turned (now (a .s)) (c .before .enum-told .given .1) (c .refusal-of .ensures) (c .before .before .before .byte-below .ensures))
+    let e = turned (now (a .s)) (c .before .enum-told .given .1) (c .refusal-of .ensures) (c .before .before .before .byte-below .ensures) in
+    test-timer 2 (a .timers) (a .place) _ e
 
 byte-at-requires : tie.Need-byte-at-requires
 byte-at-requires c κs = search needs
@@ -62,8 +82,9 @@ refusal-of-requires-2 c κs = search needs
 returns-2 : tie.Need-returns-2
 returns-2 c =
     let c₁ = c .before .before .before .before in
-    let a = c₁ .before .before .before .before .before .args in
-    test-code 2 (a .timers) (a .place) _ (timer-at c₁) (turned (now (a .s)) (c .before .enum-told2 .given .1) (c .refusal-of2 .ensures) (c .before .before .before .byte-at .ensures .reads))
+    let a = first c₁ .args in
+    let e = turned (now (a .s)) (c .before .enum-told2 .given .1) (c .refusal-of2 .ensures) (c .before .before .before .byte-at .ensures .reads) in
+    test-code 2 (a .timers) (a .place) _ (timer-at c₁) e
 
 cast-decode : tie.Need-cast-decode
 cast-decode c = record { fits = omega (arith, c .before .before .before .byte-at .ensures .small _ _ (c .before .b .given .1)) }
@@ -80,9 +101,10 @@ enum-told-3 c = search needs
 returns-3 : tie.Need-returns-3
 returns-3 c =
     let c₂ = c .before .before .before in
-    let c₁ = c₂ .before .before .before .before in
-    let a = c₁ .before .before .before .before .before .args in
-    test-unknown 2 (a .timers) (a .place) _ (timer-at c₁) (code-at c₂) (sym (c .before .before .decode .ensures) ∙ ap decodedOf (c .enum-told3 .given .1))
+    let c₁ = second c₂ in
+    let a = first c₁ .args in
+    let e = sym (c .before .before .decode .ensures) ∙ ap decodedOf (c .enum-told3 .given .1) in
+    test-unknown 2 (a .timers) (a .place) _ (timer-at c₁) (code-at c₂) e
 
 pair-at-requires : tie.Need-pair-at-requires
 pair-at-requires c κs = search needs
@@ -99,24 +121,27 @@ refusal-of-requires-3 c κs = search needs
 returns-4 : tie.Need-returns-4
 returns-4 c =
     let c₃ = c .before .before .before .before in
-    let c₂ = c₃ .before .before .before .before in
-    let c₁ = c₂ .before .before .before .before in
-    let a = c₁ .before .before .before .before .before .args in
-    test-constant 2 (a .timers) (a .place) _ (timer-at c₁) (code-at c₂) (comparison-at c₃) (turned (now (a .s)) (c .before .enum-told4 .given .1) (c .refusal-of3 .ensures) (c .before .before .before .pair-at .ensures .reads))
+    let c₂ = third c₃ in
+    let c₁ = second c₂ in
+    let a = first c₁ .args in
+    let e = turned (now (a .s)) (c .before .enum-told4 .given .1) (c .refusal-of3 .ensures) (c .before .before .before .pair-at .ensures .reads) in
+    test-constant 2 (a .timers) (a .place) _ (timer-at c₁) (code-at c₂) (comparison-at c₃) e
 
 cast-t19 : tie.Need-cast-t19
-cast-t19 c = record { fits = omega (arith, below-limit _ _ _ _ _ (timer-at (c .before .before .before .before .before .before .before .before .before .before .before .before)), c .before .before .before .before .before .before .before .before .before .before .before .before .before .before .before .before .before .good) }
+cast-t19 c =
+    let d = second (third (fourth c)) in
+    record { fits = omega (arith, below-limit _ _ _ _ _ (timer-at d), first d .good) }
 
 cast-t22 : tie.Need-cast-t22
 cast-t22 c = record { fits = omega (arith, c .before .before .before .pair-at .ensures .small _ _ (c .before .e .given .1)) }
 
 returns-5 : tie.Need-returns-5
 returns-5 c =
-    let c₄ = c in
-    let c₃ = c₄ .before .before .before .before in
-    let c₂ = c₃ .before .before .before .before in
-    let c₁ = c₂ .before .before .before .before in
-    let a = c₁ .before .before .before .before .before .args in test-whole 2 (a .timers) (a .place) _ (timer-at c₁) (code-at c₂) (comparison-at c₃) (constant-at c₄)
+    let c₃ = fourth c in
+    let c₂ = third c₃ in
+    let c₁ = second c₂ in
+    let a = first c₁ .args in
+    test-whole 2 (a .timers) (a .place) _ (timer-at c₁) (code-at c₂) (comparison-at c₃) (constant-at c)
 
 pub test-at-spec : {M : Type 1} → statement M
 test-at-spec =

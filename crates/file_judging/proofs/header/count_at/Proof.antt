@@ -1,3 +1,4 @@
+-- `count_at` reads the number of transitions and puts the header together. Assumes nothing.
 use native.Mathlib.Omega.{arith}
 use denote.Ref.{now}
 use borrow.Author.Needs.{needs}

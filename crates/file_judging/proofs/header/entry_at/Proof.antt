@@ -24,12 +24,14 @@ returns c =
 
 returns-2 : tie.Need-returns-2
 returns-2 c =
-    let h = told (fieldAs (now (c .before .before .before .before .before .before .args .s))) (c .before .before .a .given .1) (c .before .before .before .before .pair-below .ensures) in
+    let d = c .before .before .before .before in
+    let h = told (fieldAs (now (d .before .before .args .s))) (c .before .before .a .given .1) (d .pair-below .ensures) in
     sym (entry-low _ _ _ _ _ _ h (c .if1 .taken))
 
 returns-3 : tie.Need-returns-3
 returns-3 c =
-    let h = told (fieldAs (now (c .before .before .before .before .before .before .args .s))) (c .before .before .a .given .1) (c .before .before .before .before .pair-below .ensures) in
+    let d = c .before .before .before .before in
+    let h = told (fieldAs (now (d .before .before .args .s))) (c .before .before .a .given .1) (d .pair-below .ensures) in
     sym (entry-in _ _ _ _ _ _ h (c .if1 .left))
 
 pub entry-at-spec : {M : Type 1} → statement M

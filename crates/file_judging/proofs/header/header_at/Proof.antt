@@ -1,3 +1,4 @@
+-- `header_at` reads the first numbers, the accepting locations and the number of transitions one after another. Assumes nothing.
 use Rattle.fields.proofs.Answers.{told, turned}
 use mathlib.Core.Path.{_∙_}
 use denote.Ref.{now}
@@ -23,7 +24,8 @@ limits-refusal-requires c κs = search needs
 returns : tie.Need-returns
 returns c =
     let s = now (c .before .before .before .before .before .args .s) in
-    rw (c .limits-refusal .ensures, c .before .enum-told .given .1) (header-limits _ (told (limitsAs s) (c .before .enum-told .given .1) (c .before .before .before .limits-at .ensures)))
+    let e = told (limitsAs s) (c .before .enum-told .given .1) (c .before .before .before .limits-at .ensures) in
+    rw (c .limits-refusal .ensures, c .before .enum-told .given .1) (header-limits _ e)
 
 skip-accepting-requires : tie.Need-skip-accepting-requires
 skip-accepting-requires c κs = search needs

@@ -1,7 +1,13 @@
-use Prim.Native.Nat.{_<_}
+-- `limits_at` reads four numbers one after another: each refusal is the whole's, and the four make it up. Assumes nothing.
+use mathlib.Core.Path.{_≡_}
+use mathlib.Core.List.{List}
+use Prim.Native.Nat.{ℕ}
+use lib.ListN.{drop}
 use Rattle.fields.proofs.Answers.{told, turned}
 use denote.Ref.{now}
 use native.Mathlib.Omega.{arith}
+use Rattle.model.specs.Answer.{nowhere}
+use Rattle.file_format.specs.Parse.{value, below}
 use Rattle.file_format.proofs.Parsed.{below-limit}
 use Rattle.fields.specs.Meaning.{fieldAs}
 use Rattle.file_judging.proofs.HeaderParts.{limits-locations, limits-none, limits-initial, limits-timers, limits-accepting, limits-found}
@@ -9,8 +15,38 @@ use borrow.Author.Needs.{needs}
 use Rattle.file_judging.proofs.header.limits_at.Statement.{statement}
 use Rattle.file_judging.proofs.header.limits_at.Tie as tie
 
-locations-few : (c : tie.After-known-told) → c .before .a .given .0 .0 < 257
-locations-few c = below-limit _ _ _ _ _ (told (fieldAs (now (c .before .before .before .before .before .args .s))) (c .before .a .given .1) (c .before .before .before .pair-below .ensures))
+-- ---- places, each where the next number is known
+
+abbrev first : tie.After-known-told → tie.Start
+first c = c .before .before .before .before .before
+
+abbrev second : tie.After-known-told2 → tie.Else1
+second c = c .before .before .before .before
+
+abbrev third : tie.After-known-told3 → tie.After-known-told2
+third c = c .before .before .before .before
+
+abbrev fourth : tie.After-known-told4 → tie.After-known-told3
+fourth c = c .before .before .before .before
+
+abbrev file : tie.After-known-told → List ℕ
+file c = now (first c .args .s)
+
+-- ---- what each number is there
+
+locations-at : (c : tie.After-known-told) → let g = c .before .a .given .0 in
+    below 2 257 4 nowhere (drop (first c .args .at) (file c)) ≡ value (g .0) (drop (g .1 .0) (file c))
+locations-at c = told (fieldAs (file c)) (c .before .a .given .1) (c .before .before .before .pair-below .ensures)
+
+initial-at : (c : tie.After-known-told2) → let d = second c .before in let h = d .before .a .given .0 in let g = c .before .b .given .0 in
+    below 2 (h .0) 5 nowhere (drop (h .1 .0) (file d)) ≡ value (g .0) (drop (g .1 .0) (file d))
+initial-at c = told (fieldAs (file (second c .before))) (c .before .b .given .1) (c .before .before .before .pair-below2 .ensures)
+
+timers-at : (c : tie.After-known-told3) → let s = file (second (third c) .before) in let g = c .before .d .given .0 in
+    below 1 65 4 nowhere (drop (third c .before .b .given .0 .1 .0) s) ≡ value (g .0) (drop (g .1 .0) s)
+timers-at c = told (fieldAs (file (second (third c) .before))) (c .before .d .given .1) (c .before .before .before .byte-below .ensures)
+
+-- ----
 
 pair-below-requires : tie.Need-pair-below-requires
 pair-below-requires c κs = search needs
@@ -30,9 +66,7 @@ returns c =
     limits-locations _ (turned s (c .before .enum-told .given .1) (c .refusal-of .ensures) (c .before .before .before .pair-below .ensures))
 
 returns-2 : tie.Need-returns-2
-returns-2 c =
-    let c₁ = c .before in
-    limits-none _ (told (fieldAs (now (c₁ .before .before .before .before .before .args .s))) (c₁ .before .a .given .1) (c₁ .before .before .before .pair-below .ensures)) (c .if1 .taken)
+returns-2 c = limits-none _ (locations-at (c .before)) (c .if1 .taken)
 
 pair-below-requires-2 : tie.Need-pair-below-requires-2
 pair-below-requires-2 c κs = search needs
@@ -48,10 +82,10 @@ refusal-of-requires-2 c κs = search needs
 
 returns-3 : tie.Need-returns-3
 returns-3 c =
-    let c₁ = c .before .before .before .before .before in
-    let s = now (c₁ .before .before .before .before .before .args .s) in
-    let e₁ = told (fieldAs s) (c₁ .before .a .given .1) (c₁ .before .before .before .pair-below .ensures) in
-    limits-initial _ e₁ (c .before .before .before .before .if1 .left) (turned s (c .before .enum-told2 .given .1) (c .refusal-of2 .ensures) (c .before .before .before .pair-below2 .ensures))
+    let b = c .before .before .before .before in
+    let s = file (b .before) in
+    let e = turned s (c .before .enum-told2 .given .1) (c .refusal-of2 .ensures) (c .before .before .before .pair-below2 .ensures) in
+    limits-initial _ (locations-at (b .before)) (b .if1 .left) e
 
 byte-below-requires : tie.Need-byte-below-requires
 byte-below-requires c κs = search needs
@@ -68,11 +102,10 @@ refusal-of-requires-3 c κs = search needs
 returns-4 : tie.Need-returns-4
 returns-4 c =
     let c₂ = c .before .before .before .before in
-    let c₁ = c₂ .before .before .before .before .before in
-    let s = now (c₁ .before .before .before .before .before .args .s) in
-    let e₁ = told (fieldAs s) (c₁ .before .a .given .1) (c₁ .before .before .before .pair-below .ensures) in
-    let e₂ = told (fieldAs s) (c₂ .before .b .given .1) (c₂ .before .before .before .pair-below2 .ensures) in
-    limits-timers _ e₁ (c₂ .before .before .before .before .if1 .left) e₂ (turned s (c .before .enum-told3 .given .1) (c .refusal-of3 .ensures) (c .before .before .before .byte-below .ensures))
+    let b = second c₂ in
+    let s = file (b .before) in
+    let e = turned s (c .before .enum-told3 .given .1) (c .refusal-of3 .ensures) (c .before .before .before .byte-below .ensures) in
+    limits-timers _ (locations-at (b .before)) (b .if1 .left) (initial-at c₂) e
 
 pair-at-requires : tie.Need-pair-at-requires
 pair-at-requires c κs = search needs
@@ -89,41 +122,32 @@ refusal-of-requires-4 c κs = search needs
 returns-5 : tie.Need-returns-5
 returns-5 c =
     let c₃ = c .before .before .before .before in
-    let c₂ = c₃ .before .before .before .before in
-    let c₁ = c₂ .before .before .before .before .before in
-    let s = now (c₁ .before .before .before .before .before .args .s) in
-    let e₁ = told (fieldAs s) (c₁ .before .a .given .1) (c₁ .before .before .before .pair-below .ensures) in
-    let e₂ = told (fieldAs s) (c₂ .before .b .given .1) (c₂ .before .before .before .pair-below2 .ensures) in
-    let e₃ = told (fieldAs s) (c₃ .before .d .given .1) (c₃ .before .before .before .byte-below .ensures) in
-    limits-accepting _ e₁ (c₂ .before .before .before .before .if1 .left) e₂ e₃ (turned s (c .before .enum-told4 .given .1) (c .refusal-of4 .ensures) (c .before .before .before .pair-at .ensures .reads))
+    let b = second (third c₃) in
+    let s = file (b .before) in
+    let e = turned s (c .before .enum-told4 .given .1) (c .refusal-of4 .ensures) (c .before .before .before .pair-at .ensures .reads) in
+    limits-accepting _ (locations-at (b .before)) (b .if1 .left) (initial-at (third c₃)) (timers-at c₃) e
 
 cast-t21 : tie.Need-cast-t21
-cast-t21 c = omega (arith, locations-few (c .before .before .before .before .before .before .before .before .before .before .before .before .before))
+cast-t21 c = omega (arith, below-limit _ _ _ _ _ (locations-at (second (third (fourth c)) .before)))
 
 cast-t22 : tie.Need-cast-t22
 cast-t22 c =
-    let h = locations-few (c .before .before .before .before .before .before .before .before .before .before .before .before .before) in
-    let c₂ = c .before .before .before .before .before .before .before .before in
-    omega (arith, below-limit _ _ _ _ _ (told (fieldAs (now (c .before .before .before .before .before .before .before .before .before .before .before .before .before .before .before .before .before .before .args .s))) (c₂ .before .b .given .1) (c₂ .before .before .before .pair-below2 .ensures)))
+    let d = third (fourth c) in
+    let few = below-limit _ _ _ _ _ (locations-at (second d .before)) in
+    omega (arith, below-limit _ _ _ _ _ (initial-at d))
 
 cast-t23 : tie.Need-cast-t23
-cast-t23 c =
-    let c₃ = c .before .before .before .before in
-    omega (arith, below-limit _ _ _ _ _ (told (fieldAs (now (c .before .before .before .before .before .before .before .before .before .before .before .before .before .before .before .before .before .before .args .s))) (c₃ .before .d .given .1) (c₃ .before .before .before .byte-below .ensures)))
+cast-t23 c = omega (arith, below-limit _ _ _ _ _ (timers-at (fourth c)))
 
 cast-t24 : tie.Need-cast-t24
 cast-t24 c = omega (arith, c .before .before .before .pair-at .ensures .small _ _ (c .before .e .given .1))
 
 returns-6 : tie.Need-returns-6
 returns-6 c =
-    let c₃ = c .before .before .before .before in
-    let c₂ = c₃ .before .before .before .before in
-    let c₁ = c₂ .before .before .before .before .before in
-    let s = now (c₁ .before .before .before .before .before .args .s) in
-    let e₁ = told (fieldAs s) (c₁ .before .a .given .1) (c₁ .before .before .before .pair-below .ensures) in
-    let e₂ = told (fieldAs s) (c₂ .before .b .given .1) (c₂ .before .before .before .pair-below2 .ensures) in
-    let e₃ = told (fieldAs s) (c₃ .before .d .given .1) (c₃ .before .before .before .byte-below .ensures) in
-    limits-found _ e₁ (c₂ .before .before .before .before .if1 .left) e₂ e₃ (told (fieldAs s) (c .before .e .given .1) (c .before .before .before .pair-at .ensures .reads))
+    let d = third (fourth c) in
+    let b = second d in
+    let e = told (fieldAs (file (b .before))) (c .before .e .given .1) (c .before .before .before .pair-at .ensures .reads) in
+    limits-found _ (locations-at (b .before)) (b .if1 .left) (initial-at d) (timers-at (fourth c)) e
 
 pub limits-at-spec : {M : Type 1} → statement M
 limits-at-spec =

@@ -1,3 +1,4 @@
+-- `skip_accepting` reads one accepting location after another; each is above the one before it. Assumes nothing.
 use borrow.Author.Needs.{needs}
 use native.Mathlib.Omega.{arith}
 use Rattle.file_judging.proofs.Loops.{entry-within}
@@ -36,7 +37,10 @@ returns c =
     k ∙ h ∙ accepting-refused (c .before .before .before .before .loop .inv) (c .before .before .before .loop-test .taken) h
 
 add-lowest : tie.Need-add-lowest Inv-loop μ-loop
-add-lowest c = omega (arith, entry-within _ _ _ _ _ _ (told (fieldAs (now (c .before .before .before .before .before .before .before .args .s))) (c .before .a .given .1) (c .before .before .before .entry-at .ensures)))
+add-lowest c =
+    let d = c .before .before .before in
+    let e = told (fieldAs (now (d .before .before .before .before .args .s))) (c .before .a .given .1) (d .entry-at .ensures) in
+    omega (arith, entry-within _ _ _ _ _ _ e)
 
 add-k : tie.Need-add-k Inv-loop μ-loop
 add-k c = search needs
@@ -45,7 +49,10 @@ loop-less : tie.Need-loop-less Inv-loop μ-loop
 loop-less c = search needs
 
 loop-again : tie.Need-loop-again Inv-loop μ-loop
-loop-again c = accepting-again (c .before .before .before .before .before .loop .inv) (c .before .before .before .before .loop-test .taken) (told (fieldAs (now (c .before .before .before .before .before .before .before .args .s))) (c .before .a .given .1) (c .before .before .before .entry-at .ensures))
+loop-again c =
+    let d = c .before .before .before in
+    let e = told (fieldAs (now (d .before .before .before .before .args .s))) (c .before .a .given .1) (d .entry-at .ensures) in
+    accepting-again (d .before .before .loop .inv) (d .before .loop-test .taken) e
 
 returns-2 : tie.Need-returns-2 Inv-loop μ-loop
 returns-2 c = accepting-done (c .before .loop .inv) (c .loop-test .left)

@@ -1,3 +1,4 @@
+-- `skip_record` reads a record's head and skips its tests. Assumes nothing.
 use mathlib.Core.Path.{_∙_}
 use denote.Ref.{now}
 use Rattle.fields.specs.Meaning.{headAs}
@@ -22,8 +23,8 @@ head-refusal-requires c κs = search needs
 returns : tie.Need-returns
 returns c =
     let a = c .before .before .before .before .before .args in
-    rw (c .head-refusal .ensures, c .before .enum-told .given .1)
-    (skip-head-refused 2 (a .locations) (a .timers) (a .place) _ (told (headAs (now (a .s))) (c .before .enum-told .given .1) (c .before .before .before .head-at .ensures)))
+    let e = told (headAs (now (a .s))) (c .before .enum-told .given .1) (c .before .before .before .head-at .ensures) in
+    rw (c .head-refusal .ensures, c .before .enum-told .given .1) (skip-head-refused 2 (a .locations) (a .timers) (a .place) _ e)
 
 skip-tests-requires : tie.Need-skip-tests-requires
 skip-tests-requires c κs = search needs

@@ -1,3 +1,4 @@
+-- `skip_records` reads one record after another and counts their tests: at most 8 of each, so that the sum fits. Assumes nothing.
 use borrow.Author.Needs.{needs}
 use native.Mathlib.Omega.{arith}
 use Prim.Native.Nat.{_-_}
@@ -41,9 +42,10 @@ returns c =
 
 add-tests : tie.Need-add-tests Inv-loop μ-loop
 add-tests c =
-    let a = c .before .before .before .before .before .before .before .args in
-    let h = skip-at-most _ _ _ _ _ (told (fieldAs (now (a .s))) (c .before .a .given .1) (c .before .before .before .skip-record .ensures)) in
-    omega (arith, c .before .before .before .before .before .loop .inv .few)
+    let d = c .before .before .before in
+    let s = now (d .before .before .before .before .args .s) in
+    let h = skip-at-most _ _ _ _ _ (told (fieldAs s) (c .before .a .given .1) (d .skip-record .ensures)) in
+    omega (arith, d .before .before .loop .inv .few)
 
 add-i : tie.Need-add-i Inv-loop μ-loop
 add-i c = search needs
@@ -52,7 +54,10 @@ loop-less : tie.Need-loop-less Inv-loop μ-loop
 loop-less c = search needs
 
 loop-again : tie.Need-loop-again Inv-loop μ-loop
-loop-again c = counted-again (c .before .before .before .before .before .loop .inv) (c .before .before .before .before .loop-test .taken) (told (fieldAs (now (c .before .before .before .before .before .before .before .args .s))) (c .before .a .given .1) (c .before .before .before .skip-record .ensures))
+loop-again c =
+    let d = c .before .before .before in
+    let e = told (fieldAs (now (d .before .before .before .before .args .s))) (c .before .a .given .1) (d .skip-record .ensures) in
+    counted-again (d .before .before .loop .inv) (d .before .loop-test .taken) e
 
 returns-2 : tie.Need-returns-2 Inv-loop μ-loop
 returns-2 c = counted-done (c .before .loop .inv) (c .loop-test .left)

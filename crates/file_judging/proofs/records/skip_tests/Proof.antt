@@ -1,3 +1,4 @@
+-- `skip_tests` reads one test after another and keeps their number. Assumes nothing.
 use Prim.Native.Nat.{_-_}
 use denote.Ref.{now}
 use borrow.Author.Needs.{needs}
@@ -31,8 +32,8 @@ test-refusal-requires c κs = search needs
 returns : tie.Need-returns Inv-loop μ-loop
 returns c =
     let d = c .before .before .before in
-    rw (c .test-refusal .ensures, c .before .enum-told .given .1)
-    (tests-refused (d .before .before .loop .inv) (d .before .loop-test .taken) (told (testAs (now (d .before .before .before .before .args .s))) (c .before .enum-told .given .1) (d .test-at .ensures)))
+    let e = told (testAs (now (d .before .before .before .before .args .s))) (c .before .enum-told .given .1) (d .test-at .ensures) in
+    rw (c .test-refusal .ensures, c .before .enum-told .given .1) (tests-refused (d .before .before .loop .inv) (d .before .loop-test .taken) e)
 
 add-k : tie.Need-add-k Inv-loop μ-loop
 add-k c = search needs
@@ -43,7 +44,8 @@ loop-less c = search needs
 loop-again : tie.Need-loop-again Inv-loop μ-loop
 loop-again c =
     let d = c .before .before .before in
-    tests-again (d .before .before .loop .inv) (d .before .loop-test .taken) (told (testAs (now (d .before .before .before .before .args .s))) (c .before .a .given .1) (d .test-at .ensures))
+    let e = told (testAs (now (d .before .before .before .before .args .s))) (c .before .a .given .1) (d .test-at .ensures) in
+    tests-again (d .before .before .loop .inv) (d .before .loop-test .taken) e
 
 returns-2 : tie.Need-returns-2 Inv-loop μ-loop
 returns-2 c = tests-done (c .before .loop .inv) (c .loop-test .left)

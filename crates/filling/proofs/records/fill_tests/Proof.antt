@@ -60,8 +60,9 @@ returns c =
     let p = start d .pre in
     let f = d .before .before .loop .inv .3 in
     let h = told (testAs (now (a .s))) (c .before .enum-told .given .1) (d .test-at .ensures) in
-    let never = tests-never (a .limit) (a .place) (now (a .s)) (a .at) (a .g) (a .base) _ _ _ (p .0) (p .1) (p .2) f (d .before .loop-test .taken) h in (
-      rw (c .test-refusal .ensures, c .before .enum-told .given .1) (skipping.tests-refused (f .read) (d .before .loop-test .taken) h),
+    let taken = d .before .loop-test .taken in
+    let never = tests-never (a .limit) (a .place) (now (a .s)) (a .at) (a .g) (a .base) _ _ _ (p .0) (p .1) (p .2) f taken h in (
+      rw (c .test-refusal .ensures, c .before .enum-told .given .1) (skipping.tests-refused (f .read) taken h),
       (λ ts t e. absurd (never ts t e)),
     )
 

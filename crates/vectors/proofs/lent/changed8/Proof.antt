@@ -7,10 +7,10 @@ use Rattle.vectors.proofs.lent.changed8.Statement.{statement}
 use Rattle.vectors.proofs.lent.changed8.Tie as tie
 
 abbrev Inv-loop : tie.InvT-loop
-Inv-loop list from sum₀ i₀ i-end sum i = i-end ≡ length list
+Inv-loop before list from sum₀ i₀ i-end sum i = i-end ≡ length list
 
 abbrev μ-loop : tie.MeasureT-loop
-μ-loop list from sum₀ i₀ i-end sum i = i-end - i
+μ-loop before list from sum₀ i₀ i-end sum i = i-end - i
 
 pub changed8-spec : {M : Type 1} → statement M
 changed8-spec =

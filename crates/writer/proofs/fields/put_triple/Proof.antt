@@ -1,9 +1,7 @@
 -- `put_triple` meets its contract: three fields one after another. Assumes nothing.
-use mathlib.Core.List.{append-assoc}
-use lib.ListN.{length-append}
 use borrow.Author.Needs.{needs}
 use Rattle.file_format.proofs.Lengths.{length-digits}
-use Rattle.chart_lists.proofs.Fields.{fields-first, fields-next, fields-done}
+use Rattle.chart_lists.proofs.Fields.{fields-three}
 use Rattle.writer.specs.Bytes.{tripleBytes}
 use Rattle.writer.proofs.fields.put_triple.Statement.{statement}
 use Rattle.writer.proofs.fields.put_triple.Tie as tie
@@ -44,10 +42,8 @@ returns c =
     let third = c .before .before in
     let second = third .before .before .before .before in
     let first = second .before .before .before .before in
-    let a = fields-first (first .put-pair .ensures) in
-    let b = fields-next a 2 _ (simp (length-append, length-digits)) (second .put-pair2 .ensures) in
-    let d = fields-next b 4 _ (simp (length-append, length-digits)) (third .put-byte .ensures) in
-    fields-done _ d (simp append-assoc)
+    fields-three _ _ _ _ 2 4 (simp length-digits) (simp length-digits)
+    (first .put-pair .ensures) (second .put-pair2 .ensures) (third .put-byte .ensures)
 
 pub put-triple-spec : {M : Type 1} → statement M
 put-triple-spec =

@@ -1,10 +1,8 @@
 -- `put_test` meets its contract: three fields one after another. Assumes nothing.
-use mathlib.Core.List.{append-assoc}
-use lib.ListN.{length-append}
 use borrow.Author.Needs.{needs}
 use Rattle.file_format.proofs.Lengths.{length-digits}
 use Rattle.writer.specs.Bytes.{testBytes}
-use Rattle.chart_lists.proofs.Fields.{fields-first, fields-next, fields-done}
+use Rattle.chart_lists.proofs.Fields.{fields-three}
 use Rattle.writer.proofs.records.put_test.Statement.{statement}
 use Rattle.writer.proofs.records.put_test.Tie as tie
 
@@ -44,10 +42,8 @@ returns c =
     let constant = c .before .before in
     let code = constant .before .before .before .before in
     let timer = code .before .before .before .before in
-    let a = fields-first (timer .put-byte .ensures) in
-    let b = fields-next a 1 _ (simp (length-append, length-digits)) (code .put-byte2 .ensures) in
-    let d = fields-next b 2 _ (simp (length-append, length-digits)) (constant .put-pair .ensures) in
-    fields-done _ d (simp append-assoc)
+    fields-three _ _ _ _ 1 2 (simp length-digits) (simp length-digits)
+    (timer .put-byte .ensures) (code .put-byte2 .ensures) (constant .put-pair .ensures)
 
 pub put-test-spec : {M : Type 1} → statement M
 put-test-spec =
