@@ -10,4 +10,3 @@ pub mod Locations
 pub mod Fronts
 pub mod InTurn
 pub mod Copied
-pub mod Partly

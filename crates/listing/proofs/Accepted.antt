@@ -14,12 +14,8 @@ use Rattle.model.specs.Judge.{judged, fitted, rewriting}
 use Rattle.model.proofs.Answers.{result-same}
 use Rattle.model.proofs.BoardPlan.{board-blocked}
 use Rattle.model.proofs.PlayerNumbers.{judged-is}
-use Rattle.model.specs.Valid.{Valid}
-use Rattle.file_format.specs.Parse.{Bytes}
 use Rattle.file_format.specs.File.{chartIn}
-use Rattle.file_format.proofs.File.{reads-valid}
 use Rattle.judgement.specs.Judging.{judgedIn}
-use Rattle.judgement.proofs.Corollaries.{judged-result}
 use Rattle.refusal.specs.Refused.{refusedAs}
 use Rattle.refusal.specs.declared.Refusal.{Refusal}
 use Rattle.numbering.specs.Limits.{LimitJudged}
@@ -64,10 +60,6 @@ accepted-is K file = go (chartIn file) refl
         → then (chartIn file) (λ c. then (then (judged c) (fitted K)) (λ x. result c)) ≡ then (then (chartIn file) judged) (listedChart K)
     go (result c) e = rw e (of c (judged c) refl)
     go (refused n p) e = rw e
-
--- a chart that is judged is one that a file can hold
-pub judged-valid : (file : List ℕ) → Bytes file → {c : Chart} → judgedIn file ≡ result c → Valid 2 c
-judged-valid file bytes {c} e = reads-valid file c bytes (judged-result file bytes c .0 e .reads)
 
 module _ (K : ℕ) (file : List ℕ) where
   pub accepted-refused : {n p : ℕ} → judgedIn file ≡ refused n p → accepted K file ≡ refused n p

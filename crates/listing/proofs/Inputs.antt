@@ -11,9 +11,11 @@ use borrow.Author.Tests.{le-leb}
 use Rattle.file_format.specs.Parse.{Bytes}
 use Rattle.lists.proofs.Bools.{lt-or-le}
 use Rattle.model.specs.Answer.{result, nowhere}
+use Rattle.file_format.proofs.File.{reads-valid}
+use Rattle.judgement.proofs.Corollaries.{judged-result}
 use Rattle.listing.specs.Listing.{largestInput, largestText, accepted, answerText, textOf, listInto}
 use Rattle.listing.proofs.Fits.{refused-fits, chart-fits}
-use Rattle.listing.proofs.Accepted.{judged-valid, text-16, text-1}
+use Rattle.listing.proofs.Accepted.{text-16, text-1}
 use Rattle.listing.proofs.Outcomes.{Outcome, outcome}
 use Rattle.listing.proofs.Outcomes.Outcome.{is-refused, is-limit, is-used, is-text}
 
@@ -28,7 +30,9 @@ accepted-fits K file bytes = go (outcome K file)
     go (is-refused {n} {p} e a) = rw a (refused-fits n p)
     go (is-limit e h a) = rw a (refused-fits 11 nowhere)
     go (is-used e h l a) = rw a (refused-fits 20 nowhere)
-    go (is-text {c} e h l a) = rw a (chart-fits (judged-valid file bytes e) (omega arith) K)
+    go (is-text {c} e h l a) =
+        let valid = reads-valid file c bytes (judged-result file bytes c .0 e .reads) in
+        rw a (chart-fits valid (omega arith) K)
 
 pub text-fits : (input : List ℕ) → Bytes input → length (textOf input) ≤ largestText
 text-fits [] b = rw (text-1 [] (omega arith)) (refused-fits 1 nowhere)

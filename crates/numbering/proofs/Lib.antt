@@ -1,4 +1,3 @@
 pub mod Settling
 pub mod Limits
-pub mod Files
-pub mod Callers
+pub mod FileNumbers

@@ -1,19 +1,21 @@
-// The live sets and the board numbers of a chart, from its lists or from its file, and the judgement of a board's limit.
+// The live sets and the board numbers of a chart, from its lists, and the judgement of a board's limit.
 ghost use mathlib.Core.Path.{_≡_};
 ghost use Prim.Native.Nat.{_*_, _≤_};
 ghost use lib.ListN.{length};
+ghost use Rattle.model.specs.Answer.{result};
 ghost use Rattle.model.specs.Chart.{Chart};
 ghost use Rattle.model.specs.Live.{testedSets};
 ghost use Rattle.model.specs.FirstFit.{fullest as FirstFit·fullest};
+ghost use Rattle.chart_lists.specs.Limits.{mostLocations};
 ghost use Rattle.chart_lists.specs.Header.{headerOf};
 ghost use Rattle.chart_lists.specs.Begins.{Begins};
 ghost use Rattle.chart_lists.specs.Holds.{Holds};
-ghost use Rattle.chart_lists.specs.Limits.{mostLocations};
 ghost use Rattle.chart_lists.specs.Partly.{edgesOf};
+ghost use Rattle.judgement.specs.Judging.{judgedIn};
 ghost use Rattle.allocation.specs.Cells.{mostCells};
 ghost use Rattle.numbering.specs.ChartNumbered.{ChartNumbered};
 ghost use Rattle.numbering.specs.Limits.{LimitJudged};
-ghost use Rattle.numbering.specs.FileNumbers.{ChartFound, FileFound};
+ghost use Rattle.numbering.specs.FileNumbers.{fileNumbers, numberedIn, fileNumberedAs, ListsNumbered};
 use chart_lists::Header;
 use chart_lists::MOST_LOCATIONS;
 use chart_lists::MOST_TESTS;
@@ -27,19 +29,19 @@ pub struct Numbered {
     pub used: u32,
 }
 
-// The header of a file's chart, how many board numbers it uses, and its floor; or the file's refusal.
+// Whether a board's timers are enough for a chart, or the refusal.
+pub enum Limit {
+    Enough,
+    Refused(Refusal),
+}
+
+// The chart of a file, how many board numbers it uses and its floor; or a refusal.
 pub enum FileNumbered {
     Chart {
         header: Header,
         used: u32,
         floor: u32,
     },
-    Refused(Refusal),
-}
-
-// Whether a board's timers are enough for a chart, or the refusal.
-pub enum Limit {
-    Enough,
     Refused(Refusal),
 }
 
@@ -94,7 +96,20 @@ pub fn fullest(sets: &[u64]) -> u32
     most
 }
 
-// The live sets and the cells of a chart that is judged, with its numbers.
+// 11 for a board of more than 64 timers, then 20 where a chart uses more numbers than the board has timers.
+pub fn judge_limit(k: u32, used: u32) -> Limit
+    ensures { λ r. ⌜ LimitJudged k used r ⌝ }
+{
+    if k > 64 {
+        return Limit::Refused(refusal::LIMIT_TOO_LARGE);
+    }
+    if used > k {
+        return Limit::Refused(refusal::BOARD_TOO_SMALL);
+    }
+    Limit::Enough
+}
+
+// The numbers of a chart that was judged, with its floor.
 fn number_judged<'a>(
     header: Header,
     sources: &'a [u16],
@@ -107,7 +122,8 @@ fn number_judged<'a>(
     requires { ⌜ ((c : Chart) × (header ≡ headerOf c) × Holds c (edgesOf c (now sources) (now targets) (now starts))
         × Begins (testedSets c) (now tested)) × (header .locations ≤ length (now live)) × (64 * header .locations ≤ length (now cells)) ⌝ }
     ensures { λ r. ⌜ ((c : Chart) → header ≡ headerOf c → Holds c (edgesOf c (now (sources .entry)) (now (targets .entry)) (now (starts .entry)))
-        → Begins (testedSets c) (now (tested .entry)) → ChartFound c (now (live .exit)) (now (cells .exit)) r) ⌝ }
+        → Begins (testedSets c) (now (tested .entry))
+        → (fileNumberedAs r ≡ result (fileNumbers c)) × ListsNumbered c (now (live .exit)) (now (cells .exit))) ⌝ }
 {
     let numbered = number_chart(header, sources, targets, starts, tested, live, cells);
     let m = header.locations as usize;
@@ -119,10 +135,12 @@ fn number_judged<'a>(
     }
 }
 
-// The live sets and the cells of a file's chart over the fronts of the two lists, with its numbers; or the file's refusal, 1 to 10.
+// The chart of a file, with its live sets and its board numbers over the fronts of the lists, or a refusal, 1 to 10. Every call that needs the
+// numbers of a file takes them from here.
 pub fn number_file(file: &[u8], live: &mut [u64], cells: &mut [u16]) -> FileNumbered
     requires { ⌜ (mostLocations ≤ length (now live)) × (mostCells ≤ length (now cells)) ⌝ }
-    ensures { λ r. ⌜ FileFound (now (file .entry)) (now (live .exit)) (now (cells .exit)) r ⌝ }
+    ensures answer { λ r. ⌜ fileNumberedAs r ≡ numberedIn (now (file .entry)) ⌝ }
+    ensures lists { λ _. ⌜ ((c : Chart) → judgedIn (now (file .entry)) ≡ result c → ListsNumbered c (now (live .exit)) (now (cells .exit))) ⌝ }
 {
     let mut accepting = [0u16; MOST_LOCATIONS];
     let mut sources = [0u16; MOST_TRANSITIONS];
@@ -134,7 +152,7 @@ pub fn number_file(file: &[u8], live: &mut [u64], cells: &mut [u16]) -> FileNumb
     let mut codes = [0u8; MOST_TESTS];
     let mut constants = [0u16; MOST_TESTS];
     let mut tested = [0u64; MOST_TRANSITIONS];
-    let answer = judgement::judge(
+    let a = judgement::judge(
         file,
         &mut accepting,
         &mut sources,
@@ -147,23 +165,16 @@ pub fn number_file(file: &[u8], live: &mut [u64], cells: &mut [u16]) -> FileNumb
         &mut constants,
         &mut tested,
     );
-    match answer {
+    match a {
         Read::Refused(f) => FileNumbered::Refused(f),
-        Read::Chart(header) => {
-            number_judged(header, &sources, &targets, &starts, &tested, live, cells)
-        }
+        Read::Chart(header) => number_judged(
+            header,
+            &sources,
+            &targets,
+            &starts,
+            &tested,
+            live,
+            cells,
+        ),
     }
-}
-
-// 11 for a board of more than 64 timers, then 20 where a chart uses more numbers than the board has timers.
-pub fn judge_limit(k: u32, used: u32) -> Limit
-    ensures { λ r. ⌜ LimitJudged k used r ⌝ }
-{
-    if k > 64 {
-        return Limit::Refused(refusal::LIMIT_TOO_LARGE);
-    }
-    if used > k {
-        return Limit::Refused(refusal::BOARD_TOO_SMALL);
-    }
-    Limit::Enough
 }

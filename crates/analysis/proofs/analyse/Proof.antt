@@ -1,12 +1,13 @@
 -- `analyse`: a refusal of the judgement stands; else 21 where the list is short, and the live sets are copied over its front. What is hard is only
 -- that they are the front of a longer list. Assumes nothing.
-use mathlib.Core.Path.{sym, ap}
-use Prim.Native.Nat.{_≤_, _<_}
+use mathlib.Core.Path.{sym, ap, _∙_}
+use mathlib.Core.List.{List}
+use Prim.Native.Nat.{ℕ, _≤_, _<_}
 use native.Mathlib.Omega.{arith}
 use lib.ListN.{length}
 use Rattle.chart_lists.proofs.Fronts.{locations-are}
-use Rattle.numbering.specs.FileNumbers.{numberedAs}
-use Rattle.numbering.proofs.Callers.{NumberedChart, numbered-chart, numbered-refused, live-front, live-part, live-room}
+use Rattle.numbering.specs.FileNumbers.{fileNumberedAs, ListsNumbered}
+use Rattle.numbering.proofs.FileNumbers.{FileChart, file-chart, file-refused, live-front, live-part, live-room}
 use Rattle.analysis.proofs.Entry.{refused-answer, refused-list, short-answer, short-list, found-answer, found-list}
 use borrow.Author.Needs.{needs}
 use Rattle.analysis.proofs.analyse.Statement.{statement}
@@ -19,10 +20,16 @@ called c = c .before .before .before .before
 abbrev start : tie.After-number-file → tie.Start
 start c = c .before .before .before .before .before
 
--- the chart, its numbers and its lists
-numbered : (c : tie.After-a2) → let g = c .a2 .given .0 in let l = called c .number-file .last .1 in
-    NumberedChart (start (called c) .args .file .now) (l .0) (l .1 .0) (record { header = g .0; used = g .1 .0; floor = g .1 .1 .0 })
-numbered c = numbered-chart (called c .number-file .ensures) (ap numberedAs (c .a2 .given .1))
+abbrev sets : tie.After-a2 → List ℕ
+sets c = called c .number-file .last .1 .0
+
+-- the chart, and what the lists hold of it
+numbered : (c : tie.After-a2) → let g = c .a2 .given .0 in
+    FileChart (start (called c) .args .file .now) (record { header = g .0; used = g .1 .0; floor = g .1 .1 .0 })
+numbered c = file-chart _ (sym (ap fileNumberedAs (c .a2 .given .1)) ∙ called c .number-file .ensures .0)
+
+lists : (c : tie.After-a2) → ListsNumbered (numbered c .chart) (sets c) (called c .number-file .last .1 .1 .0)
+lists c = called c .number-file .ensures .1 (numbered c .chart) (numbered c .judged)
 
 slice-aggregate-number-file : tie.Need-slice-aggregate-number-file
 slice-aggregate-number-file c = search needs
@@ -53,23 +60,23 @@ returns c =
 array-share-prefix-sets : tie.Need-array-share-prefix-sets
 array-share-prefix-sets c =
     let x = c .before .before .before in
-    live-room (numbered x .chart) (numbered x .header-is) (numbered x .lists .live-are)
+    live-room (numbered x .chart) (numbered x .header-is) (lists x .live-are)
 
 slice-aggregate-copy : tie.Need-slice-aggregate-copy
 slice-aggregate-copy c =
     let x = c .before .before .before .before in
-    sym (live-part (numbered x .chart) (numbered x .header-is) (numbered x .lists .live-are))
+    sym (live-part (numbered x .chart) (numbered x .header-is) (lists x .live-are))
 
 copy-requires : tie.Need-copy-requires
 copy-requires c κs =
     let x = c .before .before .before .before .before in
-    rw (live-part (numbered x .chart) (numbered x .header-is) (numbered x .lists .live-are)) (c .before .before .if1 .left)
+    rw (live-part (numbered x .chart) (numbered x .header-is) (lists x .live-are)) (c .before .before .if1 .left)
 
 returns-2 : tie.Need-returns-2
 returns-2 c =
     let n = c .before .before .before .before .before in
     let a = start n .args in
-    let e = numbered-refused (n .number-file .ensures) (ap numberedAs (c .before .a .given .1)) in
+    let e = file-refused (a .file .now) (sym (ap fileNumberedAs (c .before .a .given .1)) ∙ n .number-file .ensures .0) in
     (refused-answer (a .file .now) (a .live .now) e, refused-list (a .file .now) (a .live .now) e)
 
 same-length : tie.Need-same-length
@@ -82,7 +89,7 @@ returns-3 c =
     let n = numbered x in
     let h : n .chart .locations ≤ length (a .live .now) =
     omega (arith, locations-are (n .chart) (n .header-is), c .before .before .before .before .before .if1 .left) in
-    let l = live-front (n .chart) (n .header-is) (numbered x .lists .live-are) in (
+    let l = live-front (n .chart) (n .header-is) (lists x .live-are) in (
       found-answer (a .file .now) (a .live .now) (n .judged) h (n .used-is) (n .floor-is),
       found-list (a .file .now) (a .live .now) (n .judged) h l (c .before .before .copy .ensures),
     )

@@ -7,18 +7,16 @@ use native.Mathlib.Omega.{arith}
 use lib.ListN.{length}
 use denote.Ref.{now}
 use Rattle.model.specs.FirstFit.{used}
-use Rattle.model.specs.Valid.{Valid}
-use Rattle.judgement.proofs.Reading.{bytes-are}
-use Rattle.numbering.specs.FileNumbers.{numberedAs}
+use Rattle.numbering.specs.FileNumbers.{fileNumberedAs, ListsNumbered}
 use Rattle.numbering.specs.Limits.{LimitJudged}
 use Rattle.numbering.specs.declared.Limit.{Limit}
 use Rattle.numbering.specs.declared.Limit.the-variants as limit
-use Rattle.numbering.proofs.Callers.{NumberedChart, numbered-chart, numbered-refused}
+use Rattle.numbering.proofs.FileNumbers.{FileChart, file-chart, file-refused}
 use Rattle.listing.specs.Listing.{answerText}
 use Rattle.listing.proofs.PutBytes.{bytes-as}
 use Rattle.listing.proofs.Fits.{refused-fits}
 use Rattle.listing.proofs.ChartText.{text-is, text-asks}
-use Rattle.listing.proofs.Accepted.{judged-valid, accepted-refused, accepted-judged, listed-refused, listed-enough}
+use Rattle.listing.proofs.Accepted.{accepted-refused, accepted-judged, listed-refused, listed-enough}
 use borrow.Author.Needs.{needs}
 use Rattle.listing.proofs.put_file.Statement.{statement}
 use Rattle.listing.proofs.put_file.Tie as tie
@@ -36,15 +34,12 @@ start c = c .before .before .before .before .before
 abbrev file : tie.After-a2 → List ℕ
 file c = start (called c) .args .file .now
 
--- the chart, its numbers and its lists
-numbered : (c : tie.After-a2) → let g = c .a2 .given .0 in let l = called c .number-file .last .1 in
-    NumberedChart (file c) (l .0) (l .1 .0) (record { header = g .0; used = g .1 .0; floor = g .1 .1 .0 })
-numbered c = numbered-chart (called c .number-file .ensures) (ap numberedAs (c .a2 .given .1))
+-- the chart, and what the lists hold of it
+numbered : (c : tie.After-a2) → let g = c .a2 .given .0 in FileChart (file c) (record { header = g .0; used = g .1 .0; floor = g .1 .1 .0 })
+numbered c = file-chart _ (sym (ap fileNumberedAs (c .a2 .given .1)) ∙ called c .number-file .ensures .0)
 
-valid : (c : tie.After-a2) → Valid 2 (numbered c .chart)
-valid c =
-    let bytes = bytes-are (file c) (λ i. called c .before .before .before .shared-slice-known .given i .fits) in
-    judged-valid (file c) bytes (numbered c .judged)
+lists : (c : tie.After-a2) → let l = called c .number-file .last in ListsNumbered (numbered c .chart) (l .1 .0) (l .1 .1 .0)
+lists c = called c .number-file .ensures .1 (numbered c .chart) (numbered c .judged)
 
 -- what the limit's judgement means
 judged : (c : tie.After-judge-limit) {l : Limit} → c .judge-limit .result ≡ l
@@ -98,8 +93,9 @@ put-chart-requires c κs =
     let j = c .before .before .before .before in
     let x = chart j in
     let n = numbered x in
+    let l = lists x in
     let s = start (called x) in
-    text-asks (valid x) (few j (c .before .before .enum-told .given .1)) (n .lists .cells-are) (n .header-is) (n .used-is) (n .floor-is)
+    text-asks (l .valid) (few j (c .before .before .enum-told .given .1)) (l .cells-are) (n .header-is) (n .used-is) (n .floor-is)
     (s .args .limit) (length (now (s .args .out))) (s .pre) (omega (arith, called x .number-file .kept .1 .1 .0))
 
 same-length : tie.Need-same-length
@@ -110,7 +106,7 @@ returns c =
     let n = c .before .before .before .before .before .before .before .before .before in
     let a = start n .args in
     let r = c .before .before .before .before .before .a .given .1 in
-    let e = numbered-refused (n .number-file .ensures) (ap numberedAs r) in
+    let e = file-refused (a .file .now) (sym (ap fileNumberedAs r) ∙ n .number-file .ensures .0) in
     bytes-as (c .before .before .put-refusal .ensures) (sym (ap (answerText (a .limit)) (accepted-refused (a .limit) (a .file .now) e)))
 
 same-length-2 : tie.Need-same-length-2
@@ -134,9 +130,10 @@ returns-3 c =
     let j = t .before .before in
     let x = chart j in
     let n = numbered x in
+    let l = lists x in
     let k = start (called x) .args .limit in
     let e = listed-enough k (n .chart) (judged j (t .enum-told .given .1)) (n .used-is) in
-    let text = text-is (valid x) (few j (t .enum-told .given .1)) (n .lists .cells-are) (n .header-is) (n .used-is) (n .floor-is) k in
+    let text = text-is (l .valid) (few j (t .enum-told .given .1)) (l .cells-are) (n .header-is) (n .used-is) (n .floor-is) k in
     bytes-as (c .before .before .put-chart .ensures) (text ∙ sym (ap (answerText k) (accepted-judged k (file x) (n .judged) ∙ e)))
 
 pub put-file-spec : {M : Type 1} → statement M

@@ -1,11 +1,12 @@
--- `number_judged` meets its contract: the numbers of the chart, and the fullest of the live sets that are left. Assumes nothing.
-use mathlib.Core.Path.{sym}
+-- `number_judged`: the numbers of the chart, and the fullest of its live sets, which are looked at again. Assumes nothing.
+use mathlib.Core.Path.{sym, ap}
+use Rattle.model.specs.Answer.{result}
+use Rattle.numbering.proofs.FileNumbers.{live-part, chart-numbers}
 use borrow.Author.Needs.{needs}
-use Rattle.numbering.proofs.Files.{front-length, chart-found}
 use Rattle.numbering.proofs.number_judged.Statement.{statement}
 use Rattle.numbering.proofs.number_judged.Tie as tie
 
--- the chart is numbered: the call that this is of
+-- the way back from the numbers to the start
 abbrev start : tie.After-number-chart → tie.Start
 start c = c .before .before .before .before .before .before .before .before .before
 
@@ -22,7 +23,7 @@ slice-aggregate-fullest : tie.Need-slice-aggregate-fullest
 slice-aggregate-fullest c =
     let n = c .before .before .before .before .before .before in
     let p = start n .pre .0 in
-    sym (front-length (p .0) (p .1) (n .number-chart .ensures (p .0) (p .1) (p .2) (p .3)))
+    sym (live-part (p .0) (p .1) (n .number-chart .ensures (p .0) (p .1) (p .2) (p .3) .live-are))
 
 fullest-requires : tie.Need-fullest-requires
 fullest-requires c κs = search needs
@@ -34,9 +35,11 @@ same-length-2 : tie.Need-same-length-2
 same-length-2 c = search needs
 
 returns : tie.Need-returns
-returns c chart is holds tested =
-    let n = c .before .before .before .before .before .before .before .number-chart in
-    chart-found chart is (n .ensures chart is holds tested) (c .fullest .ensures)
+returns c = λ d e h b.
+    let m = c .before .before .before .before .before .before .before .number-chart .ensures d e h b in (
+      ap result (chart-numbers d e (m .live-are) (m .used-is) (c .fullest .ensures)),
+      record { width = h .width; valid = h .valid; live-are = m .live-are; cells-are = m .cells-are },
+    )
 
 pub number-judged-spec : {M : Type 1} → statement M
 number-judged-spec =

@@ -1,0 +1,116 @@
+-- The answer of a numbering, taken apart: the judgement's refusal, or the chart that it accepts with its numbers. Assumes nothing.
+use mathlib.Core.Path.{_≡_, refl, sym, ap, ap₂, _∙_, subst}
+use mathlib.Core.List.{List}
+use Prim.Native.Nat.{ℕ, _≤_}
+use native.Mathlib.Omega.{arith}
+use lib.ListN.{length, take}
+use Rattle.model.specs.Answer.{Answer, result, refused}
+use Rattle.model.specs.Chart.{Chart}
+use Rattle.model.specs.Live.{liveSets}
+use Rattle.model.specs.FirstFit.{used, fullest, floor}
+use Rattle.model.proofs.Answers.{result-refused, not-result, result-same, refused-same}
+use Rattle.chart_lists.specs.Header.{headerOf}
+use Rattle.chart_lists.specs.declared.Header.{Header}
+use Rattle.chart_lists.specs.Lists.{Lists}
+use Rattle.chart_lists.specs.Begins.{Begins}
+use Rattle.chart_lists.specs.Holds.{Holds}
+use Rattle.chart_lists.specs.Partly.{edgesOf}
+use Rattle.chart_lists.proofs.Begins.{begins-self, begins-take, begins-part, begins-room}
+use Rattle.chart_lists.proofs.Fronts.{locations-are}
+use Rattle.families.proofs.ChartPairs.{live-each}
+use Rattle.judgement.specs.Judging.{judgedIn}
+use Rattle.numbering.specs.FileNumbers.{FileNumbers, fileNumbers, numberedIn, ListsNumbered}
+
+-- ---- of a chart
+
+module _ (c : Chart) {m : Header} (is : m ≡ headerOf c) {live : List ℕ} (b : Begins (liveSets c) live) where
+  each : m .locations ≡ length (liveSets c)
+  each = locations-are c is ∙ sym (live-each c)
+
+  -- the part of the list that is looked at again is the live sets
+  pub live-front : take (m .locations) live ≡ liveSets c
+  live-front = begins-take b each
+
+  pub live-part : length (take (m .locations) live) ≡ m .locations
+  live-part = begins-part b each
+
+  pub live-room : m .locations ≤ length live
+  live-room = omega (arith, each, begins-room b)
+
+  pub chart-numbers : {u f : ℕ} → u ≡ used c → f ≡ fullest (take (m .locations) live)
+      → _≡_ {A = FileNumbers} (record { header = m; used = u; floor = f }) (fileNumbers c)
+  unfolding fileNumbers floor
+  chart-numbers e g = rw (is, e, g ∙ ap fullest live-front)
+
+-- the lists that numbering is lent, of the nine
+pub holds-edges : {c : Chart} {l : Lists} → Holds c l → Holds c (edgesOf c (l .sources) (l .targets) (l .starts))
+holds-edges h = record {
+  width = h .width;
+  valid = h .valid;
+  accepting = begins-self _;
+  sources = h .sources;
+  targets = h .targets;
+  events = begins-self _;
+  starts = h .starts;
+  test-counts = begins-self _;
+  timers = begins-self _;
+  codes = begins-self _;
+  constants = begins-self _;
+}
+
+-- ---- of a file
+
+-- the chart of a file that is numbered, and its numbers
+pub record FileChart (bs : List ℕ) (x : FileNumbers) : Type 0 where
+  pub chart : Chart
+  pub judged : judgedIn bs ≡ result chart
+  pub header-is : x .header ≡ headerOf chart
+  pub used-is : x .used ≡ used chart
+  pub floor-is : x .floor ≡ floor chart
+
+module _ (bs : List ℕ) where
+  -- what is answered, by the judgement
+  module _ {n p : ℕ} (e : judgedIn bs ≡ refused n p) where
+    pub refused-answer : refused n p ≡ numberedIn bs
+    unfolding numberedIn
+    refused-answer = rw e
+
+    pub refused-none : {c : Chart} → judgedIn bs ≡ result c → ⊥
+    refused-none j = result-refused j e
+
+  module _ {c : Chart} (e : judgedIn bs ≡ result c) where
+    pub judged-answer : {x : Answer FileNumbers} → x ≡ result (fileNumbers c) → x ≡ numberedIn bs
+    unfolding numberedIn
+    judged-answer f = rw e f
+
+    pub judged-lists : {live cells : List ℕ} → ListsNumbered c live cells → (d : Chart) → judgedIn bs ≡ result d → ListsNumbered d live cells
+    judged-lists {live} {cells} l d j = subst (λ (y : Chart). ListsNumbered y live cells) (result-same (sym e ∙ j)) l
+
+  -- and the other way
+  pub file-chart : {x : FileNumbers} → result x ≡ numberedIn bs → FileChart bs x
+  unfolding numberedIn fileNumbers
+  file-chart {x} e = go (judgedIn bs) refl
+    where
+      go : (y : Answer Chart) → judgedIn bs ≡ y → FileChart bs x
+      go (result c) j =
+          let f : result x ≡ result (fileNumbers c) = rw j at e in
+          let g = result-same f in
+          record {
+            chart = c;
+            judged = j;
+            header-is = ap (λ (y : FileNumbers). y .header) g;
+            used-is = ap (λ (y : FileNumbers). y .used) g;
+            floor-is = ap (λ (y : FileNumbers). y .floor) g;
+          }
+      go (refused n p) j = let f : result x ≡ refused n p = rw j at e in absurd (not-result (sym f))
+
+  pub file-refused : {n p : ℕ} → refused n p ≡ numberedIn bs → judgedIn bs ≡ refused n p
+  unfolding numberedIn
+  file-refused {n} {p} e = go (judgedIn bs) refl
+    where
+      go : (y : Answer Chart) → judgedIn bs ≡ y → judgedIn bs ≡ refused n p
+      go (result c) j = let f : refused n p ≡ result (fileNumbers c) = rw j at e in absurd (not-result f)
+      go (refused m q) j =
+          let f : _≡_ {A = Answer FileNumbers} (refused n p) (refused m q) = rw j at e in
+          let s = refused-same f in
+          j ∙ sym (ap₂ refused (s .0) (s .1))
