@@ -1,4 +1,5 @@
--- A rising list whose entries have different numbers below n is no longer than n: the set of the numbers has at most n. Assumes nothing.
+-- A rising list whose entries have different numbers below n is no longer than n. What is hard: the set of the numbers grows with each entry, and it
+-- has at most n. Assumes nothing.
 use mathlib.Core.Path.{_≡_, refl, sym, ap, _∙_, subst}
 use mathlib.Core.Logic.{_⊎_, inl, inr}
 use mathlib.Core.Bool.{true}

@@ -1,4 +1,5 @@
--- What the analysis answers and leaves of a file, on plain values: by the judgement's answer, and by the room that is lent. Assumes nothing.
+-- What the analysis answers and leaves of a file, on plain values: by the judgement's answer, and by the room that is lent. Nothing is hard: by
+-- cases. Assumes nothing.
 use mathlib.Core.Path.{_≡_}
 use mathlib.Core.List.{List}
 use Prim.Native.Nat.{ℕ, _≤_, _<_}

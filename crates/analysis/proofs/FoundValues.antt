@@ -1,5 +1,5 @@
--- What a call of the analysis that finds a chart leaves: in the list the live set of each location by paths, the rest untouched; floor and used as
--- the document has them. Assumes nothing.
+-- A call of the analysis that finds a chart leaves what `FoundValues` says. What is hard is only to read the list's front as the live sets, and what
+-- is behind as it was. Assumes nothing.
 use mathlib.Core.Path.{_≡_, sym, ap, _∙_}
 use mathlib.Core.List.{List, _++_}
 use Prim.Native.Nat.{ℕ, _+_, _-_, _≤_, _<_}

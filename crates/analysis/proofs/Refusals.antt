@@ -1,5 +1,5 @@
 -- Which refusals the analysis returns: 1 to 10 are those of the judgement, 21 comes exactly where an accepted chart has more locations than the
--- list has entries; else the chart's values. Assumes nothing.
+-- list has entries; else the chart's values. Nothing is hard: all by the three answers there are. Assumes nothing.
 use mathlib.Core.Path.{_≡_, refl, sym, ap, ap₂, _∙_}
 use mathlib.Core.Logic.{_⊎_, inl, inr, _↔_, Iff·trans}
 use mathlib.Core.List.{List}

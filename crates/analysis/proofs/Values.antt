@@ -1,5 +1,5 @@
--- What the values of the analysis mean: each word is the live set of its location by paths; floor is the count of the fullest live set, and at
--- most used, since the timers of one live set have different numbers; used is 0 exactly where no timer is live. Assumes nothing.
+-- What used and floor mean: each word is the live set of its location by paths; floor is the count of the fullest live set, and at most used; used is
+-- 0 exactly where no timer is live. What is hard: the timers of one live set have different numbers. Assumes nothing.
 use mathlib.Core.Path.{_≡_, refl, sym, ap, _∙_}
 use mathlib.Core.Logic.{_⊎_, inl, inr, _↔_}
 use mathlib.Core.Bool.{true}

@@ -1,4 +1,4 @@
--- What the listing answers and leaves in the lent buffer: 21 where the text is longer, else the text. Assumes nothing.
+-- What the listing answers and leaves in the lent buffer: 21 where the text is longer, else the text. Nothing is hard: by cases. Assumes nothing.
 use mathlib.Core.Path.{_≡_, refl, sym, ap}
 use mathlib.Core.Bool.{Bool, true, false}
 use mathlib.Core.List.{List}

@@ -1,4 +1,5 @@
--- A number in decimal: its last digit, how many digits it has, and that its digits tell the number. Assumes nothing.
+-- A number in decimal: its last digit, and how many digits it has. What is hard: a tenth of the number is shown with a digit to spare, which changes
+-- nothing. Assumes nothing.
 use mathlib.Core.Path.{_≡_, refl, sym, ap, _∙_}
 use mathlib.Core.Bool.{Bool, true, false}
 use mathlib.Core.List.{List, [], _∷_, _++_}

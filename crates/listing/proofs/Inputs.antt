@@ -1,4 +1,5 @@
--- Of every input: its text fits a buffer of 131,072 bytes, and depends on no more than its first 65,537 bytes. Assumes nothing.
+-- Of every input: its text fits a buffer of 131,072 bytes, and depends on no more than its first 65,537 bytes. Nothing is hard: by the four outcomes.
+-- Assumes nothing.
 use mathlib.Core.Path.{_≡_, sym, ap, _∙_}
 use mathlib.Core.Logic.{_⊎_, inl, inr}
 use mathlib.Core.List.{List, [], _∷_}

@@ -1,4 +1,4 @@
--- Each line by the parts in which it is put, and how long it is. Assumes nothing.
+-- Each line by the parts in which it is put, and how long it is. Nothing is hard: lists in another order of brackets. Assumes nothing.
 use mathlib.Core.Path.{_≡_, sym, ap, _∙_}
 use mathlib.Core.Option.{some}
 use mathlib.Core.List.{List, [], _∷_, _++_, append-assoc}
