@@ -67,11 +67,11 @@ returns c =
     let written = c .before .before .write .ensures in (
       λ d N is h x valid u.
           written .0
-          ∙ write-answer N d (x .numbered) valid is h u _ _ (starts d N is (starts-held h) x) (timers d N is (tests-held h) x) (length out),
+          ∙ write-answer N d (x .numbered) valid is h u _ _ (starts d N is (holds-starts h) x) (timers d N is (holds-tests h) x) (length out),
       λ d N is h x valid u.
           written .1
           ∙ ap (λ (y : Answer Chart). overwritten fileOf y out)
-          (write-into N d (x .numbered) valid is h u _ _ (starts d N is (starts-held h) x) (timers d N is (tests-held h) x) (length out)),
+          (write-into N d (x .numbered) valid is h u _ _ (starts d N is (holds-starts h) x) (timers d N is (holds-tests h) x) (length out)),
     )
 
 pub write-renamed-spec : {M : Type 1} → statement M
