@@ -52,7 +52,7 @@ text-of-first input = go (lt-or-le largestInput (length input))
         text-16 (take (suc largestInput) input) (omega arith) ∙ sym (text-16 input l)
     go (inr l) = ap textOf (take-all (suc largestInput) input (omega arith))
 
--- with that much room the text is always handed back
-pub text-handed : (input : List ℕ) → Bytes input → listInto largestText input ≡ result (textOf input)
+-- with that much room the text is always given whole
+pub text-whole : (input : List ℕ) → Bytes input → listInto largestText input ≡ result (textOf input)
 unfolding listInto
-text-handed input b = rw (le-leb (length (textOf input)) largestText (text-fits input b))
+text-whole input b = rw (le-leb (length (textOf input)) largestText (text-fits input b))

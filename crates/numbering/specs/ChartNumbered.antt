@@ -10,7 +10,7 @@ use Rattle.chart_lists.specs.Begins.{Begins}
 use Rattle.allocation.specs.Cells.{cellsOf}
 use Rattle.numbering.specs.declared.Numbered.{Numbered}
 
--- the lists begin with those of the chart, and the answer's figures are the chart's
+-- the lists begin with those of the chart, and the answer's values are the chart's
 pub record ChartNumbered (c : Chart) (live cells : List ℕ) (r : Numbered) : Type 0 where
   pub live-are : Begins (liveSets c) live
   pub cells-are : Begins (cellsOf (numbering (board c)) (c .locations)) cells
