@@ -1,5 +1,3 @@
 pub mod EdgeLists
 pub mod Turns
-pub mod Growth
-pub mod InPlace
 pub mod ChartFlows

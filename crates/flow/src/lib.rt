@@ -1,12 +1,10 @@
 // Sets of timers that pass along edges, by rounds: each round makes every location's set from the sets of the round before, the first from empty
-// ones, to the first round that changes no set. Where their number is not asked for, sweeps in place find the same sets sooner.
+// ones, to the first round that changes no set. Where their number is not asked for, a worklist finds the sets sooner (the crate `forward`).
 ghost use mathlib.Core.Path.{_≡_};
-ghost use mathlib.Core.Bool.{not};
 ghost use lib.ListN.{length, replicate};
 ghost use Rattle.timer_set.specs.Members.{joined, minus};
 ghost use Rattle.model.specs.Flow.{round as Flow·round, sameSets, settled, rounds};
-ghost use Rattle.flow.specs.Edges.{edgeAt, flowLent, SafeEdges};
-ghost use Rattle.flow.specs.Sweeps.{sweptTo};
+ghost use Rattle.flow.specs.Edges.{flowLent, SafeEdges};
 use timer_set::TimerSet;
 
 // `to` becomes `from`.
@@ -134,52 +132,4 @@ pub fn settle<'a>(
     let mut next = [0u64; chart_lists::MOST_LOCATIONS];
     copy(&next[..n], sets);
     alternate(into, from, cut, gain, own, sets, &mut next[..n])
-}
-
-// One sweep over all edges: each brings what stands at its source by now. Whether a set grew.
-fn sweep<'a>(
-    into: &'a [u16],
-    from: &'a [u16],
-    cut: &'a [u64],
-    gain: &'a [u64],
-    sets: &mut [u64],
-) -> bool
-    requires { ⌜ SafeEdges (now into) (now from) (now cut) (now gain) (now sets) ⌝ }
-    ensures sets { λ _. ⌜ now (sets .exit) ≡ sweptTo (edgeAt (now (into .entry)) (now (from .entry)) (now (cut .entry)) (now (gain .entry)))
-        (now (sets .entry)) (length (now (into .entry))) ⌝ }
-    ensures grew { λ r. ⌜ r ≡ not (sameSets (now (sets .entry)) (now (sets .exit))) ⌝ }
-{
-    let n = into.len();
-    let mut grew = false;
-    let mut i = 0;
-    while i < n {
-        let target = into[i] as usize;
-        let source = from[i] as usize;
-        let old = sets[target];
-        let set = with_edge(old, sets[source], cut[i], gain[i]);
-        // Stored also where nothing grew: a branch around it would cost more.
-        sets[target] = set;
-        i += 1;
-        if set != old {
-            grew = true;
-        }
-    }
-    grew
-}
-
-// The same sets, found by sweeps in place, until a sweep changes nothing. How many sweeps it takes is not said.
-pub fn settle_in_place<'a>(
-    into: &'a [u16],
-    from: &'a [u16],
-    cut: &'a [u64],
-    gain: &'a [u64],
-    own: &'a [u64],
-    sets: &mut [u64],
-)
-    requires { ⌜ SafeEdges (now into) (now from) (now cut) (now gain) (now own) ⌝ }
-    requires { ⌜ length (now sets) ≡ length (now own) ⌝ }
-    ensures { λ _. ⌜ now (sets .exit) ≡ settled (flowLent into from cut gain own) ⌝ }
-{
-    copy(own, sets);
-    while sweep(into, from, cut, gain, sets) {}
 }

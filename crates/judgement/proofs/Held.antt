@@ -20,9 +20,10 @@ use Rattle.chart_lists.proofs.Partly.{holds-transitions}
 use Rattle.chart_lists.proofs.Fronts.{locations-are, initial-is, transitions-are, each-front, each-part}
 use Rattle.chart_lists.proofs.Holds.{sources-each, targets-each, starts-each, test-counts-each, timers-each}
 use Rattle.flow.proofs.ChartFlows.{tested-each}
+use Rattle.forward.specs.Forward.{SafeForward}
 use Rattle.judgement.specs.Judging.{headerJudged}
 use Rattle.judgement.specs.Tested.{setsIn, TimersFor}
-use Rattle.judgement.specs.Forward.{SafeForward, judgedLists}
+use Rattle.judgement.specs.Places.{judgedLists}
 use Rattle.judgement.specs.Charts.{HoldsTransitions}
 use Rattle.judgement.proofs.Tested.{sets-are}
 use Rattle.judgement.proofs.Judging.{own-safe, judged-are}

@@ -22,9 +22,10 @@ use Rattle.chart_lists.specs.declared.Header.{Header}
 use Rattle.chart_lists.specs.Header.{headerOf}
 use Rattle.chart_lists.proofs.Holds.{sources-each}
 use Rattle.flow.proofs.ChartFlows.{noneEach, unstarted-flow, reached-flow, unstarted-safe}
+use Rattle.forward.specs.Forward.{forwardSets, SafeForward}
 use Rattle.judgement.specs.Judging.{headerJudged}
 use Rattle.judgement.specs.Tested.{testsAt}
-use Rattle.judgement.specs.Forward.{forwardSets, SafeForward, firstEmpty, unreachedIn, judgedLists}
+use Rattle.judgement.specs.Places.{firstEmpty, unreachedIn, judgedLists}
 use Rattle.judgement.proofs.Tested.{first-testing-is}
 use Rattle.judgement.proofs.Unreached.{unreached-by}
 

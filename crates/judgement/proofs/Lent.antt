@@ -1,38 +1,49 @@
--- The front of an array of empty sets that is lent for the sets that go forwards, before and after. Assumes nothing.
+-- The front of an array of empty sets that is lent for the sets that go forwards, before and after; and of an array of zeros, for transitions that cut
+-- nothing. Assumes nothing.
 use mathlib.Core.Path.{_≡_, ap, _∙_}
 use mathlib.Core.List.{List, _++_}
 use Prim.Native.Nat.{ℕ, _≤_, _<_}
 use native.Mathlib.Omega.{arith}
 use borrow.Author.Needs.{needs}
-use lib.ListN.{length, getD, take, replicate, length-append}
-use lib.Seq.{take-at}
+use lib.ListN.{length, getD, take, replicate, length-append, length-replicate}
+use lib.Seq.{take-at, length-take-le}
 use Rattle.lists.proofs.Zeros.{take-zeros}
 use Rattle.model.proofs.Settled.{length-settled}
 use Rattle.flow.proofs.EdgeLists.{locations-are}
-use Rattle.judgement.specs.Forward.{ownSets, SafeForward, forwardSets}
-use Rattle.judgement.proofs.OwnSets.{length-own, length-empty, few-locations}
+use Rattle.forward.specs.Forward.{ownSets, SafeForward, forwardSets}
+use Rattle.forward.proofs.Passing.{long-own}
 
-pub length-forward : (initial locations : ℕ) (sources targets cut : List ℕ) → length (forwardSets initial locations sources targets cut) ≡ locations
+length-empty : (n m : ℕ) → n ≤ m → _≡_ (length {A = ℕ} (take n (replicate m 0))) n
+length-empty n m h = length-take-le n (replicate m 0) (omega (arith, length-replicate {A = ℕ} m 0))
+
+length-forward : (initial locations : ℕ) (sources targets cut : List ℕ) → length (forwardSets initial locations sources targets cut) ≡ locations
 unfolding forwardSets
 length-forward initial locations sources targets cut =
-    length-settled _ ∙ locations-are targets sources cut (replicate (length sources) 0) (ownSets initial locations) ∙ length-own initial locations
+    length-settled _ ∙ locations-are targets sources cut (replicate (length sources) 0) (ownSets initial locations) ∙ long-own initial locations
 
 module _ {initial locations : ℕ} {sources targets cut : List ℕ} (d : SafeForward initial locations sources targets cut) where
-  -- nothing is cut and nothing gained: the front of an array of zeros
+  -- nothing is cut
   pub none-front : _≡_ {A = List ℕ} (take (length sources) (replicate 512 0)) (replicate (length sources) 0)
   none-front = take-zeros (length sources) 512 (d .few)
 
   pub none-length : _≡_ (length {A = ℕ} (take (length sources) (replicate 512 0))) (length sources)
   none-length = length-empty (length sources) 512 (d .few)
 
-  pub none-cut : SafeForward initial locations sources targets (take (length sources) (replicate 512 0))
-  none-cut = let e = none-length ∙ d .edges .froms in search needs
+  pub none-cut : SafeForward initial locations sources targets (replicate (length sources) 0)
+  none-cut = let e = length-replicate {A = ℕ} (length sources) 0 ∙ d .edges .froms in search needs
+
+  -- the front that is lent
+  pub few-locations : locations ≤ 256
+  few-locations = omega (arith, d .edges .locations, long-own initial locations)
 
   pub lent-length : _≡_ (length {A = ℕ} (take locations (replicate 256 0))) locations
-  lent-length = length-empty locations 256 (few-locations d)
+  lent-length = length-empty locations 256 few-locations
 
   pub lent-safe : SafeForward initial (length {A = ℕ} (take locations (replicate 256 0))) sources targets cut
   lent-safe = rw lent-length d
+
+  pub lent-empty : _≡_ {A = List ℕ} (take locations (replicate 256 0)) (replicate (length {A = ℕ} (take locations (replicate 256 0))) 0)
+  lent-empty = rw lent-length (take-zeros locations 256 few-locations)
 
   module _ {sets : List ℕ} (e : sets ≡ forwardSets initial (length {A = ℕ} (take locations (replicate 256 0))) sources targets cut)
       (rest : List ℕ) where
@@ -58,4 +69,4 @@ module _ {initial locations : ℕ} {sources targets cut : List ℕ} (d : SafeFor
     -- every source is among them
     pub sources-seen : (i : ℕ) → i < length sources → getD sources i 0 < length (take locations (sets ++ rest))
     sources-seen i h =
-        omega (arith, seen-length, length-own initial locations, d .edges .from-below i (omega (arith, d .edges .froms)))
+        omega (arith, seen-length, long-own initial locations, d .edges .from-below i (omega (arith, d .edges .froms)))

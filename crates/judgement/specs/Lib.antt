@@ -1,5 +1,5 @@
 pub mod Judging
 pub mod Tested
-pub mod Forward
+pub mod Places
 pub mod Charts
 pub mod Refusals

@@ -18,7 +18,8 @@ ghost use Rattle.file_format.specs.File.{chartIn};
 ghost use Rattle.filling.specs.Filling.{LargestLists};
 ghost use Rattle.judgement.specs.Judging.{judgedHeader, headerJudged};
 ghost use Rattle.judgement.specs.Tested.{TimersFor, setsIn, testsAt};
-ghost use Rattle.judgement.specs.Forward.{SafeForward, forwardSets, firstEmpty, unreachedIn, judgedLists};
+ghost use Rattle.forward.specs.Forward.{SafeForward};
+ghost use Rattle.judgement.specs.Places.{firstEmpty, unreachedIn, judgedLists};
 ghost use Rattle.judgement.specs.Charts.{HoldsTransitions};
 use chart_lists::Header;
 use chart_lists::MOST_LOCATIONS;
@@ -92,47 +93,27 @@ fn first_testing(sources: &[u16], tested: &[u64], sets: &[u64]) -> usize
     n
 }
 
-// The sets that go forwards along the transitions, from all timers at the initial location, but for what each cuts.
-fn forward<'a>(
-    sources: &'a [u16],
-    targets: &'a [u16],
-    cut: &'a [u64],
-    gain: &'a [u64],
-    initial: usize,
-    sets: &mut [u64],
-)
-    requires { ⌜ SafeForward initial (length (now sets)) (now sources) (now targets) (now cut)
-        × (now gain ≡ replicate (length (now sources)) 0) ⌝ }
-    ensures { λ _. ⌜ now (sets .exit)
-        ≡ forwardSets initial (length (now (sets .entry))) (now (sources .entry)) (now (targets .entry)) (now (cut .entry)) ⌝ }
-{
-    let mut own = [0u64; MOST_LOCATIONS];
-    own[initial] = TimerSet::EVERY.bits;
-    let m = sets.len();
-    flow::settle_in_place(targets, sources, cut, gain, &own[..m], sets);
-}
-
 // 9: the lowest location that no path reaches, or the number of locations. A chart of fewer than 64 timers starts timer 63 nowhere, so that it
 // is unstarted wherever a path leads.
 fn first_unreached<'a>(
     sources: &'a [u16],
     targets: &'a [u16],
-    zeros: &'a [u64],
     sets: &'a [u64],
     timers: u8,
-    initial: usize,
+    initial: u16,
 ) -> usize
-    requires { ⌜ SafeForward initial (length (now sets)) (now sources) (now targets) (now zeros)
-        × (now zeros ≡ replicate (length (now sources)) 0) ⌝ }
+    requires { ⌜ SafeForward initial (length (now sets)) (now sources) (now targets) (replicate (length (now sources)) 0) ⌝ }
     ensures { λ r. ⌜ r ≡ unreachedIn timers initial (now (sources .entry)) (now (targets .entry)) (now (sets .entry)) ⌝ }
 {
     if timers < 64 {
         return first_empty(sets);
     }
-    let n = sets.len();
+    let n = sources.len();
+    let m = sets.len();
+    let zeros = [0u64; MOST_TRANSITIONS];
     let mut reached = [0u64; MOST_LOCATIONS];
-    forward(sources, targets, zeros, zeros, initial, &mut reached[..n]);
-    first_empty(&reached[..n])
+    forward::settle_forward(sources, targets, &zeros[..n], initial, &mut reached[..m]);
+    first_empty(&reached[..m])
 }
 
 // 9, then 10, else the chart's header.
@@ -147,27 +128,11 @@ fn judge_lists<'a>(
         × (length (now tested) ≡ length (now sources)) ⌝ }
     ensures { λ r. ⌜ readAs r ≡ judgedLists header (now (sources .entry)) (now (targets .entry)) (now (starts .entry)) (now (tested .entry)) ⌝ }
 {
-    let initial = header.initial as usize;
     let m = header.locations as usize;
     let n = sources.len();
-    let zeros = [0u64; MOST_TRANSITIONS];
     let mut sets = [0u64; MOST_LOCATIONS];
-    forward(
-        sources,
-        targets,
-        starts,
-        &zeros[..n],
-        initial,
-        &mut sets[..m],
-    );
-    let unreached = first_unreached(
-        sources,
-        targets,
-        &zeros[..n],
-        &sets[..m],
-        header.timers,
-        initial,
-    );
+    forward::settle_forward(sources, targets, starts, header.initial, &mut sets[..m]);
+    let unreached = first_unreached(sources, targets, &sets[..m], header.timers, header.initial);
     if unreached < m {
         return Read::Refused(Refusal {
             number: 9,

@@ -7,7 +7,7 @@ use borrow.Author.Needs.{needs}
 use borrow.Author.Count.{below-more, below-none}
 use lib.ListN.{length, getD}
 use Rattle.model.specs.Live.{isEmpty}
-use Rattle.judgement.specs.Forward.{firstEmpty}
+use Rattle.judgement.specs.Places.{firstEmpty}
 use Rattle.lists.proofs.Lowest.{lowest-is}
 use Rattle.judgement.proofs.first_empty.Statement.{statement}
 use Rattle.judgement.proofs.first_empty.Tie as tie

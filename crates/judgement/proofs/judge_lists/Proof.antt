@@ -1,135 +1,111 @@
 -- `judge_lists` answers 9, then 10, else the header. The sets are made over the front of an array and read there again. Assumes nothing.
-use mathlib.Core.Path.{_≡_, sym, ap, _∙_, subst}
+use mathlib.Core.Path.{_≡_, sym, ap, _∙_}
 use mathlib.Core.List.{List}
 use Prim.Native.Nat.{ℕ}
-use lib.ListN.{length, take, replicate}
+use lib.ListN.{length}
 use borrow.Author.Needs.{needs}
 use Rattle.lists.specs.Lists.{lowest}
 use Rattle.judgement.specs.Tested.{testsAt}
-use Rattle.judgement.specs.Forward.{SafeForward, unreachedIn}
-use Rattle.judgement.proofs.OwnSets.{few-locations}
-use Rattle.judgement.proofs.Lent.{none-front, none-length, none-cut, lent-length, lent-safe, made-room, seen-length, seen-sets, sources-seen}
+use Rattle.judgement.specs.Places.{unreachedIn}
+use Rattle.judgement.proofs.Lent.{none-cut, few-locations, lent-length, lent-safe, lent-empty, made-room, seen-length, seen-sets, sources-seen}
 use Rattle.judgement.proofs.Judging.{unstartedIn, answer-9, answer-10, answer-chart}
 use Rattle.judgement.proofs.judge_lists.Statement.{statement}
 use Rattle.judgement.proofs.judge_lists.Tie as tie
 
 -- ---- places, and what is known there
 
-abbrev first : tie.After-zeros → tie.Start
-first c = c .before .before .before .before .before .before .before
+abbrev first : tie.After-struct-known → tie.Start
+first c = c .before .before .before .before .before
 
-abbrev start : tie.After-forward → tie.Start
+abbrev start : tie.After-settle-forward → tie.Start
 start f = first (f .before .before)
 
 -- the sets of this call
-abbrev sets : tie.After-forward → List ℕ
+abbrev sets : tie.After-settle-forward → List ℕ
 sets f = let a = start f .args in unstartedIn (a .header) (a .sources .now) (a .targets .now) (a .starts .now) (a .tested .now)
 
 -- the place of 9, if there is one
-unreached-are : (c : tie.After-first-unreached) → let f = c .before .before .before .before in let a = start f .args in
+unreached-are : (c : tie.After-first-unreached) → let f = c .before .before .before in let a = start f .args in
     c .first-unreached .result ≡ unreachedIn (a .header .timers) (a .header .initial) (a .sources .now) (a .targets .now) (sets f)
 unreached-are c =
-    let f = c .before .before .before .before in
+    let f = c .before .before .before in
     let a = start f .args in
-    let s = seen-sets (start f .pre .0) (f .forward .ensures) _ in
+    let s = seen-sets (start f .pre .0) (f .settle-forward .ensures) _ in
     c .first-unreached .ensures ∙ ap (unreachedIn (a .header .timers) (a .header .initial) (a .sources .now) (a .targets .now)) s
 
 -- the place of 10, if there is one
-unstarted-are : (c : tie.After-first-testing) → let f = c .before .before .before .before .before .before .before in let a = start f .args in
+unstarted-are : (c : tie.After-first-testing) → let f = c .before .before .before .before .before .before in let a = start f .args in
     c .first-testing .result ≡ lowest (testsAt (a .sources .now) (a .tested .now) (sets f)) (length (a .sources .now))
 unstarted-are c =
-    let f = c .before .before .before .before .before .before .before in
+    let f = c .before .before .before .before .before .before in
     let a = start f .args in
-    let s = seen-sets (start f .pre .0) (f .forward .ensures) _ in
+    let s = seen-sets (start f .pre .0) (f .settle-forward .ensures) _ in
     c .first-testing .ensures ∙ ap (λ (s : List ℕ). lowest (testsAt (a .sources .now) (a .tested .now) s) (length (a .sources .now))) s
 
 -- ----
 
-cast-initial : tie.Need-cast-initial
-cast-initial c = search needs
-
 cast-m : tie.Need-cast-m
 cast-m c = search needs
-
-array-share-prefix-zeros : tie.Need-array-share-prefix-zeros
-array-share-prefix-zeros c = search needs
-
-slice-aggregate-forward : tie.Need-slice-aggregate-forward
-slice-aggregate-forward c = sym (none-length (first c .pre .0))
 
 array-borrow-prefix-sets : tie.Need-array-borrow-prefix-sets
 array-borrow-prefix-sets c = few-locations (first c .pre .0)
 
-slice-aggregate-forward-2 : tie.Need-slice-aggregate-forward-2
-slice-aggregate-forward-2 c = sym (lent-length (first (c .before) .pre .0))
+slice-aggregate-settle-forward : tie.Need-slice-aggregate-settle-forward
+slice-aggregate-settle-forward c = sym (lent-length (first (c .before) .pre .0))
 
-forward-requires : tie.Need-forward-requires
-forward-requires c κs = let p = first (c .before) .pre .0 in (lent-safe p, none-front p)
-
-array-share-prefix-zeros-2 : tie.Need-array-share-prefix-zeros-2
-array-share-prefix-zeros-2 c = search needs
-
-slice-aggregate-first-unreached : tie.Need-slice-aggregate-first-unreached
-slice-aggregate-first-unreached c = sym (none-length (start (c .before .before) .pre .0))
+settle-forward-requires : tie.Need-settle-forward-requires
+settle-forward-requires c κs = let p = first (c .before) .pre .0 in (lent-safe p, lent-empty p)
 
 array-share-prefix-sets : tie.Need-array-share-prefix-sets
-array-share-prefix-sets c = let f = c .before .before in made-room (start f .pre .0) (f .forward .ensures) _
+array-share-prefix-sets c = let f = c .before in made-room (start f .pre .0) (f .settle-forward .ensures) _
 
-slice-aggregate-first-unreached-2 : tie.Need-slice-aggregate-first-unreached-2
-slice-aggregate-first-unreached-2 c = let f = c .before .before .before in sym (seen-length (start f .pre .0) (f .forward .ensures) _)
+slice-aggregate-first-unreached : tie.Need-slice-aggregate-first-unreached
+slice-aggregate-first-unreached c = let f = c .before .before in sym (seen-length (start f .pre .0) (f .settle-forward .ensures) _)
 
 first-unreached-requires : tie.Need-first-unreached-requires
 first-unreached-requires c κs =
-    let f = c .before .before .before in
-    let a = start f .args in
+    let f = c .before .before in
     let p = start f .pre .0 in
-    let n = sym (seen-length p (f .forward .ensures) _) in
-    let zeros : List ℕ = take (length (a .sources .now)) (replicate 512 0) in
-    (subst (λ (n : ℕ). SafeForward (a .header .initial) n (a .sources .now) (a .targets .now) zeros) n (none-cut p), none-front p)
+    rw (seen-length p (f .settle-forward .ensures) _) (none-cut p)
 
 returns : tie.Need-returns
-returns c = let a = start (c .before .before .before .before .before) .args in
+returns c = let a = start (c .before .before .before .before) .args in
     answer-9 (a .header) _ _ _ (a .tested .now) (unreached-are (c .before)) (c .if1 .taken)
 
 array-share-prefix-sets-2 : tie.Need-array-share-prefix-sets-2
-array-share-prefix-sets-2 c = let f = c .before .before .before .before .before in made-room (start f .pre .0) (f .forward .ensures) _
+array-share-prefix-sets-2 c = let f = c .before .before .before .before in made-room (start f .pre .0) (f .settle-forward .ensures) _
 
 slice-aggregate-first-testing : tie.Need-slice-aggregate-first-testing
 slice-aggregate-first-testing c =
-    let f = c .before .before .before .before .before .before in sym (seen-length (start f .pre .0) (f .forward .ensures) _)
+    let f = c .before .before .before .before .before in sym (seen-length (start f .pre .0) (f .settle-forward .ensures) _)
 
 first-testing-requires : tie.Need-first-testing-requires
 first-testing-requires c κs =
-    let f = c .before .before .before .before .before .before in
-    let p = start f .pre in (p .1, sources-seen (p .0) (f .forward .ensures) _)
+    let f = c .before .before .before .before .before in
+    let p = start f .pre in (p .1, sources-seen (p .0) (f .settle-forward .ensures) _)
 
 returns-2 : tie.Need-returns-2
 returns-2 c =
     let b = c .before .before .before in
-    let a = start (b .before .before .before .before .before) .args in
+    let a = start (b .before .before .before .before) .args in
     answer-10 (a .header) _ _ _ (a .tested .now) (unreached-are (b .before)) (b .if1 .left) (unstarted-are (c .before)) (c .if2 .taken)
 
 returns-3 : tie.Need-returns-3
 returns-3 c =
     let b = c .before .before .before in
-    let a = start (b .before .before .before .before .before) .args in
+    let a = start (b .before .before .before .before) .args in
     answer-chart (a .header) _ _ _ (a .tested .now) (unreached-are (b .before)) (b .if1 .left) (unstarted-are (c .before)) (c .if2 .left)
 
 pub judge-lists-spec : {M : Type 1} → statement M
 judge-lists-spec =
     tie.close
     (tie.spec
-    cast-initial
     cast-m
-    array-share-prefix-zeros
-    slice-aggregate-forward
     array-borrow-prefix-sets
-    slice-aggregate-forward-2
-    forward-requires
-    array-share-prefix-zeros-2
-    slice-aggregate-first-unreached
+    slice-aggregate-settle-forward
+    settle-forward-requires
     array-share-prefix-sets
-    slice-aggregate-first-unreached-2
+    slice-aggregate-first-unreached
     first-unreached-requires
     returns
     array-share-prefix-sets-2

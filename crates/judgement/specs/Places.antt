@@ -1,33 +1,16 @@
--- Sets of timers that go forwards along transitions, in the terms that code has: lists. From them 9 and 10 are found. That they are those of the
--- chart whose lists these are is shown in proofs/. Assumes nothing.
+-- The places of 9 and 10, in the terms that code has: lists. They are found from the sets of timers that go forwards along the transitions. That they
+-- are those of the chart whose lists these are is shown in proofs/. Assumes nothing.
 use mathlib.Core.Bool.{true, false}
 use mathlib.Core.List.{List}
-use Prim.Native.Nat.{ℕ, _≤_, _<_}
+use Prim.Native.Nat.{ℕ}
 use lib.Dec.{leb, ltb}
-use lib.ListN.{length, getD, replicate, set}
-use Rattle.timer_set.specs.Members.{everyTimer}
+use lib.ListN.{length, getD, replicate}
 use Rattle.lists.specs.Lists.{lowest}
 use Rattle.model.specs.Answer.{Answer, result, unless}
-use Rattle.model.specs.Flow.{settled}
 use Rattle.model.specs.Live.{isEmpty}
-use Rattle.flow.specs.Edges.{flowOf, SafeEdges}
-use Rattle.chart_lists.specs.Limits.{mostTransitions}
+use Rattle.forward.specs.Forward.{forwardSets}
 use Rattle.chart_lists.specs.declared.Header.{Header}
 use Rattle.judgement.specs.Tested.{testsAt}
-
--- all timers at the initial location, nothing elsewhere
-abbrev pub ownSets : (initial locations : ℕ) → List ℕ
-ownSets initial locations = set (replicate locations 0) initial everyTimer
-
--- from there forwards along each transition, but for what it cuts
-unfoldable pub forwardSets : (initial locations : ℕ) → (sources targets cut : List ℕ) → List ℕ
-forwardSets initial locations sources targets cut = settled (flowOf targets sources cut (replicate (length sources) 0) (ownSets initial locations))
-
--- what the code asks for its safety: the initial location is one, and every transition leads from a location to a location
-pub record SafeForward (initial locations : ℕ) (sources targets cut : List ℕ) : Type 0 where
-  pub few : length sources ≤ mostTransitions
-  pub inside : initial < locations
-  pub edges : SafeEdges targets sources cut (replicate (length sources) 0) (ownSets initial locations)
 
 -- the first empty set, or the number of sets
 unfoldable pub firstEmpty : List ℕ → ℕ

@@ -1,0 +1,4 @@
+pub mod Leaving
+pub mod Waiting
+pub mod Passing
+pub mod Ending

@@ -1,0 +1,98 @@
+-- A location that is put on the worklist, and one that is taken from it. Room is no matter: of the list's places, one is free for each location that
+-- is idle. Assumes nothing.
+use mathlib.Core.Path.{_≡_, refl, sym, ap, _∙_}
+use mathlib.Core.Logic.{inl, inr}
+use mathlib.Core.List.{List}
+use Prim.Native.Nat.{ℕ, zero, suc, _+_, _≤_, _<_}
+use native.Mathlib.Decide.{ℕ-discrete}
+use native.Mathlib.Omega.{arith}
+use lib.ListN.{length, getD, replicate, set, length-set, length-replicate, getD-replicate}
+use lib.Seq.{getD-set-same, getD-set-other, set-getD}
+use Rattle.lists.specs.Lists.{sumOf}
+use Rattle.lists.proofs.Sums.{sum-set}
+use Rattle.timer_set.specs.Members.{joined}
+use Rattle.timer_set.proofs.Members.{joined-more}
+use Rattle.forward.specs.Worklist.{Listing, Given}
+
+sum-ones : (n : ℕ) → sumOf (replicate n 1) ≡ n
+unfolding sumOf
+sum-ones zero = refl
+sum-ones (suc n) = omega (arith, sum-ones n)
+
+-- nothing waits
+pub listing-none : (m n : ℕ) (waiting : List ℕ) → m ≤ n → n ≤ length waiting → Listing m (replicate n 1) waiting 0
+listing-none m n waiting h room = record {
+  idles = omega (arith, h, length-replicate {A = ℕ} n 1);
+  room = omega (arith, room, sum-ones n);
+  below = λ k l. absurd (omega (arith, l));
+  listed = λ q l z. absurd (omega (arith, z, getD-replicate {A = ℕ} n q 1 0 (omega (arith, l, h))));
+}
+
+module _ {m : ℕ} {idle waiting : List ℕ} {depth : ℕ} (x : Listing m idle waiting depth) where
+  module _ (q : ℕ) (below : q < m) where
+    inside : q < length idle
+    inside = omega (arith, below, x .idles)
+
+    -- it waits already
+    pub push-same : getD idle q 0 ≡ 0 → idle ≡ set idle q 0
+    push-same e = sym (ap (set idle q) (sym e) ∙ set-getD idle q 0)
+
+    module _ (free : getD idle q 0 ≡ 0 → ⊥) where
+      pub push-room : depth < length waiting
+      push-room = omega (arith, free, x .room, sum-set idle q 0 inside)
+
+      pub push-more : Listing m (set idle q 0) (set waiting depth q) (depth + 1)
+      push-more = record {
+        idles = omega (arith, x .idles, length-set idle q 0);
+        room = omega (arith, free, x .room, sum-set idle q 0 inside, length-set waiting depth q);
+        below = λ k l. lower k l (ℕ-discrete k depth);
+        listed = λ p l z. stands p l z (ℕ-discrete p q);
+      }
+        where
+          lower : (k : ℕ) → k < depth + 1 → Dec (k ≡ depth) → getD (set waiting depth q) k 0 < m
+          lower k l (yes e) = rw (e, getD-set-same waiting depth q 0 push-room) below
+          lower k l (no ne) = rw (getD-set-other waiting depth k q 0 ne) (x .below k (omega (arith, l, ne)))
+
+          stands : (p : ℕ) → p < m → getD (set idle q 0) p 0 ≡ 0 → Dec (p ≡ q)
+              → (k : ℕ) × (k < depth + 1) × (getD (set waiting depth q) k 0 ≡ p)
+          stands p l z (yes e) = (depth, omega arith, getD-set-same waiting depth q 0 push-room ∙ sym e)
+          stands p l z (no ne) =
+              let old = x .listed p l (sym (getD-set-other idle q p 0 0 ne) ∙ z) in
+              let lower = old .1 in
+              (old .0, omega (arith, lower), getD-set-other waiting depth (old .0) q 0 (λ e. omega (arith, lower, e)) ∙ old .2)
+
+  -- the last of the list is idle again
+  pub pop : (k : ℕ) → depth ≡ k + 1 → Listing m (set idle (getD waiting k 0) 1) waiting k
+  pop k e = record {
+    idles = omega (arith, x .idles, length-set idle q 1);
+    room = omega (arith, e, x .room, sum-set idle q 1 (omega (arith, x .idles, last)));
+    below = λ i l. x .below i (omega (arith, l, e));
+    listed = λ p l z. stands p l z (ℕ-discrete p q);
+  }
+    where
+      q : ℕ
+      q = getD waiting k 0
+
+      last : q < m
+      last = x .below k (omega (arith, e))
+
+      stands : (p : ℕ) → p < m → getD (set idle q 1) p 0 ≡ 0 → Dec (p ≡ q) → (i : ℕ) × (i < k) × (getD waiting i 0 ≡ p)
+      stands p l z (yes e) = absurd (omega (arith, rw e at z, getD-set-same idle q 1 0 (omega (arith, x .idles, last))))
+      stands p l z (no ne) =
+          let old = x .listed p l (sym (getD-set-other idle q p 1 0 ne) ∙ z) in
+          let lower = old .1 in
+          let not-last : old .0 ≡ k → ⊥ = λ f. ne (sym (old .2) ∙ ap (λ (i : ℕ). getD waiting i 0) f) in
+          (old .0, omega (arith, lower, e, not-last), old .2)
+
+-- ---- what is given to a location
+
+pub given-none : {target passed : ℕ} {sets idle : List ℕ} → joined (getD sets target 0) passed ≡ getD sets target 0
+    → Given target passed sets idle sets idle
+given-none {target} {sets = sets} e = record { grown = sym (ap (set sets target) e ∙ set-getD sets target 0); waits = inl (refl, refl) }
+
+module _ (target passed : ℕ) (sets : List ℕ) {w : ℕ} (is : w ≡ joined (getD sets target 0) passed) where
+  pub given-more : {idle after : List ℕ} → after ≡ set idle target 0 → Given target passed sets idle (set sets target w) after
+  given-more e = record { grown = ap (set sets target) is; waits = inr e }
+
+  pub sum-more : target < length sets → (w ≡ getD sets target 0 → ⊥) → sumOf sets < sumOf (set sets target w)
+  sum-more h ne = omega (arith, ne, is, sum-set sets target w h, joined-more (getD sets target 0) passed)

@@ -1,0 +1,134 @@
+-- `empty_list` takes the last location of the list and goes over its transitions, until none waits. Each turn takes one location from the list, and
+-- each location that it puts there has a set that has grown: so the sum of what is missing from the sets and of what waits falls. Assumes nothing.
+use mathlib.Core.Path.{_≡_, _∙_}
+use mathlib.Core.List.{List}
+use Prim.Native.Nat.{ℕ, _+_, _*_, _-_, _^_, _<_}
+use native.Mathlib.Omega.{arith}
+use borrow.Author.Needs.{needs}
+use lib.ListN.{length, getD, length-set}
+use Rattle.lists.specs.Lists.{sumOf}
+use Rattle.forward.specs.Worklist.{Between, Working}
+use Rattle.forward.proofs.Passing.{last-below, taken-first, between-again}
+use Rattle.forward.proofs.Ending.{sum-below, all-settled}
+use Rattle.forward.proofs.empty_list.Statement.{statement}
+use Rattle.forward.proofs.empty_list.Tie as tie
+
+abbrev Inv-loop : tie.InvT-loop
+Inv-loop targets cut first next sets₀ idle₀ waiting₀ depth left₀ sets idle waiting left =
+    (length sets ≡ length sets₀) × (length idle ≡ length idle₀) × (length waiting ≡ length waiting₀)
+    × ((initial : ℕ) (sources : List ℕ) → Between initial (length sets₀) sources targets cut first next sets₀ idle₀ waiting₀ depth
+    → Between initial (length sets₀) sources targets cut first next sets idle waiting left)
+
+abbrev μ-loop : tie.MeasureT-loop
+μ-loop targets cut first next sets₀ idle₀ waiting₀ depth left₀ sets idle waiting left = 2 ^ 64 * length sets₀ - sumOf sets + left
+
+abbrev start : tie.At-loop Inv-loop μ-loop → tie.Start Inv-loop μ-loop
+start l = l .before .before .before .before .before .before .before .before
+
+-- what the loop has done so far
+turn : (l : tie.At-loop Inv-loop μ-loop) → let a = start l .args in
+    Between (start l .pre .0) (length (a .sets .now)) (start l .pre .1) (a .targets .now) (a .cut .now) (a .first .now) (a .next .now)
+    (l .loop .sets) (l .loop .idle) (l .loop .waiting) (l .loop .left)
+turn l = let p = start l .pre in l .loop .inv .3 (p .0) (p .1) (p .2)
+
+-- the location that is taken from the list is the last one there
+abbrev place : tie.In-loop Inv-loop μ-loop → ℕ
+place c = c .before .loop .left - 1
+
+place-is : (c : tie.In-loop Inv-loop μ-loop) → c .before .loop .left ≡ place c + 1
+place-is c = omega (arith, c .loop-test .taken)
+
+location : (c : tie.In-loop Inv-loop μ-loop) → getD (c .before .loop .waiting) (place c) 0 < length (start (c .before) .args .sets .now)
+location c = let t = turn (c .before) in last-below (t .safe) (t .working) (place c) (place-is c)
+
+loop-holds : tie.Need-loop-holds Inv-loop μ-loop
+loop-holds c = search needs
+
+sub-left : tie.Need-sub-left Inv-loop μ-loop
+sub-left c = search needs
+
+mul-q : tie.Need-mul-q Inv-loop μ-loop
+mul-q c =
+    let h : place c < length (c .before .loop .waiting) = omega (arith, c .loop-test .taken, turn (c .before) .working .listing .room) in search needs
+
+slice-read-q : tie.Need-slice-read-q Inv-loop μ-loop
+slice-read-q c = omega (arith, c .before .loop-test .taken, turn (c .before .before) .working .listing .room)
+
+cast-q : tie.Need-cast-q Inv-loop μ-loop
+cast-q c = omega (arith, c .slice-known4 .given (place (c .before)) .fits)
+
+slice-write-idle : tie.Need-slice-write-idle Inv-loop μ-loop
+slice-write-idle c = omega (arith, location (c .before), turn (c .before .before) .working .listing .idles)
+
+mul-visit : tie.Need-mul-visit Inv-loop μ-loop
+mul-visit c = omega (arith, c .slice-known4 .given (place (c .before)) .fits)
+
+shared-slice-read-visit : tie.Need-shared-slice-read-visit Inv-loop μ-loop
+shared-slice-read-visit c = omega (arith, location (c .before .before), turn (c .before .before .before) .room)
+
+visit-requires : tie.Need-visit-requires Inv-loop μ-loop
+visit-requires c κs =
+    let i = c .before .before .before .before .before in
+    let p = start (i .before) .pre in
+    (p .0, p .1, rw (i .before .loop .inv .0) (taken-first (turn (i .before)) (place i) (place-is i)))
+
+loop-less : tie.Need-loop-less Inv-loop μ-loop
+loop-less c =
+    let v = c .before .before .before .before .before .before in
+    let i = v .before .before .before .before .before .before in
+    let l = i .before in
+    let p = start l .pre in
+    let t = turn l in
+    let w = v .visit .ensures .0 (p .0) (p .1) (rw (l .loop .inv .0) (taken-first t (place i) (place-is i))) in
+    omega (arith, i .loop-test .taken, v .visit .ensures .1, l .loop .inv .0, sum-below w)
+
+loop-again : tie.Need-loop-again Inv-loop μ-loop
+loop-again c =
+    let v = c .before .before .before .before .before .before in
+    let i = v .before .before .before .before .before .before in
+    let l = i .before .loop in
+    let idle-long = length-set (l .idle) (getD (l .waiting) (place i) 0) 1 ∙ l .inv .1 in (
+      search needs,
+      search needs,
+      search needs,
+      (λ initial sources t.
+          let b = l .inv .3 initial sources t in
+          let w = v .visit .ensures .0 initial sources (rw (l .inv .0) (taken-first b (place i) (place-is i))) in
+          between-again b (rw (l .inv .0) at w)),
+    )
+
+same-length : tie.Need-same-length Inv-loop μ-loop
+same-length c = search needs
+
+same-length-2 : tie.Need-same-length-2 Inv-loop μ-loop
+same-length-2 c = search needs
+
+same-length-3 : tie.Need-same-length-3 Inv-loop μ-loop
+same-length-3 c = search needs
+
+returns : tie.Need-returns Inv-loop μ-loop
+returns c =
+    let l = c .before .loop in
+    (λ initial sources t. let b = l .inv .3 initial sources t in all-settled (b .safe) (b .working) (omega (arith, c .loop-test .left)))
+
+pub empty-list-spec : {M : Type 1} → statement M
+empty-list-spec =
+    tie.close
+    (tie.spec
+    Inv-loop
+    μ-loop
+    loop-holds
+    sub-left
+    mul-q
+    slice-read-q
+    cast-q
+    slice-write-idle
+    mul-visit
+    shared-slice-read-visit
+    visit-requires
+    loop-less
+    loop-again
+    same-length
+    same-length-2
+    same-length-3
+    returns)

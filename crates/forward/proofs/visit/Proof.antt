@@ -1,0 +1,137 @@
+-- `visit` goes from each transition to the next that leaves the same location (Passing). Assumes nothing.
+use mathlib.Core.Path.{_≡_, refl, sym, _∙_}
+use mathlib.Core.List.{List}
+use Prim.Native.Nat.{ℕ, _+_, _-_, _≤_, _<_}
+use native.Mathlib.Omega.{arith}
+use borrow.Author.Needs.{needs}
+use lib.ListN.{length, getD}
+use Rattle.lists.specs.Lists.{sumOf}
+use Rattle.forward.specs.Worklist.{Taken}
+use Rattle.forward.proofs.Passing.{target-inside, next-later, taken-more, set-stays, working-end}
+use Rattle.forward.proofs.visit.Statement.{statement}
+use Rattle.forward.proofs.visit.Tie as tie
+
+abbrev Inv-loop : tie.InvT-loop
+Inv-loop targets cut next first here sets₀ idle₀ waiting₀ depth n set top₀ i₀ sets idle waiting top i =
+    (length sets ≡ length sets₀) × (length idle ≡ length idle₀) × (length waiting ≡ length waiting₀) × (top + sumOf sets₀ ≤ depth + sumOf sets)
+    × ((initial : ℕ) (sources : List ℕ) → Taken initial (length sets₀) sources targets cut next here first sets₀ idle₀ waiting₀ depth
+    → Taken initial (length sets₀) sources targets cut next here i sets idle waiting top × (set .bits ≡ getD sets here 0))
+
+abbrev μ-loop : tie.MeasureT-loop
+μ-loop targets cut next first here sets₀ idle₀ waiting₀ depth n set top₀ i₀ sets idle waiting top i = n - i
+
+abbrev start : tie.At-loop Inv-loop μ-loop → tie.Start Inv-loop μ-loop
+start l = l .before .before .before .before .before .before .before .before
+
+-- the transitions of this call, by their sources
+abbrev sources : tie.At-loop Inv-loop μ-loop → List ℕ
+sources l = start l .pre .1
+
+-- what the loop has done so far
+turn : (l : tie.At-loop Inv-loop μ-loop) → let a = start l .args in
+    Taken (start l .pre .0) (length (a .sets .now)) (sources l) (a .targets .now) (a .cut .now) (a .next .now) (a .here) (l .loop .i)
+    (l .loop .sets) (l .loop .idle) (l .loop .waiting) (l .loop .top)
+turn l = let p = start l .pre in l .loop .inv .4 (p .0) (p .1) (p .2) .0
+
+below : (c : tie.In-loop Inv-loop μ-loop) → c .before .loop .i < length (sources (c .before))
+below c = omega (arith, c .loop-test .taken, turn (c .before) .safe .edges .froms)
+
+mul-t15 : tie.Need-mul-t15 Inv-loop μ-loop
+mul-t15 c = search needs
+
+slice-read-t17 : tie.Need-slice-read-t17 Inv-loop μ-loop
+slice-read-t17 c = search needs
+
+loop-holds : tie.Need-loop-holds Inv-loop μ-loop
+loop-holds c = search needs
+
+mul-t19 : tie.Need-mul-t19 Inv-loop μ-loop
+mul-t19 c = search needs
+
+shared-slice-read-t21 : tie.Need-shared-slice-read-t21 Inv-loop μ-loop
+shared-slice-read-t21 c = search needs
+
+minus-requires : tie.Need-minus-requires Inv-loop μ-loop
+minus-requires c κs = search needs
+
+mul-give : tie.Need-mul-give Inv-loop μ-loop
+mul-give c = search needs
+
+shared-slice-read-give : tie.Need-shared-slice-read-give Inv-loop μ-loop
+shared-slice-read-give c = search needs
+
+give-requires : tie.Need-give-requires Inv-loop μ-loop
+give-requires c κs =
+    let i = c .before .before .before .before .before .before in
+    let t = turn (i .before) in
+    (target-inside (t .safe) (t .working .within) _ (below i), rw (i .before .loop .inv .0) (t .working .listing))
+
+mul-i : tie.Need-mul-i Inv-loop μ-loop
+mul-i c = search needs
+
+shared-slice-read-i : tie.Need-shared-slice-read-i Inv-loop μ-loop
+shared-slice-read-i c = search needs
+
+cast-i : tie.Need-cast-i Inv-loop μ-loop
+cast-i c = omega (arith, c .shared-slice-known6 .given (c .before .before .before .before .before .before .before .before .before .before .before .before .before .before .before .loop .i) .fits)
+
+loop-less : tie.Need-loop-less Inv-loop μ-loop
+loop-less c =
+    let i = c .before .before .before .before .before .before .before .before .before .before .before .before .before .before in
+    omega (arith, i .loop-test .taken, next-later (turn (i .before)) (below i))
+
+loop-again : tie.Need-loop-again Inv-loop μ-loop
+loop-again c =
+    let g = c .before .before .before .before .before .before .before in
+    let m = g .before .before .before .before .before in
+    let i = m .before .before in
+    let l = i .before .loop in (
+      search needs,
+      search needs,
+      search needs,
+      omega (arith, l .inv .3, g .give .ensures .1 .1),
+      (λ initial sources t.
+          let u = l .inv .4 initial sources t in
+          let b : l .i < length sources = omega (arith, i .loop-test .taken, t .safe .edges .froms) in
+          let y = rw (l .inv .0) at (g .give .ensures .1 .0) in
+          (taken-more (u .0) b (u .1) (m .minus .ensures) (g .give .ensures .0) y, set-stays (u .0) b (u .1) (m .minus .ensures) (g .give .ensures .0) y)),
+    )
+
+same-length : tie.Need-same-length Inv-loop μ-loop
+same-length c = search needs
+
+same-length-2 : tie.Need-same-length-2 Inv-loop μ-loop
+same-length-2 c = search needs
+
+same-length-3 : tie.Need-same-length-3 Inv-loop μ-loop
+same-length-3 c = search needs
+
+returns : tie.Need-returns Inv-loop μ-loop
+returns c =
+    let l = c .before .loop in
+    ((λ initial sources t. working-end (l .inv .4 initial sources t .0 .working) (omega (arith, c .loop-test .left, t .safe .edges .froms))), l .inv .3)
+
+pub visit-spec : {M : Type 1} → statement M
+visit-spec =
+    tie.close
+    (tie.spec
+    Inv-loop
+    μ-loop
+    mul-t15
+    slice-read-t17
+    loop-holds
+    mul-t19
+    shared-slice-read-t21
+    minus-requires
+    mul-give
+    shared-slice-read-give
+    give-requires
+    mul-i
+    shared-slice-read-i
+    cast-i
+    loop-less
+    loop-again
+    same-length
+    same-length-2
+    same-length-3
+    returns)
