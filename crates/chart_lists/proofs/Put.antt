@@ -1,6 +1,6 @@
 -- A list that is put over the front of a lent one grows by stores, one after another. Assumes nothing.
-use mathlib.Core.Path.{_≡_, refl, ap, _∙_}
-use mathlib.Core.List.{List, [], _∷_, _++_, map, append-assoc}
+use mathlib.Core.Path.{_≡_, refl, _∙_}
+use mathlib.Core.List.{List, [], _∷_, _++_, map, map-append, append-assoc}
 use Prim.Native.Nat.{ℕ, _≤_, _<_}
 use native.Mathlib.Numerals.{add-one}
 use native.Mathlib.Omega.{arith}
@@ -29,16 +29,12 @@ put-more xs l v h = rw (drop-cons l (length xs) 0, set-append-seam, append-assoc
 pub put-last : (xs l : List ℕ) (v : ℕ) {out : List ℕ} {k : ℕ} → k < length l → length xs ≡ k → out ≡ put xs l → set out k v ≡ put (xs ++ (v ∷ [])) l
 put-last xs l v h e o = let g : length xs < length l = omega arith in rw (o, ← e) (put-more xs l v g)
 
--- a longer list putLists over one that it begins with
+-- a longer list put over one that it begins with
 pub put-put : (xs ys l : List ℕ) → put (xs ++ ys) (put xs l) ≡ put (xs ++ ys) l
 unfolding put
 put-put xs ys l = rw (length-append, ← drop-drop (length ys) (length xs) (xs ++ drop (length xs) l), drop-append-seam, drop-drop)
 
 module _ {A : Type 0} (f : A → ℕ) where
-  pub map-append : (xs ys : List A) → map f (xs ++ ys) ≡ map f xs ++ map f ys
-  map-append [] ys = refl
-  map-append (x ∷ xs) ys = ap (λ (l : List ℕ). f x ∷ l) (map-append xs ys)
-
   -- the next item's number is stored behind those of the items that are done
   pub put-next : (done : List A) (a : A) (l : List ℕ) {out : List ℕ} {k : ℕ} → k < length l → length done ≡ k → out ≡ put (map f done) l
       → set out k (f a) ≡ put (map f (done ++ (a ∷ []))) l

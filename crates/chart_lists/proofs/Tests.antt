@@ -7,6 +7,7 @@ use lib.ListN.{length, length-append}
 use Rattle.lists.specs.Rising.{All}
 use Rattle.model.specs.Chart.{Transition, Chart}
 use Rattle.model.specs.Valid.{Valid, ValidTransition}
+use Rattle.chart_lists.specs.Limits.{mostTests}
 use Rattle.chart_lists.specs.Lists.{allTests}
 
 pub tests-append : (rs ss : List Transition) → allTests (rs ++ ss) ≡ allTests rs ++ allTests ss
@@ -22,12 +23,12 @@ tests-more rs r = rw (tests-append, append-nil)
 pub tests-front : (rs ss : List Transition) {all : List Transition} → rs ++ ss ≡ all → length (allTests rs) ≤ length (allTests all)
 tests-front rs ss e = rw (← e, tests-append, length-append) (omega arith)
 
--- at most 8 tests of each transition, so at most 4,096
+-- at most 8 tests of each transition
 few-tests : (W locations timers : ℕ) (rs : List Transition) → All (ValidTransition W locations timers) rs → length (allTests rs) ≤ 8 * length rs
 unfolding allTests
 few-tests W locations timers [] h = omega arith
 few-tests W locations timers (r ∷ rs) h = rw length-append (omega (arith, h .0 .few-tests, few-tests W locations timers rs (h .1)))
 
-pub all-tests : {W : ℕ} {c : Chart} → Valid W c → length (allTests (c .transitions)) ≤ 4096
+pub all-tests : {W : ℕ} {c : Chart} → Valid W c → length (allTests (c .transitions)) ≤ mostTests
 all-tests {W} {c} valid =
     omega (arith, few-tests W (c .locations) (c .timers) (c .transitions) (valid .transitions), valid .few-transitions)

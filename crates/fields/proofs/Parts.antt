@@ -14,7 +14,7 @@ use Rattle.file_format.specs.Parse.{Parsed, value, refusal, bind, guard, number
 use Rattle.file_format.specs.Body.{readTest, readTests, readTransition, recordLength}
 use Rattle.file_format.proofs.Parsed.{bind-value, guard-value, same-value, kept-value, kept-refused}
 use Rattle.file_format.proofs.Items.{many-length}
-use Rattle.fields.specs.Parts.{Ends, readEnds, readStarts, Head, headOf, readHead}
+use Rattle.fields.specs.Parts.{Ends, readEnds, readStarts, readTestCount, Head, headOf, readHead}
 
 -- readers one after another, grouped in another way
 module _ {A B C : Type 0} where
@@ -27,6 +27,33 @@ step-guard : {B C : Type 0} (c : Bool) (n p : ℕ) (y : Parsed B) (l : B → Lis
     → guard c n p x ≡ bind (guard c n p y) l
 step-guard true n p y l x e = e
 step-guard false n p y l x e = refl
+
+-- ---- the number of tests
+
+module _ (W len s i : ℕ) (bs : List ℕ) where
+  -- with what is made of it at once
+  pub count-then : {A : Type 0} (f : ℕ → A)
+      → bind (number 1 bs) (λ g t. guard (eqb len (recordLength W s g)) 3 nowhere (guard (leb g 8) 4 i (value (f g) t)))
+      ≡ bind (readTestCount W len s i bs) (λ g t. value (f g) t)
+  unfolding readTestCount
+  count-then f =
+      step (number 1 bs) _ _ _ (λ g t.
+      step-guard (eqb len (recordLength W s g)) 3 nowhere _ _ _ (
+      step-guard (leb g 8) 4 i _ _ _ refl))
+
+  pub count-few : {g : ℕ} {t : List ℕ} → readTestCount W len s i bs ≡ value g t → g ≤ 8
+  unfolding readTestCount
+  count-few {g} {t} e =
+      let a = bind-value (number 1 bs) _ g t e in
+      let g₁ = guard-value (eqb len (recordLength W s (a .0))) 3 nowhere _ (a .3) in
+      let g₂ = guard-value (leb (a .0) 8) 4 i _ (g₁ .1) in
+      subst (λ (n : ℕ). n ≤ 8) (same-value (g₂ .1)) (leb-true (a .0) 8 (g₂ .0))
+
+-- ---- the head
+
+-- of its parts
+abbrev pub headWith : Ends → (starts tests : ℕ) → Head
+headWith e starts g = record { source = e .source; target = e .target; event = e .event; starts = starts; tests = g }
 
 -- the head with the list of the started timers
 record Front : Type 0 where
@@ -147,8 +174,7 @@ head-at-most W locations timers i bs {h} {b} e =
     let i₁ = bind-value (readEnds locations i bs) _ h b e in
     let i₂ = bind-value (below 1 65 4 i (i₁ .1)) _ h b (i₁ .3) in
     let i₃ = bind-value (readStarts timers i (i₂ .0) (i₂ .1)) _ h b (i₂ .3) in
-    let i₄ = bind-value (number 1 (i₃ .1)) _ h b (i₃ .3) in
-    let g₁ = guard-value (eqb (i₁ .0 .length) (recordLength W (i₂ .0) (i₄ .0))) 3 nowhere _ (i₄ .3) in
-    let g₂ = guard-value (leb (i₄ .0) 8) 4 i _ (g₁ .1) in
-    let q : i₄ .0 ≡ h .tests = ap (λ (x : Head). x .tests) (same-value (g₂ .1)) in
-    subst (λ (g : ℕ). g ≤ 8) q (leb-true (i₄ .0) 8 (g₂ .0))
+    let count = readTestCount W (i₁ .0 .length) (i₂ .0) i (i₃ .1) in
+    let found : ℕ → Head = headWith (i₁ .0) (i₃ .0) in
+    let k = kept-value found count (sym (count-then W (i₁ .0 .length) (i₂ .0) i (i₃ .1) found) ∙ i₃ .3) in
+    subst (λ (g : ℕ). g ≤ 8) (ap (λ (x : Head). x .tests) (k .2)) (count-few W (i₁ .0 .length) (i₂ .0) i (i₃ .1) (k .1))

@@ -1,4 +1,4 @@
--- The fields of a test, of a record's ends and of its head, front to back: what each field's answer says of the whole. Assumes nothing.
+-- The fields of a test and of the parts of a record, front to back: what each field's answer says of the whole. Assumes nothing.
 use mathlib.Core.Path.{_≡_}
 use mathlib.Core.Option.{none, some}
 use mathlib.Core.List.{List}
@@ -9,7 +9,8 @@ use Rattle.comparison.specs.Comparison.{comparisonOf}
 use Rattle.model.specs.Answer.{nowhere}
 use Rattle.file_format.specs.Parse.{Parsed, value, refusal, number, below}
 use Rattle.file_format.specs.Body.{readComparison, readTest, recordLength}
-use Rattle.fields.specs.Parts.{Ends, readEnds, readStarts, Head, readHead}
+use Rattle.fields.specs.Parts.{Ends, readEnds, readStarts, readTestCount, Head, readHead}
+use Rattle.fields.proofs.Parts.{count-then, headWith}
 
 -- ---- a test
 
@@ -65,6 +66,27 @@ module _ (locations i : ℕ) (bs : List ℕ) where
         unfolding readEnds
         ends-whole x = rw (e₀, e₁, e₂, x)
 
+-- ---- the number of tests of a record with constants of two bytes
+
+module _ (len s i : ℕ) (bs : List ℕ) where
+  pub count-cut : {n p : ℕ} → number 1 bs ≡ refusal n p → refusal n p ≡ readTestCount 2 len s i bs
+  unfolding readTestCount
+  count-cut x = rw x
+
+  module _ {g : ℕ} {t : List ℕ} (e₀ : number 1 bs ≡ value g t) where
+    pub count-length : (len ≡ 7 + s + 4 * g → ⊥) → refusal 3 nowhere ≡ readTestCount 2 len s i bs
+    unfolding readTestCount recordLength
+    count-length x = rw (e₀, ne-eqb len (7 + s + 4 * g) x)
+
+    module _ (e₁ : len ≡ 7 + s + 4 * g) where
+      pub count-most : 8 < g → refusal 4 i ≡ readTestCount 2 len s i bs
+      unfolding readTestCount recordLength
+      count-most x = rw (e₀, eq-eqb len (7 + s + 4 * g) e₁, lt-leb g 8 x)
+
+      pub count-whole : g ≤ 8 → value g t ≡ readTestCount 2 len s i bs
+      unfolding readTestCount recordLength
+      count-whole x = rw (e₀, eq-eqb len (7 + s + 4 * g) e₁, le-leb g 8 x)
+
 -- ---- a record up to its tests, with constants of two bytes
 
 module _ (locations timers i : ℕ) (bs : List ℕ) where
@@ -86,21 +108,11 @@ module _ (locations timers i : ℕ) (bs : List ℕ) where
       head-starts x = rw (e₀, e₁, x)
 
       module _ {starts : ℕ} {b₃ : List ℕ} (e₂ : readStarts timers i s b₂ ≡ value starts b₃) where
-        pub head-tests : {n p : ℕ} → number 1 b₃ ≡ refusal n p → refusal n p ≡ whole
+        pub head-tests : {n p : ℕ} → readTestCount 2 (ends .length) s i b₃ ≡ refusal n p → refusal n p ≡ whole
         unfolding readHead
-        head-tests x = rw (e₀, e₁, e₂, x)
+        head-tests x = rw (e₀, e₁, e₂, count-then 2 (ends .length) s i b₃ (headWith ends starts), x)
 
-        module _ {g : ℕ} {b₄ : List ℕ} (e₃ : number 1 b₃ ≡ value g b₄) where
-          pub head-length : (ends .length ≡ 7 + s + 4 * g → ⊥) → refusal 3 nowhere ≡ whole
-          unfolding readHead recordLength
-          head-length x = rw (e₀, e₁, e₂, e₃, ne-eqb (ends .length) (7 + s + 4 * g) x)
-
-          module _ (e₄ : ends .length ≡ 7 + s + 4 * g) where
-            pub head-most : 8 < g → refusal 4 i ≡ whole
-            unfolding readHead recordLength
-            head-most x = rw (e₀, e₁, e₂, e₃, eq-eqb (ends .length) (7 + s + 4 * g) e₄, lt-leb g 8 x)
-
-            pub head-whole : g ≤ 8
-                → value (record { source = ends .source; target = ends .target; event = ends .event; starts = starts; tests = g }) b₄ ≡ whole
-            unfolding readHead recordLength
-            head-whole x = rw (e₀, e₁, e₂, e₃, eq-eqb (ends .length) (7 + s + 4 * g) e₄, le-leb g 8 x)
+        pub head-whole : {g : ℕ} {b₄ : List ℕ} → readTestCount 2 (ends .length) s i b₃ ≡ value g b₄
+            → value (headWith ends starts g) b₄ ≡ whole
+        unfolding readHead
+        head-whole x = rw (e₀, e₁, e₂, count-then 2 (ends .length) s i b₃ (headWith ends starts), x)

@@ -29,6 +29,14 @@ readEnds locations i bs =
 unfoldable pub readStarts : (timers i n : ℕ) → List ℕ → Parsed ℕ
 readStarts timers i n bs = bind (rising 1 timers 6 i n bs) (λ l t. value (setOf l) t)
 
+-- the number of tests of a record of len bytes that starts s timers: this length is right for so many tests, and they are at most 8
+unfoldable pub readTestCount : (W len s i : ℕ) → List ℕ → Parsed ℕ
+readTestCount W len s i bs =
+    bind (number 1 bs) (λ g t.
+    guard (eqb len (recordLength W s g)) 3 nowhere (
+    guard (leb g 8) 4 i (
+    value g t)))
+
 -- a record up to its tests, with their number
 pub record Head : Type 0 where
   pub source : ℕ

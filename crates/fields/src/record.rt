@@ -2,7 +2,7 @@
 ghost use mathlib.Core.Path.{_≡_};
 ghost use Prim.Native.Nat.{_≤_};
 ghost use lib.ListN.{drop};
-ghost use Rattle.fields.specs.Parts.{readEnds, readStarts, readHead};
+ghost use Rattle.fields.specs.Parts.{readEnds, readStarts, readTestCount, readHead};
 ghost use Rattle.fields.specs.Meaning.{fieldAs, endsAs, headAs, endsRefusal, headRefusal};
 use crate::Field;
 use crate::byte_at;
@@ -84,6 +84,24 @@ fn ends_at(s: &[u8], at: usize, locations: u16, place: u64) -> EndsField
     )
 }
 
+// The number of a record's tests, at most 8, where the record's length is that of n started timers and so many tests.
+fn test_count_at(s: &[u8], at: usize, length: u16, n: u64, place: u64) -> Field
+    requires { ⌜ n ≤ 64 ⌝ }
+    ensures { λ r. ⌜ fieldAs (now (s .entry)) r ≡ readTestCount 2 length n place (drop at (now (s .entry))) ⌝ }
+{
+    let a = byte_at(s, at);
+    let Field::Value(g, _) = a else {
+        return a;
+    };
+    if length as u64 != 7 + n + 4 * g {
+        return Field::Refused(refusal::CUT_OFF);
+    }
+    if g > 8 {
+        return Field::Refused(Refusal { number: 4, place });
+    }
+    a
+}
+
 // A record up to its tests, with their number and the place where they begin.
 pub enum HeadField {
     Found {
@@ -132,16 +150,10 @@ pub fn head_at(s: &[u8], at: usize, locations: u16, timers: u8, place: u64) -> H
     let Field::Value(starts, at3) = d else {
         return HeadField::Refused(refusal_of(d));
     };
-    let e = byte_at(s, at3);
+    let e = test_count_at(s, at3, length, n, place);
     let Field::Value(g, next) = e else {
         return HeadField::Refused(refusal_of(e));
     };
-    if length as u64 != 7 + n + 4 * g {
-        return HeadField::Refused(refusal::CUT_OFF);
-    }
-    if g > 8 {
-        return HeadField::Refused(Refusal { number: 4, place });
-    }
     HeadField::Found {
         source,
         target,

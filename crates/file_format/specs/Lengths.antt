@@ -1,15 +1,11 @@
 -- How many bytes the parts of a chart file have, its constants in W bytes. That what is written has these lengths is shown in
 -- proofs/Lengths. Assumes nothing.
-use mathlib.Core.List.{List, map}
+use mathlib.Core.List.{map}
 use Prim.Native.Nat.{ℕ, _+_, _*_}
 use lib.ListN.{length}
 use Rattle.lists.specs.Lists.{sumOf}
 use Rattle.model.specs.Chart.{Transition, Chart}
 use Rattle.file_format.specs.Body.{recordLength}
-
--- the sum of what the elements give
-abbrev pub total : {A : Type 0} → (A → ℕ) → List A → ℕ
-total f xs = sumOf (map f xs)
 
 -- with the two bytes of its own length
 unfoldable pub transitionLength : (W : ℕ) → Transition → ℕ

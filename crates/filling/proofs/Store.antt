@@ -1,13 +1,13 @@
 -- Numbers stored behind the first entries of a lent list, and the tests' numbers stored so. Assumes nothing.
 use mathlib.Core.Path.{_≡_, sym, ap, _∙_}
-use mathlib.Core.List.{List, [], _∷_, _++_, map, append-assoc, append-nil}
+use mathlib.Core.List.{List, [], _∷_, _++_, map, map-append, append-assoc, append-nil}
 use Prim.Native.Nat.{ℕ, _+_, _≤_, _<_}
 use lib.ListN.{length, take, set, length-append, length-map, take-append-drop}
 use lib.Seq.{length-take-le}
 use Rattle.comparison.specs.Comparison.{codeOf}
 use Rattle.model.specs.Chart.{Test}
 use Rattle.chart_lists.specs.Lists.{put}
-use Rattle.chart_lists.proofs.Put.{take-put, put-last, put-put, map-append}
+use Rattle.chart_lists.proofs.Put.{take-put, put-last, put-put}
 use Rattle.filling.specs.Parts.{putAt, TestsStored}
 
 module _ (base : ℕ) (l : List ℕ) (room : base ≤ length l) where

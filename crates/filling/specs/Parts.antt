@@ -9,6 +9,7 @@ use Rattle.model.specs.Chart.{Test, Transition}
 use Rattle.model.specs.Live.{startsSet}
 use Rattle.refusal.specs.Refused.{refusedAs}
 use Rattle.chart_lists.specs.declared.Header.{Header}
+use Rattle.chart_lists.specs.Limits.{mostLocations}
 use Rattle.chart_lists.specs.Lists.{allTests, put, codesOf, constantsOf, eventsOf, sourcesOf, startsOf, targetsOf, testCountsOf, timersOf}
 use Rattle.file_format.specs.Parse.{value}
 use Rattle.file_format.specs.Body.{FileHeader, readHeader, readTransitions, isEnd}
@@ -20,7 +21,7 @@ use Rattle.fields.specs.Parts.{Head, readHead}
 
 -- so much is enough for the accepting locations of any header, or of the one that bs begins with
 pub data AcceptingFit (bs : List ℕ) (room : ℕ) : Type 0 where
-  of-any : 256 ≤ room → AcceptingFit bs room
+  of-any : mostLocations ≤ room → AcceptingFit bs room
   of-this : (h : FileHeader) (t : List ℕ) → readHeader bs ≡ value h t → length (h .accepting) ≤ room → AcceptingFit bs room
 
 -- lists of these lengths have each room for so many

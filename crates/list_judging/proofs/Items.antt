@@ -2,7 +2,7 @@
 -- is that an item's state depends on all items before it: `Each` says it of the list of them. Assumes nothing.
 use mathlib.Core.Path.{_≡_, refl, sym, ap, _∙_, subst}
 use mathlib.Core.Option.{some, Option·some-injective, Option·none-ne-some}
-use mathlib.Core.List.{List, [], _∷_}
+use mathlib.Core.List.{List, [], _∷_, map}
 use Prim.Native.Nat.{ℕ, zero, suc, _+_, _-_, _≤_, _<_}
 use native.Mathlib.Nat.{add-assoc, add-zero, zero-add, sub-zero}
 use native.Mathlib.Omega.{arith}
@@ -11,7 +11,6 @@ use Rattle.lists.specs.Lists.{sumOf}
 use Rattle.lists.specs.Rising.{All}
 use Rattle.lists.proofs.Nth.{below-nth}
 use Rattle.model.specs.Answer.{Answer, result, refused, then}
-use Rattle.file_format.specs.Lengths.{total}
 use Rattle.file_format.proofs.Answers.{then-result}
 use Rattle.list_judging.proofs.Answers.{then-then, then-same}
 
@@ -74,12 +73,12 @@ module _ {A : Type 0} (item : (i s : ℕ) → Answer A) (next : ℕ → A → �
 
   module _ (f : A → ℕ) where
     unfoldable pub summed : (i s n : ℕ) → Answer ℕ
-    summed i s n = then (items i s n) (λ xs. result (total f xs))
+    summed i s n = then (items i s n) (λ xs. result (sumOf (map f xs)))
 
     -- whole is the sum of n items; k of them gave sum, those left begin with number i and state s
     pub record Turn (whole : Answer ℕ) (n k i s sum : ℕ) : Type 0 where
       pub most : k ≤ n
-      pub left : whole ≡ then (items i s (n - k)) (λ xs. result (sum + total f xs))
+      pub left : whole ≡ then (items i s (n - k)) (λ xs. result (sum + sumOf (map f xs)))
 
     pub turn-first : (i s n : ℕ) → Turn (summed i s n) n 0 i s 0
     unfolding summed
@@ -102,7 +101,7 @@ module _ {A : Type 0} {item : (i s : ℕ) → Answer A} {next : ℕ → A → �
   module _ (l : k < n) where
     turn-step : whole ≡ then (item i s) (λ a.
         then (items item next (suc i) (next s a) (n - (k + 1))) (λ xs.
-        result (sum + (f a + total f xs))))
+        result (sum + (f a + sumOf (map f xs)))))
     unfolding items sumOf
     turn-step =
         let e : n - k ≡ suc (n - (k + 1)) = omega arith in

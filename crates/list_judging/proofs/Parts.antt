@@ -2,15 +2,16 @@
 -- are judged in the same order. Assumes nothing.
 use mathlib.Core.Path.{_≡_, refl, sym, _∙_}
 use mathlib.Core.Bool.{Bool, true, false}
-use mathlib.Core.List.{List, _∷_}
+use mathlib.Core.List.{List, _∷_, map}
 use Prim.Native.Nat.{ℕ, zero, suc, _+_, _*_}
 use native.Mathlib.Omega.{arith}
 use lib.Dec.{leb, ltb}
 use lib.ListN.{length}
+use Rattle.lists.specs.Lists.{sumOf}
 use Rattle.model.specs.Answer.{Answer, result, then, unless, nowhere}
 use Rattle.model.specs.Chart.{Test, Transition, Chart}
 use Rattle.file_format.specs.File.{fileOf}
-use Rattle.file_format.specs.Lengths.{total, transitionLength, bodyLength, fileLength}
+use Rattle.file_format.specs.Lengths.{transitionLength, bodyLength, fileLength}
 use Rattle.file_format.proofs.Lengths.{length-file}
 use Rattle.chart_lists.specs.Lists.{Lists}
 use Rattle.chart_lists.specs.declared.Header.{Header}
@@ -147,7 +148,7 @@ pub check-transition : (l : Lists) (locations timers i k : ℕ) → checkTransit
 unfolding checkTransition transitionFrom checkEnds checkStarts checkCount checkTests sizesOf
 check-transition l locations timers i k = simp (then-then, then-unless, tests-only l)
 
-pub file-length : (c : Chart) → length (fileOf c) ≡ 14 + 2 * length (c .accepting) + total (transitionLength 2) (c .transitions)
+pub file-length : (c : Chart) → length (fileOf c) ≡ 14 + 2 * length (c .accepting) + sumOf (map (transitionLength 2) (c .transitions))
 unfolding fileOf fileLength bodyLength
 file-length c = omega (arith, length-file 1 2 c)
 

@@ -1,19 +1,19 @@
 -- The loops that judge accepting locations, tests and transitions, at their first turn; an item by what was kept of it; and how long a record
 -- can be. Assumes nothing.
 use mathlib.Core.Path.{_≡_, refl, sym, ap, _∙_}
-use mathlib.Core.List.{List, [], _∷_}
+use mathlib.Core.List.{List, map}
 use Prim.Native.Nat.{ℕ, _+_, _*_, _≤_}
 use native.Mathlib.Omega.{arith}
 use lib.ListN.{length}
 use Rattle.lists.specs.Lists.{sumOf}
 use Rattle.lists.proofs.Gather.{rising-length}
-use Rattle.lists.proofs.Sums.{sum-most}
+use Rattle.lists.proofs.Sums.{sum-same, sum-most}
 use Rattle.timer_set.specs.Members.{members}
 use Rattle.timer_set.proofs.Members.{members-rising}
 use Rattle.model.specs.Answer.{result, refused}
 use Rattle.model.specs.Chart.{Test, Transition}
 use Rattle.file_format.specs.Body.{recordLength}
-use Rattle.file_format.specs.Lengths.{total, transitionLength}
+use Rattle.file_format.specs.Lengths.{transitionLength}
 use Rattle.chart_lists.specs.Lists.{Lists}
 use Rattle.list_judging.specs.FromLists.{acceptingFrom, testFrom, transitionFrom, transitionsFrom}
 use Rattle.list_judging.specs.Parts.{checkAccepting, checkTest, checkTests, Sizes, sizesOf, checkTransition, checkTransitions}
@@ -25,10 +25,8 @@ use Rattle.list_judging.proofs.Parts.{testItem, noState, tests-items}
 use Rattle.list_judging.proofs.Parts.{nextTests, transitions-items, transitions-each, transitions-length}
 
 -- one for each element
-total-one : {A : Type 0} (xs : List A) → total (λ (a : A). 1) xs ≡ length xs
-unfolding sumOf
-total-one [] = refl
-total-one (a ∷ xs) = omega (arith, total-one xs)
+sum-ones : {A : Type 0} (xs : List A) → sumOf (map (λ (a : A). 1) xs) ≡ length xs
+sum-ones xs = omega (arith, sum-same (λ a. 1) 1 (λ a. refl) xs)
 
 -- k of n accepting locations are judged, the next is at least lo
 abbrev pub AcceptingTurn : (locations : ℕ) → List ℕ → (n lo k : ℕ) → Type 0
@@ -37,7 +35,7 @@ AcceptingTurn locations l n lo k = Turn (acceptingItem locations l) nextLowest (
 pub accepting-first : (locations : ℕ) (l : List ℕ) (n : ℕ) → AcceptingTurn locations l n 0 0
 unfolding checkAccepting summed
 accepting-first locations l n =
-    rw (accepting-items locations l 0 0 n) (simp (← total-one) (turn-first (acceptingItem locations l) nextLowest (λ x. 1) 0 0 n))
+    rw (accepting-items locations l 0 0 n) (simp (← sum-ones) (turn-first (acceptingItem locations l) nextLowest (λ x. 1) 0 0 n))
 
 -- t of g tests are judged, the next is at place k
 abbrev pub TestsTurn : Lists → (timers i first g k t : ℕ) → Type 0
@@ -46,7 +44,7 @@ TestsTurn l timers i first g k t = Turn (testItem l timers i) noState (λ t. 1) 
 pub tests-first : (l : Lists) (timers i k g : ℕ) → TestsTurn l timers i k g k 0
 unfolding checkTests summed
 tests-first l timers i k g =
-    rw (tests-items l timers i k g) (simp (← total-one) (turn-first (testItem l timers i) noState (λ t. 1) k 0 g))
+    rw (tests-items l timers i k g) (simp (← sum-ones) (turn-first (testItem l timers i) noState (λ t. 1) k 0 g))
 
 -- i of n transitions are judged, their records have so many bytes, the tests of the next begin at place k
 abbrev pub TransitionsTurn : Lists → (locations timers n bytes k i : ℕ) → Type 0

@@ -1,15 +1,16 @@
 -- The parts of a chart in lists that the code judges one after another, and what it keeps of each. That they make up `chartFrom` is
 -- shown in proofs/Parts. Assumes nothing.
-use mathlib.Core.List.{List}
+use mathlib.Core.List.{List, map}
 use Prim.Native.Nat.{ℕ}
 use lib.Dec.{leb, ltb}
 use lib.ListN.{length}
+use Rattle.lists.specs.Lists.{sumOf}
 use Rattle.timer_set.specs.Members.{members, allBelow}
 use Rattle.comparison.specs.Comparison.{comparisonOf}
 use Rattle.model.specs.Answer.{Answer, result, then, unless, nowhere}
 use Rattle.model.specs.Chart.{Transition}
 use Rattle.file_format.specs.File.{fileOf}
-use Rattle.file_format.specs.Lengths.{total, transitionLength}
+use Rattle.file_format.specs.Lengths.{transitionLength}
 use Rattle.chart_lists.specs.Lists.{Lists}
 use Rattle.chart_lists.specs.declared.Header.{Header}
 use Rattle.list_judging.specs.FromLists.{orRefused, entryAt, entryBelow, acceptingFrom}
@@ -67,7 +68,7 @@ checkTransition l locations timers i k = then (transitionFrom l locations timers
 
 -- n transitions: how many bytes their records have
 unfoldable pub checkTransitions : Lists → (locations timers n : ℕ) → Answer ℕ
-checkTransitions l locations timers n = then (transitionsFrom l locations timers 0 0 n) (λ rs. result (total (transitionLength 2) rs))
+checkTransitions l locations timers n = then (transitionsFrom l locations timers 0 0 n) (λ rs. result (sumOf (map (transitionLength 2) rs)))
 
 -- the whole chart: the length of its file
 unfoldable pub checkChart : Header → Lists → Answer ℕ

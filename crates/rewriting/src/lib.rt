@@ -1,5 +1,7 @@
 // Rewrites a chart file for a board of K timers.
 ghost use mathlib.Core.Path.{_≡_};
+ghost use mathlib.Core.List.{List};
+ghost use Prim.Native.Nat.{ℕ};
 ghost use lib.ListN.{length};
 ghost use Rattle.model.specs.Answer.{result, then};
 ghost use Rattle.model.specs.Chart.{Chart};
@@ -16,7 +18,7 @@ ghost use Rattle.chart_lists.specs.Lent.{passed, atEntry};
 ghost use Rattle.renaming.specs.Renaming.{CellsOf};
 ghost use Rattle.writer.specs.Writing.{writtenAs};
 ghost use Rattle.rewriting.specs.Rewriting.{newFile, valuesOf, rewriteInto, rewriteAnswer, rewrittenAs};
-ghost use Rattle.rewriting.specs.Parts.{intoRoom, fittedInto};
+ghost use Rattle.rewriting.specs.Parts.{intoRoom, fittedInto, JudgedInto};
 use allocation::MOST_CELLS;
 use chart_lists::Header;
 use chart_lists::MOST_LOCATIONS;
@@ -150,6 +152,51 @@ fn fit<'a>(
     }
 }
 
+// Of a file that was judged: its refusal stands, and its chart is fitted.
+fn rewrite_judged<'a>(
+    answer: Read,
+    accepting: &'a [u16; MOST_LOCATIONS],
+    sources: &'a [u16; MOST_TRANSITIONS],
+    targets: &'a [u16; MOST_TRANSITIONS],
+    events: &'a [u8; MOST_TRANSITIONS],
+    starts: &'a [u64; MOST_TRANSITIONS],
+    test_counts: &'a [u8; MOST_TRANSITIONS],
+    timers: &'a [u8; MOST_TESTS],
+    codes: &'a [u8; MOST_TESTS],
+    constants: &'a [u16; MOST_TESTS],
+    tested: &'a [u64; MOST_TRANSITIONS],
+    k: u32,
+    out: &mut [u8],
+) -> Rewritten
+    requires { ⌜ ((bs : List ℕ)
+        × JudgedInto bs answer (passed accepting sources targets events starts «test_counts» timers codes constants) (now tested)) ⌝ }
+    ensures answer { λ r. ⌜ ((bs : List ℕ)
+        → JudgedInto bs answer (atEntry accepting sources targets events starts «test_counts» timers codes constants) (now (tested .entry))
+        → rewrittenAs r ≡ rewriteAnswer k (length (now (out .entry))) bs) ⌝ }
+    ensures lent { λ _. ⌜ ((bs : List ℕ)
+        → JudgedInto bs answer (atEntry accepting sources targets events starts «test_counts» timers codes constants) (now (tested .entry))
+        → now (out .exit) ≡ overwritten newFile (rewriteInto k (length (now (out .entry))) bs) (now (out .entry))) ⌝ }
+{
+    match answer {
+        Read::Refused(f) => Rewritten::Refused(f),
+        Read::Chart(header) => fit(
+            header,
+            accepting,
+            sources,
+            targets,
+            events,
+            starts,
+            test_counts,
+            timers,
+            codes,
+            constants,
+            tested,
+            k,
+            out,
+        ),
+    }
+}
+
 // Judges 1 to 10, then 11 and 20, then 21, and only then writes the rewritten file over the front of the buffer.
 pub fn rewrite(file: &[u8], k: u32, out: &mut [u8]) -> Rewritten
     ensures answer { λ r. ⌜ rewrittenAs r ≡ rewriteAnswer k (length (now (out .entry))) (now (file .entry)) ⌝ }
@@ -179,22 +226,19 @@ pub fn rewrite(file: &[u8], k: u32, out: &mut [u8]) -> Rewritten
         &mut constants,
         &mut tested,
     );
-    match answer {
-        Read::Refused(f) => Rewritten::Refused(f),
-        Read::Chart(header) => fit(
-            header,
-            &accepting,
-            &sources,
-            &targets,
-            &events,
-            &starts,
-            &test_counts,
-            &timers,
-            &codes,
-            &constants,
-            &tested,
-            k,
-            out,
-        ),
-    }
+    rewrite_judged(
+        answer,
+        &accepting,
+        &sources,
+        &targets,
+        &events,
+        &starts,
+        &test_counts,
+        &timers,
+        &codes,
+        &constants,
+        &tested,
+        k,
+        out,
+    )
 }

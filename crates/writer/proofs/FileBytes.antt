@@ -1,11 +1,12 @@
 -- The file of the chart that the lists describe is what the code writes for it, part by part. Assumes nothing.
 use mathlib.Core.Path.{_≡_, sym, ap, _∙_}
 use mathlib.Core.Option.{some}
-use mathlib.Core.List.{List, _++_, append-assoc}
+use mathlib.Core.List.{List, _++_, map, append-assoc}
 use Prim.Native.Nat.{ℕ, _+_, _-_, _*_, _≤_}
 use native.Mathlib.Nat.{zero-add}
 use native.Mathlib.Omega.{arith}
 use lib.ListN.{length, getD, getElem?, length-append}
+use Rattle.lists.specs.Lists.{sumOf}
 use Rattle.lists.proofs.Growing.{gather-length}
 use Rattle.lists.proofs.Nth.{getD-nth}
 use Rattle.model.specs.Answer.{Answer, result}
@@ -13,7 +14,7 @@ use Rattle.model.specs.Chart.{Transition, Chart}
 use Rattle.file_format.specs.Parse.{digits, writeAll}
 use Rattle.file_format.specs.Body.{writeTransition, writeHeader, writeBody}
 use Rattle.file_format.specs.File.{writeFile, fileOf}
-use Rattle.file_format.specs.Lengths.{total, transitionLength}
+use Rattle.file_format.specs.Lengths.{transitionLength}
 use Rattle.file_format.proofs.Lengths.{length-digits, length-transition, length-all}
 use Rattle.chart_lists.specs.Lists.{Lists}
 use Rattle.chart_lists.specs.declared.Header.{Header}
@@ -79,7 +80,7 @@ module _ (m : Header) (l : Lists) (c : Chart) (h : ChartOf m l c) where
   transitions-are : listed ≡ result (c .transitions)
   transitions-are = sym (transitions-only l (m .locations) (m .timers) (m .transitions)) ∙ h .transitions
 
-  records-length : length (records (c .transitions)) ≡ total (transitionLength 2) (c .transitions)
+  records-length : length (records (c .transitions)) ≡ sumOf (map (transitionLength 2) (c .transitions))
   unfolding records
   records-length = length-all (writeTransition 2) (transitionLength 2) (length-transition 2) (c .transitions)
 
@@ -92,7 +93,7 @@ module _ (m : Header) (l : Lists) (c : Chart) (h : ChartOf m l c) where
   records-most : length (records (c .transitions)) ≤ 53760
   unfolding checkTransitions
   records-most =
-      let most = transitions-most l (m .locations) (m .timers) (m .transitions) {b = total (transitionLength 2) (c .transitions)}
+      let most = transitions-most l (m .locations) (m .timers) (m .transitions) {b = sumOf (map (transitionLength 2) (c .transitions))}
       (rw (h .transitions)) in
       omega (arith, records-length, h .few-transitions, most)
 

@@ -17,7 +17,9 @@ use Rattle.chart_lists.specs.Lists.{overwritten}
 use Rattle.chart_lists.specs.Begins.{Begins}
 use Rattle.chart_lists.specs.Holds.{Holds}
 use Rattle.chart_lists.specs.Lent.{passed}
+use Rattle.chart_lists.specs.Limits.{mostLocations}
 use Rattle.chart_lists.proofs.Fronts.{locations-are}
+use Rattle.allocation.specs.Cells.{mostCells}
 use Rattle.numbering.specs.ChartNumbered.{ChartNumbered}
 use Rattle.numbering.specs.Limits.{limitAs}
 use Rattle.numbering.specs.declared.Limit.{Limit}
@@ -68,8 +70,8 @@ slice-aggregate-number-chart-2 c = search needs
 number-chart-requires : tie.Need-number-chart-requires
 number-chart-requires c κs =
     let p = start c .pre in
-    let most : start c .args .header .locations ≤ 256 = omega (arith, locations-are (p .0) (p .1), p .3 .few-locations) in
-    let cells : 64 * start c .args .header .locations ≤ 16384 = omega (arith, most) in
+    let most : start c .args .header .locations ≤ mostLocations = omega (arith, locations-are (p .0) (p .1), p .3 .few-locations) in
+    let cells : 64 * start c .args .header .locations ≤ mostCells = omega (arith, most) in
     ((p .0, p .1, holds-edges (p .4), p .5), most, cells)
 
 judge-limit-requires : tie.Need-judge-limit-requires

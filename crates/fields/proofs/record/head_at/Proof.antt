@@ -1,15 +1,16 @@
--- `head_at` reads the ends, the starts and the number of tests one after another, then judges the record's length and that number. Assumes nothing.
+-- `head_at` reads the ends, the starts and the number of tests one after another: each refusal is the whole's. Assumes nothing.
 use mathlib.Core.Path.{_≡_}
 use native.Mathlib.Omega.{arith}
 use lib.ListN.{drop}
 use denote.Ref.{now}
 use borrow.Author.Needs.{needs}
-use Rattle.file_format.specs.Parse.{value, number, below}
+use Rattle.file_format.specs.Parse.{value, below}
 use Rattle.file_format.proofs.Parsed.{below-limit}
 use Rattle.fields.specs.Meaning.{fieldAs, endsAs}
-use Rattle.fields.specs.Parts.{readEnds, readStarts}
+use Rattle.fields.specs.Parts.{readEnds, readStarts, readTestCount}
 use Rattle.fields.proofs.Answers.{told, turned}
-use Rattle.fields.proofs.Steps.{head-ends, head-count, head-starts, head-tests, head-length, head-most, head-whole}
+use Rattle.fields.proofs.Parts.{count-few}
+use Rattle.fields.proofs.Steps.{head-ends, head-count, head-starts, head-tests, head-whole}
 use Rattle.fields.proofs.record.head_at.Statement.{statement}
 use Rattle.fields.proofs.record.head_at.Tie as tie
 
@@ -44,9 +45,10 @@ starts-at : (c : tie.After-known-told3) → let d = third c in let a = first (se
 starts-at c = told (fieldAs (now (first (second (third c)) .args .s))) (c .before .d .given .1) (c .before .before .before .starts-at .ensures)
 
 tests-at : (c : tie.After-known-told4) → let d = fourth c in let a = first (second (third d)) .args in let g = c .before .e .given .0 in
-    number 1 (drop (d .before .d .given .0 .1 .0) (now (a .s))) ≡ value (g .0) (drop (g .1 .0) (now (a .s)))
+    let h = third d .before .b .given .0 in let f = second (third d) .before .a .given .0 in
+    readTestCount 2 (f .0) (h .0) (a .place) (drop (d .before .d .given .0 .1 .0) (now (a .s))) ≡ value (g .0) (drop (g .1 .0) (now (a .s)))
 tests-at c =
-    told (fieldAs (now (first (second (third (fourth c))) .args .s))) (c .before .e .given .1) (c .before .before .before .byte-at .ensures .reads)
+    told (fieldAs (now (first (second (third (fourth c))) .args .s))) (c .before .e .given .1) (c .before .before .before .test-count-at .ensures)
 
 -- ----
 
@@ -107,8 +109,8 @@ returns-3 c =
     let e = turned (now (a .s)) (c .before .enum-told3 .given .1) (c .refusal-of2 .ensures) (c .before .before .before .starts-at .ensures) in
     head-starts (a .locations) (a .timers) (a .place) _ (ends-at c₁) (count-at c₂) e
 
-byte-at-requires : tie.Need-byte-at-requires
-byte-at-requires c κs = search needs
+test-count-at-requires : tie.Need-test-count-at-requires
+test-count-at-requires c κs = omega (arith, below-limit _ _ _ _ _ (count-at (third c)))
 
 enum-known-e : tie.Need-enum-known-e
 enum-known-e c = search needs
@@ -125,52 +127,19 @@ returns-4 c =
     let c₂ = third c₃ in
     let c₁ = second c₂ in
     let a = first c₁ .args in
-    let e = turned (now (a .s)) (c .before .enum-told4 .given .1) (c .refusal-of3 .ensures) (c .before .before .before .byte-at .ensures .reads) in
+    let e = turned (now (a .s)) (c .before .enum-told4 .given .1) (c .refusal-of3 .ensures) (c .before .before .before .test-count-at .ensures) in
     head-tests (a .locations) (a .timers) (a .place) _ (ends-at c₁) (count-at c₂) (starts-at c₃) e
 
-cast-if1 : tie.Need-cast-if1
-cast-if1 c = search needs
-
-add-if1 : tie.Need-add-if1
-add-if1 c = record { fits = omega (arith, below-limit _ _ _ _ _ (count-at (third (fourth c)))) }
-
-mul-if1 : tie.Need-mul-if1
-mul-if1 c = record { fits = omega (arith, c .before .before .before .byte-at .ensures .small _ _ (c .before .e .given .1)) }
-
-add-if1-2 : tie.Need-add-if1-2
-add-if1-2 c =
-    let few = below-limit _ _ _ _ _ (count-at (third (fourth c))) in
-    record { fits = omega (arith, few, c .before .before .before .byte-at .ensures .small _ _ (c .before .e .given .1)) }
+cast-t25 : tie.Need-cast-t25
+cast-t25 c = record { fits = omega (arith, count-few _ _ _ _ _ (tests-at c)) }
 
 returns-5 : tie.Need-returns-5
 returns-5 c =
-    let c₄ = c .before in
-    let c₃ = fourth c₄ in
+    let c₃ = fourth c in
     let c₂ = third c₃ in
     let c₁ = second c₂ in
     let a = first c₁ .args in
-    head-length (a .locations) (a .timers) (a .place) _ (ends-at c₁) (count-at c₂) (starts-at c₃) (tests-at c₄) (c .if1 .taken)
-
-returns-6 : tie.Need-returns-6
-returns-6 c =
-    let c₄ = c .before .before in
-    let c₃ = fourth c₄ in
-    let c₂ = third c₃ in
-    let c₁ = second c₂ in
-    let a = first c₁ .args in
-    head-most (a .locations) (a .timers) (a .place) _ (ends-at c₁) (count-at c₂) (starts-at c₃) (tests-at c₄) (c .before .if1 .left) (c .if2 .taken)
-
-cast-t32 : tie.Need-cast-t32
-cast-t32 c = search needs
-
-returns-7 : tie.Need-returns-7
-returns-7 c =
-    let c₄ = c .before .before in
-    let c₃ = fourth c₄ in
-    let c₂ = third c₃ in
-    let c₁ = second c₂ in
-    let a = first c₁ .args in
-    head-whole (a .locations) (a .timers) (a .place) _ (ends-at c₁) (count-at c₂) (starts-at c₃) (tests-at c₄) (c .before .if1 .left) (c .if2 .left)
+    head-whole (a .locations) (a .timers) (a .place) _ (ends-at c₁) (count-at c₂) (starts-at c₃) (tests-at c)
 
 pub head-at-spec : {M : Type 1} → statement M
 head-at-spec =
@@ -191,16 +160,10 @@ head-at-spec =
     enum-told-3
     refusal-of-requires-2
     returns-3
-    byte-at-requires
+    test-count-at-requires
     enum-known-e
     enum-told-4
     refusal-of-requires-3
     returns-4
-    cast-if1
-    add-if1
-    mul-if1
-    add-if1-2
-    returns-5
-    returns-6
-    cast-t32
-    returns-7)
+    cast-t25
+    returns-5)
