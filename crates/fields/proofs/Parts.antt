@@ -32,7 +32,7 @@ step-guard false n p y l x e = refl
 
 module _ (W len s i : ℕ) (bs : List ℕ) where
   -- with what is made of it at once
-  pub count-then : {A : Type 0} (f : ℕ → A)
+  count-then : {A : Type 0} (f : ℕ → A)
       → bind (number 1 bs) (λ g t. guard (eqb len (recordLength W s g)) 3 nowhere (guard (leb g 8) 4 i (value (f g) t)))
       ≡ bind (readTestCount W len s i bs) (λ g t. value (f g) t)
   unfolding readTestCount
@@ -108,7 +108,7 @@ module _ (W locations timers i : ℕ) where
       step (readEnds locations i bs) _ _ _ (λ e b₁.
       step (below 1 65 4 i b₁) _ _ _ (λ s b₂.
       sym (step (rising 1 timers 6 i s b₂) _ _ _ (λ l t. refl)) ∙ step (rising 1 timers 6 i s b₂) _ _ _ (λ starts b₃.
-      step (number 1 b₃) _ _ _ (λ g b₄.
+      sym (count-then W (e .length) s i b₃ (headWith e (setOf starts))) ∙ step (number 1 b₃) _ _ _ (λ g b₄.
       step-guard (eqb (e .length) (recordLength W s g)) 3 nowhere _ _ _ (
       step-guard (leb g 8) 4 i _ _ _ refl)))))
 
@@ -175,6 +175,5 @@ head-at-most W locations timers i bs {h} {b} e =
     let i₂ = bind-value (below 1 65 4 i (i₁ .1)) _ h b (i₁ .3) in
     let i₃ = bind-value (readStarts timers i (i₂ .0) (i₂ .1)) _ h b (i₂ .3) in
     let count = readTestCount W (i₁ .0 .length) (i₂ .0) i (i₃ .1) in
-    let found : ℕ → Head = headWith (i₁ .0) (i₃ .0) in
-    let k = kept-value found count (sym (count-then W (i₁ .0 .length) (i₂ .0) i (i₃ .1) found) ∙ i₃ .3) in
+    let k = kept-value (headWith (i₁ .0) (i₃ .0)) count (i₃ .3) in
     subst (λ (g : ℕ). g ≤ 8) (ap (λ (x : Head). x .tests) (k .2)) (count-few W (i₁ .0 .length) (i₂ .0) i (i₃ .1) (k .1))

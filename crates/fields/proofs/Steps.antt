@@ -10,7 +10,7 @@ use Rattle.model.specs.Answer.{nowhere}
 use Rattle.file_format.specs.Parse.{Parsed, value, refusal, number, below}
 use Rattle.file_format.specs.Body.{readComparison, readTest, recordLength}
 use Rattle.fields.specs.Parts.{Ends, readEnds, readStarts, readTestCount, Head, readHead}
-use Rattle.fields.proofs.Parts.{count-then, headWith}
+use Rattle.fields.proofs.Parts.{headWith}
 
 -- ---- a test
 
@@ -110,9 +110,9 @@ module _ (locations timers i : ℕ) (bs : List ℕ) where
       module _ {starts : ℕ} {b₃ : List ℕ} (e₂ : readStarts timers i s b₂ ≡ value starts b₃) where
         pub head-tests : {n p : ℕ} → readTestCount 2 (ends .length) s i b₃ ≡ refusal n p → refusal n p ≡ whole
         unfolding readHead
-        head-tests x = rw (e₀, e₁, e₂, count-then 2 (ends .length) s i b₃ (headWith ends starts), x)
+        head-tests x = rw (e₀, e₁, e₂, x)
 
         pub head-whole : {g : ℕ} {b₄ : List ℕ} → readTestCount 2 (ends .length) s i b₃ ≡ value g b₄
             → value (headWith ends starts g) b₄ ≡ whole
         unfolding readHead
-        head-whole x = rw (e₀, e₁, e₂, count-then 2 (ends .length) s i b₃ (headWith ends starts), x)
+        head-whole x = rw (e₀, e₁, e₂, x)

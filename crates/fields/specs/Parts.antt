@@ -53,7 +53,5 @@ readHead W locations timers i bs =
     bind (readEnds locations i bs) (λ e b₁.
     bind (below 1 65 4 i b₁) (λ s b₂.
     bind (readStarts timers i s b₂) (λ starts b₃.
-    bind (number 1 b₃) (λ g b₄.
-    guard (eqb (e .length) (recordLength W s g)) 3 nowhere (
-    guard (leb g 8) 4 i (
-    value (record { source = e .source; target = e .target; event = e .event; starts = starts; tests = g }) b₄))))))
+    bind (readTestCount W (e .length) s i b₃) (λ g b₄.
+    value (record { source = e .source; target = e .target; event = e .event; starts = starts; tests = g }) b₄))))
