@@ -17,7 +17,7 @@ use Rattle.model.specs.Family.{Pairs, isPair, Joined, Family, familyOf, WellFor
 use Rattle.model.proofs.Joined.{joined-refl, joined-sym, joined-pair}
 use Rattle.model.proofs.Families.{family-has, first-least, first-joined, family-same}
 use Rattle.model.specs.Rewrite.{numbering}
-use Rattle.families.specs.Propagation.{Propagated}
+use Rattle.families.specs.Propagation.{Propagated, EmptyFrom}
 use Rattle.allocation.specs.Cells.{cell}
 use Rattle.allocation.specs.Rows.{inFamily, Lengths, WordsAgree, Within, Unnumbered, Ready}
 use Rattle.allocation.specs.Turns.{isRoot, NumberedTo, Roots, Described, PlacedTo}
@@ -144,9 +144,9 @@ module _ {p : Pairs} {live ones others linked : List ℕ} (d : Described p live 
         ∙ ap cell (rw r at (not-yet formed (64 * q) (64 * q + j) (omega arith) (root-here j few (b .0) (b .1)) s (rw (v, r) in-it)))
 
     pub roots-ready : (cells held : List ℕ) (used end : ℕ) → NumberedTo p (64 * q) cells used → Lengths sets cells held
-        → WordsAgree cells held (length sets) → (end ≤ length sets) × ((s : ℕ) → end ≤ s → getD sets s 0 ≡ 0) → Ready sets roots q end cells held
+        → WordsAgree cells held (length sets) → EmptyFrom end sets → Ready sets roots q end cells held
     roots-ready cells held used end n lengths words-agree e =
-        record { lengths = lengths; words-agree = words-agree; within = root-within end (e .0) (e .1); unnumbered = root-unnumbered cells used n }
+        record { lengths = lengths; words-agree = words-agree; within = root-within end (e .inside) (e .empty); unnumbered = root-unnumbered cells used n }
 
     pub placed-more : (after : List ℕ) → length after ≡ length live
         → ((s : ℕ) → s < length sets → getD after s 0 ≡ joined (getD placed s 0) (getD sets s 0)) → PlacedTo p (q + 1) after

@@ -29,23 +29,6 @@ const HELD_NUMBERS: u16 = 512;
 
 const HELD_LENGTH: usize = 2048;
 
-// One more than the last location that has a timer, or 0.
-fn end_of(sets: &[u64]) -> usize
-    ensures { λ r. ⌜ (r ≤ length (now (sets .entry))) × ((s : ℕ) → r ≤ s → getD (now (sets .entry)) s 0 ≡ 0) ⌝ }
-{
-    let mut end = sets.len();
-    while end > 0 {
-        let last = TimerSet {
-            bits: sets[end - 1],
-        };
-        if !last.is_empty() {
-            return end;
-        }
-        end -= 1;
-    }
-    end
-}
-
 // Each set of `all` with the timers of the same one of `sets`.
 fn join_sets(sets: &[u64], all: &mut [u64])
     requires { ⌜ length (now all) ≡ length (now sets) ⌝ }
@@ -99,8 +82,7 @@ fn number_locations<'a>(
         let roots = own.minus(earlier);
         q += 1;
         if !roots.is_empty() {
-            families::propagate(ones, others, linked, here, roots, sets);
-            let end = end_of(sets);
+            let end = families::propagate(ones, others, linked, here, roots, sets);
             used = place_roots(sets, roots, here, end, cells, held, used);
             join_sets(sets, placed);
         }

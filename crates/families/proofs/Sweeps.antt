@@ -2,20 +2,41 @@
 use mathlib.Core.Path.{_≡_, refl, sym, ap, _∙_, subst}
 use mathlib.Core.Bool.{Bool, true, false, true≢false}
 use mathlib.Core.List.{List}
-use Prim.Native.Nat.{ℕ, _+_, _*_, _^_, _≤_, _<_}
+use Prim.Native.Nat.{ℕ, _+_, _*_, _^_, _≤_, _<_, max}
 use native.Mathlib.Decide.{ℕ-discrete}
 use native.Mathlib.Omega.{arith}
-use lib.ListN.{length, getD}
+use lib.ListN.{length, getD, set, length-set}
+use lib.Seq.{getD-set-other}
 use Rattle.lists.specs.Lists.{sumOf}
 use Rattle.lists.proofs.Sums.{sum-small}
 use Rattle.timer_set.specs.Members.{joined}
 use Rattle.timer_set.proofs.Members.{joined-lt, common-lt}
-use Rattle.families.specs.Propagation.{Ends, EndsAgree, JoinedEnds, Joins, Swept}
+use Rattle.families.specs.Propagation.{Ends, EndsAgree, JoinedEnds, Joins, Swept, EmptyFrom, joinAlong}
 use Rattle.families.specs.Propagation.Joins.{none, more}
 use Rattle.families.proofs.Growth.{either, join-long, join-all}
 
 pub ends-long : {ones others linked : List ℕ} {m n : ℕ} → m ≡ n → Ends m ones others linked → Ends n ones others linked
 ends-long {ones} {others} {linked} e x = subst (λ (k : ℕ). Ends k ones others linked) e x
+
+-- a set alone, and joins along a link, leave the sets empty that are past it and past both the link's ends
+pub empty-alone : (sets : List ℕ) (q v : ℕ) → q < length sets → ((s : ℕ) → getD sets s 0 ≡ 0) → EmptyFrom (q + 1) (set sets q v)
+empty-alone sets q v h zeros = record {
+  inside = rw length-set (omega (arith, h));
+  empty = λ s b. getD-set-other sets q s v 0 (λ p. omega (arith, p, b)) ∙ zeros s;
+}
+
+empty-both : (one other a b : ℕ) {end r : ℕ} {sets : List ℕ} → EmptyFrom end sets → r ≡ max (max end (one + 1)) (other + 1)
+    → one < length sets → other < length sets → EmptyFrom r (set (set sets one a) other b)
+empty-both one other a b {sets = sets} x m h l = record {
+  inside = rw (length-set, length-set) (omega (arith, m, x .inside, h, l));
+  empty = λ s p. getD-set-other (set sets one a) other s b 0 (λ q. omega (arith, q, p, m))
+      ∙ getD-set-other sets one s a 0 (λ q. omega (arith, q, p, m)) ∙ x .empty s (omega (arith, p, m));
+}
+
+pub empty-past : (one other timers : ℕ) {end r : ℕ} {sets after : List ℕ} → EmptyFrom end sets → after ≡ joinAlong sets one other timers
+    → r ≡ max (max end (one + 1)) (other + 1) → one < length sets → other < length sets → EmptyFrom r after
+unfolding joinAlong
+empty-past one other timers x e m h l = rw e (empty-both one other _ _ x m h l)
 
 module _ (ones others linked : List ℕ) where
   pub swept-none : (sets : List ℕ) → Swept ones others linked 0 sets sets false

@@ -36,6 +36,11 @@ pub record Propagated (p : Pairs) (q roots : ℕ) (sets : List ℕ) : Type 0 whe
   pub has : (s j : ℕ) → member roots j ≡ true → Joined p j q s → member (getD sets s 0) j ≡ true
   pub from : (s j : ℕ) → member (getD sets s 0) j ≡ true → (member roots j ≡ true) × Joined p j q s
 
+-- from `end` on all sets are empty
+pub record EmptyFrom (end : ℕ) (sets : List ℕ) : Type 0 where
+  pub inside : end ≤ length sets
+  pub empty : (s : ℕ) → end ≤ s → getD sets s 0 ≡ 0
+
 -- ---- how they are found: each link gives both its ends the timers of the link that either has, until no set grows
 
 unfoldable pub joinAlong : (sets : List ℕ) (one other timers : ℕ) → List ℕ

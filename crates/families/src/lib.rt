@@ -1,11 +1,12 @@
 // The families that begin at a location, all their timers at once: sets of timers propagate along the links.
 ghost use mathlib.Core.Path.{_≡_};
-ghost use Prim.Native.Nat.{ℕ, _≤_, _<_};
+ghost use Prim.Native.Nat.{ℕ, _+_, _≤_, _<_, max};
 ghost use lib.ListN.{length, getD, take, set};
 ghost use Rattle.timer_set.specs.Members.{common, minus};
 ghost use Rattle.model.specs.Family.{Pairs, WellFormed};
+ghost use Rattle.chart_lists.specs.Limits.{mostLocations};
 ghost use Rattle.families.specs.Pairs.{pairsOf, SafeTransitions};
-ghost use Rattle.families.specs.Propagation.{LinkLists, Ends, JoinedEnds, Swept, Propagated};
+ghost use Rattle.families.specs.Propagation.{LinkLists, Ends, JoinedEnds, Swept, Propagated, EmptyFrom};
 use timer_set::TimerSet;
 
 // The timers of a link: live at both ends and not started.
@@ -91,14 +92,42 @@ fn join_ends(sets: &mut [u64], one: usize, other: usize, linked: u64) -> bool
     true
 }
 
-// One sweep over all links. Whether a set grew.
-fn sweep<'a>(ones: &'a [u16], others: &'a [u16], linked: &'a [u64], sets: &mut [u64]) -> bool
-    requires { ⌜ Ends (length (now sets)) (now ones) (now others) (now linked) ⌝ }
-    ensures { λ r. ⌜ Swept (now (ones .entry)) (now (others .entry)) (now (linked .entry)) (length (now (ones .entry)))
-        (now (sets .entry)) (now (sets .exit)) r ⌝ }
+// What a sweep over all links leaves: whether a set grew, and an end from which on all sets are empty.
+pub struct SweepResult {
+    pub grew: bool,
+    pub end: usize,
+}
+
+fn larger(x: usize, y: usize) -> usize
+    ensures { λ r. ⌜ r ≡ max x y ⌝ }
+{
+    if x < y { y } else { x }
+}
+
+// The end, moved past both locations.
+fn past(end: usize, one: usize, other: usize) -> usize
+    requires { ⌜ (one < mostLocations) × (other < mostLocations) ⌝ }
+    ensures { λ r. ⌜ r ≡ max (max end (one + 1)) (other + 1) ⌝ }
+{
+    larger(larger(end, one + 1), other + 1)
+}
+
+// One sweep over all links.
+fn sweep<'a>(
+    ones: &'a [u16],
+    others: &'a [u16],
+    linked: &'a [u64],
+    end: usize,
+    sets: &mut [u64],
+) -> SweepResult
+    requires { ⌜ Ends (length (now sets)) (now ones) (now others) (now linked) × EmptyFrom end (now sets) ⌝ }
+    ensures swept { λ r. ⌜ Swept (now (ones .entry)) (now (others .entry)) (now (linked .entry)) (length (now (ones .entry)))
+        (now (sets .entry)) (now (sets .exit)) (r .grew) ⌝ }
+    ensures end { λ r. ⌜ EmptyFrom (r .end) (now (sets .exit)) ⌝ }
 {
     let n = ones.len();
     let mut grew = false;
+    let mut last = end;
     let mut k: usize = 0;
     while k < n {
         let one = ones[k] as usize;
@@ -107,9 +136,10 @@ fn sweep<'a>(ones: &'a [u16], others: &'a [u16], linked: &'a [u64], sets: &mut [
         k += 1;
         if join_ends(sets, one, other, timers) {
             grew = true;
+            last = past(last, one, other);
         }
     }
-    grew
+    SweepResult { grew, end: last }
 }
 
 // No timer anywhere.
@@ -124,7 +154,8 @@ fn clear(sets: &mut [u64])
     }
 }
 
-// The families of the timers of a set that begin at location q: at each location those whose family has it.
+// The families of the timers of a set that begin at location q: at each location those whose family has it. The result is an end from which on there
+// are none.
 pub fn propagate<'a>(
     ones: &'a [u16],
     others: &'a [u16],
@@ -132,12 +163,20 @@ pub fn propagate<'a>(
     q: usize,
     roots: TimerSet,
     sets: &mut [u64],
-)
+) -> usize
     requires { ⌜ Ends (length (now sets)) (now ones) (now others) (now linked) × (q < length (now sets)) ⌝ }
-    ensures { λ _. ⌜ ((p : Pairs) → WellFormed p → p .locations ≡ length (now (sets .entry))
+    ensures families { λ _. ⌜ ((p : Pairs) → WellFormed p → p .locations ≡ length (now (sets .entry))
         → LinkLists p (now (ones .entry)) (now (others .entry)) (now (linked .entry)) → Propagated p q (roots .bits) (now (sets .exit))) ⌝ }
+    ensures end { λ r. ⌜ EmptyFrom r (now (sets .exit)) ⌝ }
 {
     clear(sets);
     sets[q] = roots.bits;
-    while sweep(ones, others, linked, sets) {}
+    let mut end = q + 1;
+    loop {
+        let swept = sweep(ones, others, linked, end, sets);
+        end = swept.end;
+        if !swept.grew {
+            return end;
+        }
+    }
 }

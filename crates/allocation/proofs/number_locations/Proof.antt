@@ -1,5 +1,5 @@
 -- `number_locations` meets its contract: the families that begin at the locations below q have their numbers. What is hard stands in Locations; here
--- it is only carried through five calls. Assumes nothing.
+-- it is only carried through four calls. Assumes nothing.
 use borrow.Author.Needs.{needs}
 use mathlib.Core.Path.{_≡_, sym, _∙_, subst}
 use mathlib.Core.List.{List}
@@ -51,11 +51,11 @@ abbrev Of : tie.After-propagate Inv-loop μ-loop → Pairs → Type 0
 Of c p = let a = start (turn c) .args in Described p (a .live .now) (a .ones .now) (a .others .now) (a .linked .now)
 
 propagated-of : (c : tie.After-propagate Inv-loop μ-loop) (p : Pairs) → Of c p → Propagated p (turn c .loop .q) (roots c) (found c)
-propagated-of c p d = c .propagate .ensures p (d .formed) (d .locations-are ∙ sym (turn c .loop .inv .3 .0)) (d .links-are)
+propagated-of c p d = c .propagate .ensures .0 p (d .formed) (d .locations-are ∙ sym (turn c .loop .inv .3 .0)) (d .links-are)
 
 -- the families of the turn are placed
 abbrev propagated : tie.After-place-roots Inv-loop μ-loop → tie.After-propagate Inv-loop μ-loop
-propagated c = c .before .before .before .before .before .before .before .before
+propagated c = c .before .before .before .before .before .before
 
 loop-holds : tie.Need-loop-holds Inv-loop μ-loop
 loop-holds c =
@@ -99,12 +99,9 @@ propagate-requires c κs =
     let a = start at .args in
     (subst (λ (n : ℕ). Ends n (a .ones .now) (a .others .now) (a .linked .now)) (sym (l .inv .3 .0)) (l .inv .2), omega (arith, l .inv .3 .0))
 
-end-of-requires : tie.Need-end-of-requires Inv-loop μ-loop
-end-of-requires c κs = search needs
-
 place-roots-requires : tie.Need-place-roots-requires Inv-loop μ-loop
 place-roots-requires c κs =
-    let x = c .before .before .before .before .before .before .before in
+    let x = c .before .before .before .before .before in
     let l = turn x .loop in
     let some = l .inv .1 in
     let n = l .inv .5 (some .0) (some .1) in
@@ -115,8 +112,8 @@ place-roots-requires c κs =
       held-long = l .inv .3 .3;
     } in
     roots-ready (some .1) (l .q) (omega arith) (n .1) (roots x) m (found x) (found-long x) (propagated-of x (some .0) (some .1))
-    (l .cells) (l .held) (l .used) (c .before .before .before .end-of .result) (n .0) lengths
-    (subst (WordsAgree (l .cells) (l .held)) (sym (found-long x)) (l .inv .4)) (c .before .before .before .end-of .ensures)
+    (l .cells) (l .held) (l .used) (x .propagate .result) (n .0) lengths
+    (subst (WordsAgree (l .cells) (l .held)) (sym (found-long x)) (l .inv .4)) (x .propagate .ensures .1)
 
 join-sets-requires : tie.Need-join-sets-requires Inv-loop μ-loop
 join-sets-requires c κs = search needs
@@ -199,7 +196,6 @@ number-locations-spec =
     add-q
     is-empty-requires
     propagate-requires
-    end-of-requires
     place-roots-requires
     join-sets-requires
     loop-less

@@ -6,17 +6,17 @@ use Prim.Native.Nat.{ℕ, _-_, _≤_, _<_}
 use native.Mathlib.Omega.{arith}
 use lib.ListN.{length, getD}
 use Rattle.chart_lists.specs.Limits.{mostLocations}
-use Rattle.families.specs.Propagation.{Swept}
-use Rattle.families.proofs.Sweeps.{swept-none, swept-same, swept-grew, swept-end}
+use Rattle.families.specs.Propagation.{Swept, EmptyFrom}
+use Rattle.families.proofs.Sweeps.{swept-none, swept-same, swept-grew, swept-end, empty-past}
 use Rattle.families.proofs.sweep.Statement.{statement}
 use Rattle.families.proofs.sweep.Tie as tie
 
 abbrev Inv-loop : tie.InvT-loop
-Inv-loop ones others linked sets₀ n grew₀ k₀ sets grew k =
-    (k ≤ n) × (length sets ≡ length sets₀) × Swept ones others linked k sets₀ sets grew
+Inv-loop ones others linked end sets₀ n grew₀ last₀ k₀ sets grew last k =
+    (k ≤ n) × (length sets ≡ length sets₀) × Swept ones others linked k sets₀ sets grew × EmptyFrom last sets
 
 abbrev μ-loop : tie.MeasureT-loop
-μ-loop ones others linked sets₀ n grew₀ k₀ sets grew k = n - k
+μ-loop ones others linked end sets₀ n grew₀ last₀ k₀ sets grew last k = n - k
 
 abbrev start : tie.At-loop Inv-loop μ-loop → tie.Start Inv-loop μ-loop
 start l = l .before .before .before .before .before
@@ -30,11 +30,11 @@ record Link-ends (ones others : List ℕ) (k locations : ℕ) : Type 0 where
 ends : (c : tie.In-loop Inv-loop μ-loop)
     → let a = start (c .before) .args in Link-ends (a .ones .now) (a .others .now) (c .before .loop .k) (length (a .sets .now))
 ends c =
-    let e = start (c .before) .pre in
+    let e = start (c .before) .pre .0 in
     record { one = e .one-below _ (c .loop-test .taken); other = e .other-below _ (c .loop-test .taken); few = e .few-locations }
 
 loop-holds : tie.Need-loop-holds Inv-loop μ-loop
-loop-holds c = let s = c .before .before .before .before in (omega arith, refl, swept-none _ _ _ (s .args .sets .now))
+loop-holds c = let s = c .before .before .before .before in (omega arith, refl, swept-none _ _ _ (s .args .sets .now), s .pre .1)
 
 mul-one : tie.Need-mul-one Inv-loop μ-loop
 mul-one c = search needs
@@ -76,15 +76,27 @@ turn x = x .before .before .before .before .before .before
 below : (x : tie.After-join-ends Inv-loop μ-loop) → turn x .loop .k < length (start (turn x) .args .ones .now)
 below x = x .before .before .before .before .before .loop-test .taken
 
+past-requires : tie.Need-past-requires Inv-loop μ-loop
+past-requires c κs =
+    let e = ends (c .before .before .before .before .before .before .before .before) in
+    (omega (arith, e .one, e .few), omega (arith, e .other, e .few))
+
 loop-less : tie.Need-loop-less Inv-loop μ-loop
 loop-less c = search needs
 
 loop-again : tie.Need-loop-again Inv-loop μ-loop
 loop-again c =
-    let x = c .before .before .before in
+    let t = c .before in
+    let x = t .before .before .before in
     let l = turn x .loop in
     let h = below x in
-    (omega arith, x .join-ends .kept .0 ∙ l .inv .1, swept-grew _ _ _ h (l .inv .2) (x .join-ends .ensures) (c .if1 .taken))
+    let g = x .join-ends .ensures in
+    let e = ends (x .before .before .before .before .before) in (
+      omega arith,
+      x .join-ends .kept .0 ∙ l .inv .1,
+      swept-grew _ _ _ h (l .inv .2) g (t .if1 .taken),
+      empty-past _ _ _ (l .inv .3) (g .grew (t .if1 .taken) .0) (c .past .ensures) (omega (arith, e .one, l .inv .1)) (omega (arith, e .other, l .inv .1)),
+    )
 
 loop-less-2 : tie.Need-loop-less-2 Inv-loop μ-loop
 loop-less-2 c = search needs
@@ -94,13 +106,14 @@ loop-again-2 c =
     let x = c .before .before .before in
     let l = turn x .loop in
     let h = below x in
-    (omega arith, x .join-ends .kept .0 ∙ l .inv .1, swept-same _ _ _ h (l .inv .2) (x .join-ends .ensures) (c .if1 .left))
+    let g = x .join-ends .ensures in
+    (omega arith, x .join-ends .kept .0 ∙ l .inv .1, swept-same _ _ _ h (l .inv .2) g (c .if1 .left), rw (g .same (c .if1 .left) .0) (l .inv .3))
 
 same-length : tie.Need-same-length Inv-loop μ-loop
 same-length c = search needs
 
 returns : tie.Need-returns Inv-loop μ-loop
-returns c = let l = c .before .loop in swept-end _ _ _ (omega arith) (l .inv .2)
+returns c = let l = c .before .loop in (swept-end _ _ _ (omega arith) (l .inv .2), l .inv .3)
 
 pub sweep-spec : {M : Type 1} → statement M
 sweep-spec =
@@ -119,6 +132,7 @@ sweep-spec =
     shared-slice-read-timers
     add-k
     join-ends-requires
+    past-requires
     loop-less
     loop-again
     loop-less-2
