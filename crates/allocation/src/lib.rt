@@ -10,7 +10,7 @@ ghost use Rattle.model.specs.Family.{Pairs};
 ghost use Rattle.model.specs.FirstFit.{firstFit, usedBy};
 ghost use Rattle.model.specs.Rewrite.{numbering};
 ghost use Rattle.families.specs.Pairs.{pairsOf, SafeTransitions};
-ghost use Rattle.families.specs.Propagation.{Ends};
+ghost use Rattle.families.specs.Propagation.{Ends, EmptyFrom};
 ghost use Rattle.allocation.specs.Cells.{cellsOf, noNumber};
 ghost use Rattle.allocation.specs.Turns.{NumberedTo, Described, Fresh};
 use place::place_roots;
@@ -29,15 +29,14 @@ const HELD_NUMBERS: u16 = 512;
 
 const HELD_LENGTH: usize = 2048;
 
-// Each set of `all` with the timers of the same one of `sets`.
-fn join_sets(sets: &[u64], all: &mut [u64])
-    requires { ⌜ length (now all) ≡ length (now sets) ⌝ }
+// Each set of `all` with the timers of the same one of `sets`, which are empty from `end` on.
+fn join_sets(sets: &[u64], end: usize, all: &mut [u64])
+    requires { ⌜ (length (now all) ≡ length (now sets)) × EmptyFrom end (now sets) ⌝ }
     ensures { λ _. ⌜ ((s : ℕ) → s < length (now (sets .entry))
         → getD (now (all .exit)) s 0 ≡ joined (getD (now (all .entry)) s 0) (getD (now (sets .entry)) s 0)) ⌝ }
 {
-    let n = sets.len();
     let mut s: usize = 0;
-    while s < n {
+    while s < end {
         all[s] = TimerSet { bits: all[s] }
             .join(TimerSet { bits: sets[s] })
             .bits;
@@ -84,7 +83,7 @@ fn number_locations<'a>(
         if !roots.is_empty() {
             let end = families::propagate(ones, others, linked, here, roots, sets);
             used = place_roots(sets, roots, here, end, cells, held, used);
-            join_sets(sets, placed);
+            join_sets(sets, end, placed);
         }
     }
     used

@@ -116,7 +116,9 @@ place-roots-requires c κs =
     (subst (WordsAgree (l .cells) (l .held)) (sym (found-long x)) (l .inv .4)) (x .propagate .ensures .1)
 
 join-sets-requires : tie.Need-join-sets-requires Inv-loop μ-loop
-join-sets-requires c κs = search needs
+join-sets-requires c κs =
+    let x = propagated (c .before .before .before .before .before .before) in
+    (turn x .loop .inv .3 .1 ∙ sym (found-long x), x .propagate .ensures .1)
 
 loop-less : tie.Need-loop-less Inv-loop μ-loop
 loop-less c = search needs
@@ -129,7 +131,7 @@ loop-again c =
     let f = y .place-roots in
     let j = c .before .before .join-sets in
     let h = inside x in
-    let wide = j .kept .1 .0 ∙ l .inv .3 .1 in (
+    let wide = j .kept .1 .1 .0 ∙ l .inv .3 .1 in (
       omega arith,
       l .inv .1,
       l .inv .2,
@@ -140,7 +142,7 @@ loop-again c =
           let m = x .before .before .before .before .minus .ensures in (
             subst (λ (y : ℕ). NumberedTo p y (f .last .1 .1 .1 .1 .0) (f .result)) (omega arith)
                 (f .ensures .1 p (l .q) (roots-here d (l .q) h (n .1) (roots x) m (found x) (found-long x) s) (n .0)),
-            placed-more d (l .q) h (n .1) (roots x) m (found x) (found-long x) s (j .last .1 .0) wide (j .ensures),
+            placed-more d (l .q) h (n .1) (roots x) m (found x) (found-long x) s (j .last .1 .1 .0) wide (j .ensures),
           ),
     )
 
