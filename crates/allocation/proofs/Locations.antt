@@ -146,7 +146,8 @@ module _ {p : Pairs} {live ones others linked : List ℕ} (d : Described p live 
     pub roots-ready : (cells held : List ℕ) (used end : ℕ) → NumberedTo p (64 * q) cells used → Lengths sets cells held
         → WordsAgree cells held (length sets) → EmptyFrom end sets → Ready sets roots q end cells held
     roots-ready cells held used end n lengths words-agree e =
-        record { lengths = lengths; words-agree = words-agree; within = root-within end (e .inside) (e .empty); unnumbered = root-unnumbered cells used n }
+        let within = root-within end (e .inside) (e .empty) in
+        record { lengths = lengths; words-agree = words-agree; within = within; unnumbered = root-unnumbered cells used n }
 
     pub placed-more : (after : List ℕ) → length after ≡ length live
         → ((s : ℕ) → s < length sets → getD after s 0 ≡ joined (getD placed s 0) (getD sets s 0)) → PlacedTo p (q + 1) after

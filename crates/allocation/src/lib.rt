@@ -3,7 +3,7 @@ mod free;
 mod place;
 
 ghost use mathlib.Core.Path.{_≡_};
-ghost use Prim.Native.Nat.{ℕ, _*_, _≤_, _<_};
+ghost use Prim.Native.Nat.{ℕ, _*_, _<_};
 ghost use lib.ListN.{length, getD};
 ghost use Rattle.timer_set.specs.Members.{joined};
 ghost use Rattle.model.specs.Family.{Pairs};

@@ -5,17 +5,16 @@ use Prim.Native.Nat.{ℕ, _+_, _≤_, _<_}
 use native.Mathlib.Numerals.{add-one}
 use native.Mathlib.Omega.{arith}
 use lib.ListN.{length, getD, take, drop, length-append, length-map, take-append-drop}
-use lib.Seq.{take-suc, take-at, drop-at, getD-take, getD-drop}
+use lib.Seq.{take-suc, take-at, drop-at}
 use Rattle.lists.proofs.Nth.{nth-below, below-nth, getD-nth, getD-map}
 use Rattle.model.specs.Chart.{Test, Transition, Chart, Nth}
-use Rattle.model.specs.Valid.{Valid, ValidTest}
+use Rattle.model.specs.Valid.{Valid}
 use Rattle.model.specs.Live.{startsSet}
-use Rattle.model.proofs.Transitions.{all-nth, nth-valid}
 use Rattle.chart_lists.specs.Lists.{allTests, listsOf, timersOf}
 use Rattle.chart_lists.specs.Begins.{Begins}
 use Rattle.chart_lists.proofs.Begins.{begins-getD}
 use Rattle.chart_lists.proofs.Holds.{timers-each}
-use Rattle.chart_lists.proofs.Tests.{tests-append, tests-more, tests-front}
+use Rattle.chart_lists.proofs.Tests.{tests-append, tests-more, tests-front, timers-below}
 
 -- the number of the tests before those of transition number i
 abbrev pub testsBefore : Chart → ℕ → ℕ
@@ -99,10 +98,4 @@ module _ {c : Chart} {i : ℕ} {r : Transition} (n : Nth c i r) where
   -- each of them is one of 64
   pub timers-small : {W : ℕ} → Valid W c → {l : List ℕ} → Begins (listsOf c .timers) l → (k : ℕ) → k < length (r .tests)
       → getD l (testsBefore c i + k) 0 < 64
-  timers-small {W} valid {l} b k h =
-      let x = nth-below (r .tests) k h in
-      let v = all-nth (ValidTest W (c .timers)) (r .tests) k (nth-valid valid n .tests) (x .1) in
-      let e : getD l (testsBefore c i + k) 0 ≡ x .0 .timer =
-      sym (getD-drop (testsBefore c i) l k 0) ∙ sym (getD-take (length (r .tests)) (drop (testsBefore c i) l) k 0 h)
-      ∙ ap (λ (ts : List ℕ). getD ts k 0) (timers-next b) ∙ getD-map (λ (t : Test). t .timer) (r .tests) k (x .1) in
-      omega (arith, e, v .timer, valid .few-timers)
+  timers-small valid b k h = rw (begins-getD b (testsBefore c i + k) 0 (omega (arith, h, timers-room))) (timers-below valid (testsBefore c i + k))

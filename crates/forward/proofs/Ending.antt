@@ -1,10 +1,9 @@
 -- Where the work begins: all timers at the initial location, which waits. Where it ends: nothing waits, so every transition has passed on its
 -- source's set, and the sets hold all that comes, as those of the rounds do. Assumes nothing.
-use mathlib.Core.Path.{_≡_, refl, sym, ap, _∙_, subst}
+use mathlib.Core.Path.{_≡_, sym, _∙_, subst}
 use mathlib.Core.Bool.{true, false}
 use mathlib.Core.List.{List}
 use Prim.Native.Nat.{ℕ, _^_, _*_, _≤_, _<_}
-use native.Mathlib.Decide.{ℕ-discrete}
 use native.Mathlib.Omega.{arith}
 use lib.ListN.{length, getD, replicate, set, length-replicate}
 use lib.Seq.{ext-getD, getD-set-other}
@@ -54,7 +53,12 @@ module _ {initial locations : ℕ} {sources targets cut : List ℕ} (safe : Safe
   }
     where
       within-own : Within initial locations sources targets cut (ownSets initial locations)
-      within-own = record { long = long-own initial locations; words = own-words initial locations (safe .inside); owns = λ q b o. o; comes = λ q b m. owned m }
+      within-own = record {
+        long = long-own initial locations;
+        words = own-words initial locations (safe .inside);
+        owns = λ q b o. o;
+        comes = λ q b m. owned m;
+      }
 
       -- nothing stands at the source of a transition that is idle
       empty : (j : ℕ) → (getD idle (getD sources j 0) 0 ≡ 0 → ⊥) → (b : ℕ) → member (getD (ownSets initial locations) (getD sources j 0) 0) b ≡ false

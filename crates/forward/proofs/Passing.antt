@@ -2,7 +2,7 @@
 -- is still there, since a location whose set grows waits. Assumes nothing.
 use mathlib.Core.Path.{_≡_, refl, sym, ap, _∙_, subst}
 use mathlib.Core.Logic.{_⊎_, inl, inr}
-use mathlib.Core.Bool.{true, false, _&&_, _||_, not}
+use mathlib.Core.Bool.{true, not}
 use mathlib.Core.List.{List}
 use Prim.Native.Nat.{ℕ, suc, _+_, _^_, _≤_, _<_}
 use native.Mathlib.Decide.{ℕ-discrete}
@@ -14,7 +14,7 @@ use Rattle.timer_set.specs.Members.{everyTimer, member, joined, minus}
 use Rattle.timer_set.proofs.Members.{member-joined, member-minus, member-ext, joined-lt, minus-lt}
 use Rattle.model.specs.Comes.{EdgeInto, Comes}
 use Rattle.model.specs.Comes.Comes.{along}
-use Rattle.flow.specs.Edges.{edgeAt, flowOf}
+use Rattle.flow.specs.Edges.{edgeAt}
 use Rattle.flow.proofs.EdgeLists.{nth-edge}
 use Rattle.forward.specs.Forward.{ownSets, forwardFlow, SafeForward}
 use Rattle.forward.specs.Worklist.{NextLeaving, Firsts, Listing, Within, Passed, Working, Taken, Between, Given}
@@ -66,8 +66,9 @@ module _ {initial locations : ℕ} {sources targets cut : List ℕ} (safe : Safe
     unfolding edgeAt
     passed-comes b m =
         let both = sym (member-minus (getD sets source 0) (getD cut i 0) b) ∙ m in
+        let nth = nth-edge targets sources cut (replicate (length sources) 0) (ownSets initial locations) i into in
         let edge : EdgeInto (forwardFlow initial locations sources targets cut) target (edgeAt targets sources cut (replicate (length sources) 0) i)
-        = record { number = i; is-nth = nth-edge targets sources cut (replicate (length sources) 0) (ownSets initial locations) i into; leads = refl } in
+        = record { number = i; is-nth = nth; leads = refl } in
         along edge (not-true _ (and-right (member (getD sets source 0) b) _ both)) (w .comes source b (and-left _ _ both))
 
     pub within-more : Within initial locations sources targets cut (set sets target brought)
@@ -224,7 +225,8 @@ working-end w end = record { within = w .within; listing = w .listing; passed = 
 
 module _ {initial locations : ℕ} {sources targets cut first next sets idle waiting : List ℕ} {depth : ℕ}
     (b : Between initial locations sources targets cut first next sets idle waiting depth) where
-  pub taken-first : (k : ℕ) → depth ≡ k + 1 → Taken initial locations sources targets cut next (getD waiting k 0) (getD first (getD waiting k 0) 0) sets
+  pub taken-first : (k : ℕ) → depth ≡ k + 1
+      → Taken initial locations sources targets cut next (getD waiting k 0) (getD first (getD waiting k 0) 0) sets
       (set idle (getD waiting k 0) 1) waiting k
   taken-first k e = record {
     safe = b .safe;

@@ -1,22 +1,21 @@
 -- Lists that hold a chart: their fronts are the chart's own lists, and what the code asks of them holds. Assumes nothing.
 use mathlib.Core.Path.{_≡_, refl, sym, ap, _∙_}
-use mathlib.Core.List.{List, [], _∷_, map, _++_, map-append}
-use Prim.Native.Nat.{ℕ, zero, suc, _≤_, _<_}
+use mathlib.Core.List.{List, [], _∷_, _++_}
+use Prim.Native.Nat.{ℕ, _≤_}
 use native.Mathlib.Omega.{arith}
-use lib.ListN.{length, getD, take, drop, length-append, take-append-drop}
-use Rattle.lists.specs.Rising.{All}
+use lib.ListN.{length, take, drop, length-append, take-append-drop}
 use Rattle.lists.specs.Lists.{sumOf}
 use Rattle.model.specs.Answer.{Answer}
-use Rattle.model.specs.Chart.{Test, Transition, Chart}
-use Rattle.model.specs.Valid.{ValidTest, ValidTransition}
+use Rattle.model.specs.Chart.{Transition, Chart}
 use Rattle.model.specs.Live.{testedSets}
 use Rattle.chart_lists.specs.declared.Header.{Header}
 use Rattle.chart_lists.specs.Header.{headerOf}
-use Rattle.chart_lists.specs.Lists.{Lists, listsOf, allTests, put, testCountsOf, timersOf}
+use Rattle.chart_lists.specs.Lists.{Lists, listsOf, allTests, put, testCountsOf}
 use Rattle.chart_lists.specs.Begins.{Begins}
 use Rattle.chart_lists.specs.Holds.{Holds}
 use Rattle.chart_lists.proofs.Begins.{begins-put, begins-room, begins-getD}
 use Rattle.chart_lists.proofs.Partly.{holds-transitions}
+use Rattle.chart_lists.proofs.Tests.{timers-below}
 use Rattle.chart_lists.proofs.Fronts.{locations-are, initial-is, transitions-are, each-front, each-part}
 use Rattle.chart_lists.proofs.Holds.{sources-each, targets-each, starts-each, test-counts-each, timers-each}
 use Rattle.flow.proofs.ChartFlows.{tested-each}
@@ -27,30 +26,6 @@ use Rattle.judgement.specs.Places.{judgedLists}
 use Rattle.judgement.specs.Charts.{HoldsTransitions}
 use Rattle.judgement.proofs.Tested.{sets-are}
 use Rattle.judgement.proofs.Judging.{own-safe, judged-are}
-
--- ---- the timers of a valid chart's tests are below 64
-
--- every number of the list is below 64
-abbrev Small : List ℕ → Type 0
-Small l = (i : ℕ) → getD l i 0 < 64
-
-small-append : (xs ys : List ℕ) → Small xs → Small ys → Small (xs ++ ys)
-small-append [] ys f g i = g i
-small-append (x ∷ xs) ys f g zero = f 0
-small-append (x ∷ xs) ys f g (suc i) = small-append xs ys (λ k. f (suc k)) g i
-
-module _ (W locations timers : ℕ) (few : timers ≤ 64) where
-  tests-small : (ts : List Test) → All (ValidTest W timers) ts → Small (timersOf ts)
-  tests-small [] v i = omega arith
-  tests-small (t ∷ ts) v zero = omega (arith, v .0 .timer)
-  tests-small (t ∷ ts) v (suc i) = tests-small ts (v .1) i
-
-  all-small : (rs : List Transition) → All (ValidTransition W locations timers) rs → Small (timersOf (allTests rs))
-  unfolding allTests
-  all-small [] v i = omega arith
-  all-small (r ∷ rs) v i =
-      rw map-append
-      (small-append (timersOf (r .tests)) _ (tests-small (r .tests) (v .0 .tests)) (all-small rs (v .1)) i)
 
 sum-tests : (rs : List Transition) → sumOf (testCountsOf rs) ≡ length (allTests rs)
 unfolding sumOf allTests
@@ -109,11 +84,8 @@ module _ {c : Chart} {m : Header} (e : m ≡ headerOf c) {sources targets starts
   unfolding listsOf
   timers-for = record {
     enough = omega (arith, sum-is, begins-room (h .timers));
-    small = λ i l. rw (begins-getD (h .timers) i 0 (omega (arith, sum-is))) (small i);
+    small = λ i l. rw (begins-getD (h .timers) i 0 (omega (arith, sum-is))) (timers-below (h .valid) i);
   }
-    where
-      small : Small (listsOf c .timers)
-      small = all-small (h .width) (c .locations) (c .timers) (h .valid .few-timers) (c .transitions) (h .valid .transitions)
 
   sets-in : setsIn (take (m .transitions) test-counts) timers ≡ testedSets c
   unfolding listsOf testedSets

@@ -95,7 +95,8 @@ loop-again c =
       omega arith,
       x .join-ends .kept .0 ∙ l .inv .1,
       swept-grew _ _ _ h (l .inv .2) g (t .if1 .taken),
-      empty-past _ _ _ (l .inv .3) (g .grew (t .if1 .taken) .0) (c .past .ensures) (omega (arith, e .one, l .inv .1)) (omega (arith, e .other, l .inv .1)),
+      empty-past _ _ _ (l .inv .3) (g .grew (t .if1 .taken) .0) (c .past .ensures)
+          (omega (arith, e .one, l .inv .1)) (omega (arith, e .other, l .inv .1)),
     )
 
 loop-less-2 : tie.Need-loop-less-2 Inv-loop μ-loop

@@ -7,7 +7,7 @@ use native.Mathlib.Omega.{arith}
 use borrow.Author.Needs.{needs}
 use lib.ListN.{length, getD, length-set}
 use Rattle.lists.specs.Lists.{sumOf}
-use Rattle.forward.specs.Worklist.{Between, Working}
+use Rattle.forward.specs.Worklist.{Between}
 use Rattle.forward.proofs.Passing.{last-below, taken-first, between-again}
 use Rattle.forward.proofs.Ending.{sum-below, all-settled}
 use Rattle.forward.proofs.empty_list.Statement.{statement}

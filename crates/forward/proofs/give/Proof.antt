@@ -1,6 +1,5 @@
 -- `give`: a set that grows has a larger sum, and its location waits. Assumes nothing.
-use mathlib.Core.Path.{_≡_, refl, sym, _∙_}
-use mathlib.Core.Logic.{inl, inr}
+use mathlib.Core.Path.{sym, _∙_}
 use native.Mathlib.Omega.{arith}
 use borrow.Author.Needs.{needs}
 use Rattle.forward.proofs.Waiting.{given-none, given-more, sum-more}
@@ -45,11 +44,12 @@ returns-2 c =
     let a = c .before .before .before .before in
     let e = a .before .before .before in
     let j = e .before in
-    let s = j .before .before .before .before .before in (
+    let s = j .before .before .before .before .before in
+    let more = sum-more (s .args .target) (s .args .passed) (s .args .sets .now) (j .join .ensures) (s .pre .0) (e .if1 .left) in (
       given-more _ _ _ (j .join .ensures) (a .push .ensures .0),
       (
         a .push .ensures .1 .0 _ (s .pre .0) (s .pre .1),
-        omega (arith, a .push .ensures .1 .1, sum-more (s .args .target) (s .args .passed) (s .args .sets .now) (j .join .ensures) (s .pre .0) (e .if1 .left)),
+        omega (arith, a .push .ensures .1 .1, more),
       ),
     )
 

@@ -1,5 +1,5 @@
 -- `link` goes from the last transition to the first, and links one a turn (Leaving). Assumes nothing.
-use mathlib.Core.Path.{_≡_, refl, _∙_}
+use mathlib.Core.Path.{_≡_, refl}
 use Prim.Native.Nat.{ℕ, _-_, _≤_, _<_}
 use native.Mathlib.Nat.{le-refl}
 use native.Mathlib.Omega.{arith}
@@ -72,7 +72,8 @@ loop-again c =
       omega (arith, below at),
       rw length-set (l .inv .1),
       rw length-set (l .inv .2),
-      linked-more (l .inv .3) (number at) (omega (arith, at .loop-test .taken)) (below at) (source at) (omega (arith, below at, at .before .before .pre .1, l .inv .2)),
+      linked-more (l .inv .3) (number at) (omega (arith, at .loop-test .taken)) (below at) (source at)
+          (omega (arith, below at, at .before .before .pre .1, l .inv .2)),
     )
 
 same-length : tie.Need-same-length Inv-loop μ-loop

@@ -1,10 +1,10 @@
 -- `settle_forward` links the transitions, gives the initial location all timers and lets it wait, in arrays of the largest size. Assumes nothing.
-use mathlib.Core.Path.{_≡_, refl, sym, ap, _∙_}
+use mathlib.Core.Path.{_≡_, sym, ap}
 use mathlib.Core.List.{List}
 use Prim.Native.Nat.{ℕ, _≤_, _<_}
 use native.Mathlib.Omega.{arith}
 use borrow.Author.Needs.{needs}
-use lib.ListN.{length, getD, replicate, set, length-replicate, length-set}
+use lib.ListN.{length, replicate, set, length-replicate, length-set}
 use Rattle.timer_set.specs.Members.{everyTimer}
 use Rattle.forward.specs.Forward.{ownSets}
 use Rattle.forward.specs.Worklist.{Between}
@@ -35,7 +35,9 @@ link-requires c κs =
       safe .few,
       omega (arith, safe .few, length-replicate {A = ℕ} 512 0),
       ap (λ (n : ℕ). replicate n 512) (sym (length-replicate {A = ℕ} 256 512)),
-      (λ i h. omega (arith, safe .edges .from-below i (omega (arith, h, safe .edges .froms)), safe .edges .locations, length-replicate {A = ℕ} 256 512)),
+      (λ i h.
+          let below = safe .edges .from-below i (omega (arith, h, safe .edges .froms)) in
+          omega (arith, below, safe .edges .locations, length-replicate {A = ℕ} 256 512)),
     )
 
 mul-sets : tie.Need-mul-sets
@@ -100,7 +102,10 @@ empty-list-requires : tie.Need-empty-list-requires
 empty-list-requires c κs = let a = begin c .args in (a .initial, a .sources .now, rw length-set (ready c))
 
 same-length : tie.Need-same-length
-same-length c = let e = c .before .before .before .before in let long = length-set (begin (e .before) .args .sets .now) (begin (e .before) .args .initial) 18446744073709551615 in search needs
+same-length c =
+    let a = begin (c .before .before .before .before .before) .args in
+    let long = length-set (a .sets .now) (a .initial) 18446744073709551615 in
+    search needs
 
 returns : tie.Need-returns
 returns c =

@@ -1,5 +1,5 @@
 -- `visit` goes from each transition to the next that leaves the same location (Passing). Assumes nothing.
-use mathlib.Core.Path.{_≡_, refl, sym, _∙_}
+use mathlib.Core.Path.{_≡_}
 use mathlib.Core.List.{List}
 use Prim.Native.Nat.{ℕ, _+_, _-_, _≤_, _<_}
 use native.Mathlib.Omega.{arith}
@@ -72,19 +72,29 @@ mul-i c = search needs
 shared-slice-read-i : tie.Need-shared-slice-read-i Inv-loop μ-loop
 shared-slice-read-i c = search needs
 
+-- what the target was given: what was passed on to it, and the turn that this is of
+abbrev given : tie.After-shared-slice-known6 Inv-loop μ-loop → tie.After-give Inv-loop μ-loop
+given c = c .before .before .before .before .before .before .before
+
+abbrev passed : tie.After-give Inv-loop μ-loop → tie.After-minus Inv-loop μ-loop
+passed g = g .before .before .before .before .before
+
+abbrev inside : tie.After-give Inv-loop μ-loop → tie.In-loop Inv-loop μ-loop
+inside g = passed g .before .before
+
 cast-i : tie.Need-cast-i Inv-loop μ-loop
-cast-i c = omega (arith, c .shared-slice-known6 .given (c .before .before .before .before .before .before .before .before .before .before .before .before .before .before .before .loop .i) .fits)
+cast-i c = omega (arith, c .shared-slice-known6 .given (inside (given c) .before .loop .i) .fits)
 
 loop-less : tie.Need-loop-less Inv-loop μ-loop
 loop-less c =
-    let i = c .before .before .before .before .before .before .before .before .before .before .before .before .before .before in
+    let i = inside (given c) in
     omega (arith, i .loop-test .taken, next-later (turn (i .before)) (below i))
 
 loop-again : tie.Need-loop-again Inv-loop μ-loop
 loop-again c =
-    let g = c .before .before .before .before .before .before .before in
-    let m = g .before .before .before .before .before in
-    let i = m .before .before in
+    let g = given c in
+    let m = passed g in
+    let i = inside g in
     let l = i .before .loop in (
       search needs,
       search needs,
@@ -93,8 +103,10 @@ loop-again c =
       (λ initial sources t.
           let u = l .inv .4 initial sources t in
           let b : l .i < length sources = omega (arith, i .loop-test .taken, t .safe .edges .froms) in
+          let e = m .minus .ensures in
+          let d = g .give .ensures .0 in
           let y = rw (l .inv .0) at (g .give .ensures .1 .0) in
-          (taken-more (u .0) b (u .1) (m .minus .ensures) (g .give .ensures .0) y, set-stays (u .0) b (u .1) (m .minus .ensures) (g .give .ensures .0) y)),
+          (taken-more (u .0) b (u .1) e d y, set-stays (u .0) b (u .1) e d y)),
     )
 
 same-length : tie.Need-same-length Inv-loop μ-loop
@@ -108,8 +120,10 @@ same-length-3 c = search needs
 
 returns : tie.Need-returns Inv-loop μ-loop
 returns c =
-    let l = c .before .loop in
-    ((λ initial sources t. working-end (l .inv .4 initial sources t .0 .working) (omega (arith, c .loop-test .left, t .safe .edges .froms))), l .inv .3)
+    let l = c .before .loop in (
+      (λ initial sources t. working-end (l .inv .4 initial sources t .0 .working) (omega (arith, c .loop-test .left, t .safe .edges .froms))),
+      l .inv .3,
+    )
 
 pub visit-spec : {M : Type 1} → statement M
 visit-spec =

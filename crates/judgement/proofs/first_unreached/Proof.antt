@@ -1,11 +1,12 @@
 -- `first_unreached`: the first empty set is 9's place, of the unstarted sets where timer 63 is none of the chart's, else of sets of which nothing
 -- is cut, which are made here over the front of an array. Assumes nothing.
-use mathlib.Core.Path.{_≡_, sym, ap, _∙_}
+use mathlib.Core.Path.{sym, ap, _∙_}
 use lib.ListN.{length, take, replicate}
 use borrow.Author.Needs.{needs}
 use Rattle.forward.specs.Forward.{SafeForward, forwardSets}
 use Rattle.judgement.specs.Places.{firstEmpty}
-use Rattle.judgement.proofs.Lent.{none-front, none-length, few-locations, lent-length, lent-safe, lent-empty, made-room, seen-length, seen-sets}
+use Rattle.judgement.proofs.Lent.{none-front, none-length, few-locations, lent-length, lent-safe, lent-empty}
+use Rattle.judgement.proofs.Lent.{made-room, seen-length, seen-sets}
 use Rattle.judgement.proofs.Judging.{unreached-few, unreached-all}
 use Rattle.judgement.proofs.first_unreached.Statement.{statement}
 use Rattle.judgement.proofs.first_unreached.Tie as tie
