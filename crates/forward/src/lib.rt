@@ -13,7 +13,7 @@ use chart_lists::MOST_TRANSITIONS;
 use timer_set::TimerSet;
 
 // The number of no transition.
-const NONE: u16 = 512;
+const NONE: u16 = MOST_TRANSITIONS as u16;
 
 // The transitions that leave each location, in rising order: the first of each location, and the next of each transition.
 fn link(sources: &[u16], first: &mut [u16], next: &mut [u16])

@@ -9,6 +9,7 @@ use lib.ListN.{length, getD, take, replicate, length-append, length-replicate}
 use lib.Seq.{take-at, length-take-le}
 use Rattle.lists.proofs.Zeros.{take-zeros}
 use Rattle.model.proofs.Settled.{length-settled}
+use Rattle.chart_lists.specs.Limits.{mostLocations, mostTransitions}
 use Rattle.flow.proofs.EdgeLists.{locations-are}
 use Rattle.forward.specs.Forward.{ownSets, SafeForward, forwardSets}
 use Rattle.forward.proofs.Passing.{long-own}
@@ -23,30 +24,32 @@ length-forward initial locations sources targets cut =
 
 module _ {initial locations : ℕ} {sources targets cut : List ℕ} (d : SafeForward initial locations sources targets cut) where
   -- nothing is cut
-  pub none-front : _≡_ {A = List ℕ} (take (length sources) (replicate 512 0)) (replicate (length sources) 0)
-  none-front = take-zeros (length sources) 512 (d .few)
+  pub none-front : _≡_ {A = List ℕ} (take (length sources) (replicate mostTransitions 0)) (replicate (length sources) 0)
+  none-front = take-zeros (length sources) mostTransitions (d .few)
 
-  pub none-length : _≡_ (length {A = ℕ} (take (length sources) (replicate 512 0))) (length sources)
-  none-length = length-empty (length sources) 512 (d .few)
+  pub none-length : _≡_ (length {A = ℕ} (take (length sources) (replicate mostTransitions 0))) (length sources)
+  none-length = length-empty (length sources) mostTransitions (d .few)
 
   pub none-cut : SafeForward initial locations sources targets (replicate (length sources) 0)
   none-cut = let e = length-replicate {A = ℕ} (length sources) 0 ∙ d .edges .froms in search needs
 
   -- the front that is lent
-  pub few-locations : locations ≤ 256
+  pub few-locations : locations ≤ mostLocations
   few-locations = omega (arith, d .edges .locations, long-own initial locations)
 
-  pub lent-length : _≡_ (length {A = ℕ} (take locations (replicate 256 0))) locations
-  lent-length = length-empty locations 256 few-locations
+  abbrev lent : List ℕ
+  lent = take locations (replicate mostLocations 0)
 
-  pub lent-safe : SafeForward initial (length {A = ℕ} (take locations (replicate 256 0))) sources targets cut
+  pub lent-length : length lent ≡ locations
+  lent-length = length-empty locations mostLocations few-locations
+
+  pub lent-safe : SafeForward initial (length lent) sources targets cut
   lent-safe = rw lent-length d
 
-  pub lent-empty : _≡_ {A = List ℕ} (take locations (replicate 256 0)) (replicate (length {A = ℕ} (take locations (replicate 256 0))) 0)
-  lent-empty = rw lent-length (take-zeros locations 256 few-locations)
+  pub lent-empty : lent ≡ replicate (length lent) 0
+  lent-empty = rw lent-length (take-zeros locations mostLocations few-locations)
 
-  module _ {sets : List ℕ} (e : sets ≡ forwardSets initial (length {A = ℕ} (take locations (replicate 256 0))) sources targets cut)
-      (rest : List ℕ) where
+  module _ {sets : List ℕ} (e : sets ≡ forwardSets initial (length lent) sources targets cut) (rest : List ℕ) where
     made-sets : sets ≡ forwardSets initial locations sources targets cut
     made-sets = rw lent-length at e
 

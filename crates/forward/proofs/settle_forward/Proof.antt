@@ -6,6 +6,7 @@ use native.Mathlib.Omega.{arith}
 use borrow.Author.Needs.{needs}
 use lib.ListN.{length, replicate, set, length-replicate, length-set}
 use Rattle.timer_set.specs.Members.{everyTimer}
+use Rattle.chart_lists.specs.Limits.{mostLocations, mostTransitions}
 use Rattle.forward.specs.Forward.{ownSets}
 use Rattle.forward.specs.Worklist.{Between}
 use lib.Seq.{getD-set-same}
@@ -19,7 +20,7 @@ abbrev start : tie.After-next → tie.Start
 start c = c .before .before .before .before .before .before
 
 -- there are at most as many locations as entries of the arrays
-few : (c : tie.Start) → length (c .args .sets .now) ≤ 256
+few : (c : tie.Start) → length (c .args .sets .now) ≤ mostLocations
 few c = omega (arith, c .pre .0 .edges .locations, long-own (c .args .initial) (length (c .args .sets .now)))
 
 slice-aggregate-link : tie.Need-slice-aggregate-link
@@ -33,11 +34,11 @@ link-requires c κs =
     let s = start c in
     let safe = s .pre .0 in (
       safe .few,
-      omega (arith, safe .few, length-replicate {A = ℕ} 512 0),
-      ap (λ (n : ℕ). replicate n 512) (sym (length-replicate {A = ℕ} 256 512)),
+      omega (arith, safe .few, length-replicate {A = ℕ} mostTransitions 0),
+      ap (λ (n : ℕ). replicate n mostTransitions) (sym (length-replicate {A = ℕ} mostLocations mostTransitions)),
       (λ i h.
           let below = safe .edges .from-below i (omega (arith, h, safe .edges .froms)) in
-          omega (arith, below, safe .edges .locations, length-replicate {A = ℕ} 256 512)),
+          omega (arith, below, safe .edges .locations, length-replicate {A = ℕ} mostLocations mostTransitions)),
     )
 
 mul-sets : tie.Need-mul-sets
@@ -55,7 +56,7 @@ slice-aggregate-push-2 c = search needs
 push-requires : tie.Need-push-requires
 push-requires c κs =
     let s = start (c .before .before .before .before .before) in
-    (length (s .args .sets .now), s .pre .0 .inside, listing-none _ 256 _ (few s) (omega (arith, length-replicate {A = ℕ} 256 0)))
+    (length (s .args .sets .now), s .pre .0 .inside, listing-none _ mostLocations _ (few s) (omega (arith, length-replicate {A = ℕ} mostLocations 0)))
 
 slice-aggregate-empty-list : tie.Need-slice-aggregate-empty-list
 slice-aggregate-empty-list c = search needs
@@ -92,11 +93,13 @@ ready c =
     let p = pushed c in
     let k = linked p in
     let s = begin c in
-    let room : length (k .link .last .1 .0) ≡ length {A = ℕ} (replicate 256 512) = search needs in
-    let inside : s .args .initial < length {A = ℕ} (replicate 256 1) = omega (arith, s .pre .0 .inside, few s, length-replicate {A = ℕ} 256 1) in
-    between-start (s .pre .0) (k .link .ensures .0) (k .link .ensures .1) (omega (arith, room, few s, length-replicate {A = ℕ} 256 512))
-    (p .push .ensures .1 .0 _ (s .pre .0 .inside) (listing-none _ 256 _ (few s) (omega (arith, length-replicate {A = ℕ} 256 0))))
-    (rw (p .push .ensures .0) (getD-set-same (replicate 256 1) (s .args .initial) 0 0 inside)) (own s)
+    let kept : length (k .link .last .1 .0) ≡ length {A = ℕ} (replicate mostLocations mostTransitions) = search needs in
+    let ones = length-replicate {A = ℕ} mostLocations 1 in
+    let inside : s .args .initial < length {A = ℕ} (replicate mostLocations 1) = omega (arith, s .pre .0 .inside, few s, ones) in
+    let full = length-replicate {A = ℕ} mostLocations mostTransitions in
+    between-start (s .pre .0) (k .link .ensures .0) (k .link .ensures .1) (omega (arith, kept, few s, full))
+    (p .push .ensures .1 .0 _ (s .pre .0 .inside) (listing-none _ mostLocations _ (few s) (omega (arith, length-replicate {A = ℕ} mostLocations 0))))
+    (rw (p .push .ensures .0) (getD-set-same (replicate mostLocations 1) (s .args .initial) 0 0 inside)) (own s)
 
 empty-list-requires : tie.Need-empty-list-requires
 empty-list-requires c κs = let a = begin c .args in (a .initial, a .sources .now, rw length-set (ready c))

@@ -3,6 +3,7 @@
 use mathlib.Core.Path.{sym, ap, _∙_}
 use lib.ListN.{length, take, replicate}
 use borrow.Author.Needs.{needs}
+use Rattle.chart_lists.specs.Limits.{mostTransitions}
 use Rattle.forward.specs.Forward.{SafeForward, forwardSets}
 use Rattle.judgement.specs.Places.{firstEmpty}
 use Rattle.judgement.proofs.Lent.{none-front, none-length, few-locations, lent-length, lent-safe, lent-empty}
@@ -18,8 +19,8 @@ abbrev made : tie.After-settle-forward → tie.Start
 made f = start (f .before .before .before)
 
 -- nothing is cut: the front of the array of zeros
-safe : (s : tie.Start) → let a = s .args in
-    SafeForward (a .initial) (length (a .sets .now)) (a .sources .now) (a .targets .now) (take (length (a .sources .now)) (replicate 512 0))
+safe : (s : tie.Start) → let a = s .args in let n = length (a .sources .now) in
+    SafeForward (a .initial) (length (a .sets .now)) (a .sources .now) (a .targets .now) (take n (replicate mostTransitions 0))
 safe s = rw (none-front (s .pre)) (s .pre)
 
 first-empty-requires : tie.Need-first-empty-requires
