@@ -1,4 +1,4 @@
 pub mod Leaving
 pub mod Waiting
-pub mod Passing
+pub mod Visiting
 pub mod Ending

@@ -12,7 +12,7 @@ use Rattle.lists.specs.Lists.{sumOf}
 use Rattle.lists.proofs.Sums.{sum-set}
 use Rattle.timer_set.specs.Members.{joined}
 use Rattle.timer_set.proofs.Members.{joined-more}
-use Rattle.forward.specs.Worklist.{Listing, Given}
+use Rattle.forward.specs.Worklist.{Worklist, JoinedInto}
 
 sum-ones : (n : ℕ) → sumOf (replicate n 1) ≡ n
 unfolding sumOf
@@ -20,15 +20,15 @@ sum-ones zero = refl
 sum-ones (suc n) = omega (arith, sum-ones n)
 
 -- nothing waits
-pub listing-none : (m n : ℕ) (waiting : List ℕ) → m ≤ n → n ≤ length waiting → Listing m (replicate n 1) waiting 0
-listing-none m n waiting h room = record {
+pub worklist-none : (m n : ℕ) (waiting : List ℕ) → m ≤ n → n ≤ length waiting → Worklist m (replicate n 1) waiting 0
+worklist-none m n waiting h room = record {
   idles = omega (arith, h, length-replicate {A = ℕ} n 1);
   room = omega (arith, room, sum-ones n);
   below = λ k l. absurd (omega (arith, l));
   listed = λ q l z. absurd (omega (arith, z, getD-replicate {A = ℕ} n q 1 0 (omega (arith, l, h))));
 }
 
-module _ {m : ℕ} {idle waiting : List ℕ} {depth : ℕ} (x : Listing m idle waiting depth) where
+module _ {m : ℕ} {idle waiting : List ℕ} {depth : ℕ} (x : Worklist m idle waiting depth) where
   module _ (q : ℕ) (below : q < m) where
     inside : q < length idle
     inside = omega (arith, below, x .idles)
@@ -41,7 +41,7 @@ module _ {m : ℕ} {idle waiting : List ℕ} {depth : ℕ} (x : Listing m idle w
       pub push-room : depth < length waiting
       push-room = omega (arith, free, x .room, sum-set idle q 0 inside)
 
-      pub push-more : Listing m (set idle q 0) (set waiting depth q) (depth + 1)
+      pub push-more : Worklist m (set idle q 0) (set waiting depth q) (depth + 1)
       push-more = record {
         idles = omega (arith, x .idles, length-set idle q 0);
         room = omega (arith, free, x .room, sum-set idle q 0 inside, length-set waiting depth q);
@@ -62,7 +62,7 @@ module _ {m : ℕ} {idle waiting : List ℕ} {depth : ℕ} (x : Listing m idle w
               (old .0, omega (arith, lower), getD-set-other waiting depth (old .0) q 0 (λ e. omega (arith, lower, e)) ∙ old .2)
 
   -- the last of the list is idle again
-  pub pop : (k : ℕ) → depth ≡ k + 1 → Listing m (set idle (getD waiting k 0) 1) waiting k
+  pub pop : (k : ℕ) → depth ≡ k + 1 → Worklist m (set idle (getD waiting k 0) 1) waiting k
   pop k e = record {
     idles = omega (arith, x .idles, length-set idle q 1);
     room = omega (arith, e, x .room, sum-set idle q 1 (omega (arith, x .idles, last)));
@@ -84,15 +84,15 @@ module _ {m : ℕ} {idle waiting : List ℕ} {depth : ℕ} (x : Listing m idle w
           let not-last : old .0 ≡ k → ⊥ = λ f. ne (sym (old .2) ∙ ap (λ (i : ℕ). getD waiting i 0) f) in
           (old .0, omega (arith, lower, e, not-last), old .2)
 
--- ---- what is given to a location
+-- ---- timers joined to a location's set
 
-pub given-none : {target passed : ℕ} {sets idle : List ℕ} → joined (getD sets target 0) passed ≡ getD sets target 0
-    → Given target passed sets idle sets idle
-given-none {target} {sets = sets} e = record { grown = sym (ap (set sets target) e ∙ set-getD sets target 0); waits = inl (refl, refl) }
+pub joined-into-none : {target timers : ℕ} {sets idle : List ℕ} → joined (getD sets target 0) timers ≡ getD sets target 0
+    → JoinedInto target timers sets idle sets idle
+joined-into-none {target} {sets = sets} e = record { grown = sym (ap (set sets target) e ∙ set-getD sets target 0); waits = inl (refl, refl) }
 
-module _ (target passed : ℕ) (sets : List ℕ) {w : ℕ} (is : w ≡ joined (getD sets target 0) passed) where
-  pub given-more : {idle after : List ℕ} → after ≡ set idle target 0 → Given target passed sets idle (set sets target w) after
-  given-more e = record { grown = ap (set sets target) is; waits = inr e }
+module _ (target timers : ℕ) (sets : List ℕ) {w : ℕ} (is : w ≡ joined (getD sets target 0) timers) where
+  pub joined-into-more : {idle after : List ℕ} → after ≡ set idle target 0 → JoinedInto target timers sets idle (set sets target w) after
+  joined-into-more e = record { grown = ap (set sets target) is; waits = inr e }
 
   pub sum-more : target < length sets → (w ≡ getD sets target 0 → ⊥) → sumOf sets < sumOf (set sets target w)
-  sum-more h ne = omega (arith, ne, is, sum-set sets target w h, joined-more (getD sets target 0) passed)
+  sum-more h ne = omega (arith, ne, is, sum-set sets target w h, joined-more (getD sets target 0) timers)

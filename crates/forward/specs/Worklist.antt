@@ -31,7 +31,7 @@ pub record Firsts (sources first : List ℕ) : Type 0 where
 -- ---- the list
 
 -- the locations whose entry of `idle` is 0 are among the first `depth` entries of `waiting`, and there is room for each of the others
-pub record Listing (locations : ℕ) (idle waiting : List ℕ) (depth : ℕ) : Type 0 where
+pub record Worklist (locations : ℕ) (idle waiting : List ℕ) (depth : ℕ) : Type 0 where
   pub idles : locations ≤ length idle
   pub room : depth + sumOf idle ≤ length waiting
   pub below : (k : ℕ) → k < depth → getD waiting k 0 < locations
@@ -40,26 +40,28 @@ pub record Listing (locations : ℕ) (idle waiting : List ℕ) (depth : ℕ) : T
 -- ---- the sets
 
 -- words of 64 that hold the locations' own sets and only what comes
-pub record Within (initial locations : ℕ) (sources targets cut sets : List ℕ) : Type 0 where
+pub record SoundSets (initial locations : ℕ) (sources targets cut sets : List ℕ) : Type 0 where
   pub long : length sets ≡ locations
   pub words : (q : ℕ) → getD sets q 0 < 2 ^ 64
   pub owns : (q b : ℕ) → member (getD (ownSets initial locations) q 0) b ≡ true → member (getD sets q 0) b ≡ true
   pub comes : (q b : ℕ) → member (getD sets q 0) b ≡ true → Comes (forwardFlow initial locations sources targets cut) b q
 
--- what transition j passes on has come to its target
-pub record Passed (sources targets cut sets : List ℕ) (j : ℕ) : Type 0 where
+-- what transition j brings has come to its target
+pub record Brought (sources targets cut sets : List ℕ) (j : ℕ) : Type 0 where
   pub there : (b : ℕ) → member (getD sets (getD sources j 0) 0) b ≡ true → member (getD cut j 0) b ≡ false
       → member (getD sets (getD targets j 0) 0) b ≡ true
 
--- where the work stands: every transition of a location that does not wait has passed on its set, but those of location `here` from number i on
+-- where the work stands: every transition of a location that does not wait has brought its set to its target, but those of location `here` from
+-- number i on
 pub record Working (initial locations : ℕ) (sources targets cut : List ℕ) (here i : ℕ) (sets idle waiting : List ℕ) (depth : ℕ) : Type 0 where
-  pub within : Within initial locations sources targets cut sets
-  pub listing : Listing locations idle waiting depth
-  pub passed : (j : ℕ) → j < length sources → (getD idle (getD sources j 0) 0 ≡ 0 → ⊥) → (getD sources j 0 ≡ here → j < i)
-      → Passed sources targets cut sets j
+  pub sound : SoundSets initial locations sources targets cut sets
+  pub worklist : Worklist locations idle waiting depth
+  pub brought : (j : ℕ) → j < length sources → (getD idle (getD sources j 0) 0 ≡ 0 → ⊥) → (getD sources j 0 ≡ here → j < i)
+      → Brought sources targets cut sets j
 
 -- a location was taken from the list, and its transitions before number i have been gone over; i is the next
-pub record Taken (initial locations : ℕ) (sources targets cut next : List ℕ) (here i : ℕ) (sets idle waiting : List ℕ) (depth : ℕ) : Type 0 where
+pub record DuringVisit (initial locations : ℕ) (sources targets cut next : List ℕ) (here i : ℕ) (sets idle waiting : List ℕ) (depth : ℕ)
+    : Type 0 where
   pub safe : SafeForward initial locations sources targets cut
   pub nexts : Nexts sources next
   pub inside : here < locations
@@ -67,14 +69,14 @@ pub record Taken (initial locations : ℕ) (sources targets cut next : List ℕ)
   pub working : Working initial locations sources targets cut here i sets idle waiting depth
 
 -- no location's transitions are being gone over
-pub record Between (initial locations : ℕ) (sources targets cut first next sets idle waiting : List ℕ) (depth : ℕ) : Type 0 where
+pub record BetweenVisits (initial locations : ℕ) (sources targets cut first next sets idle waiting : List ℕ) (depth : ℕ) : Type 0 where
   pub safe : SafeForward initial locations sources targets cut
   pub firsts : Firsts sources first
   pub nexts : Nexts sources next
   pub room : locations ≤ length first
   pub working : Working initial locations sources targets cut 0 (length sources) sets idle waiting depth
 
--- a set with what is passed on to it; if it has grown, its location waits
-pub record Given (target passed : ℕ) (sets idle after idleAfter : List ℕ) : Type 0 where
-  pub grown : after ≡ set sets target (joined (getD sets target 0) passed)
+-- timers joined to a location's set; if it has grown, the location waits
+pub record JoinedInto (target timers : ℕ) (sets idle after idleAfter : List ℕ) : Type 0 where
+  pub grown : after ≡ set sets target (joined (getD sets target 0) timers)
   pub waits : ((after ≡ sets) × (idleAfter ≡ idle)) ⊎ (idleAfter ≡ set idle target 0)

@@ -7,7 +7,7 @@ ghost use lib.ListN.{length, getD, replicate, set};
 ghost use Rattle.lists.specs.Lists.{sumOf};
 ghost use Rattle.chart_lists.specs.Limits.{mostTransitions};
 ghost use Rattle.forward.specs.Forward.{SafeForward, forwardSets};
-ghost use Rattle.forward.specs.Worklist.{Nexts, Firsts, Listing, Working, Taken, Between, Given};
+ghost use Rattle.forward.specs.Worklist.{Nexts, Firsts, Worklist, Working, DuringVisit, BetweenVisits, JoinedInto};
 use chart_lists::MOST_LOCATIONS;
 use chart_lists::MOST_TRANSITIONS;
 use timer_set::TimerSet;
@@ -34,10 +34,10 @@ fn link(sources: &[u16], first: &mut [u16], next: &mut [u16])
 
 // Puts a location on the list, unless it waits there already: how many wait then.
 fn push(location: u16, idle: &mut [u8], waiting: &mut [u16], depth: usize) -> usize
-    requires { ⌜ ((m : ℕ) × (location < m) × Listing m (now idle) (now waiting) depth) ⌝ }
+    requires { ⌜ ((m : ℕ) × (location < m) × Worklist m (now idle) (now waiting) depth) ⌝ }
     ensures idle { λ _. ⌜ now (idle .exit) ≡ set (now (idle .entry)) location 0 ⌝ }
-    ensures listing { λ r. ⌜ ((m : ℕ) → location < m → Listing m (now (idle .entry)) (now (waiting .entry)) depth
-        → Listing m (now (idle .exit)) (now (waiting .exit)) r) ⌝ }
+    ensures worklist { λ r. ⌜ ((m : ℕ) → location < m → Worklist m (now (idle .entry)) (now (waiting .entry)) depth
+        → Worklist m (now (idle .exit)) (now (waiting .exit)) r) ⌝ }
     ensures more { λ r. ⌜ r ≤ depth + 1 ⌝ }
 {
     let q = location as usize;
@@ -49,23 +49,23 @@ fn push(location: u16, idle: &mut [u8], waiting: &mut [u16], depth: usize) -> us
     depth + 1
 }
 
-// Gives a location what is passed on to it; if its set has grown, the location waits: how many wait then.
-fn give(
+// Joins timers to the set of a location; if it has grown, the location waits: how many wait then.
+fn join_into(
     target: u16,
-    passed: u64,
+    timers: u64,
     sets: &mut [u64],
     idle: &mut [u8],
     waiting: &mut [u16],
     depth: usize,
 ) -> usize
-    requires { ⌜ (target < length (now sets)) × Listing (length (now sets)) (now idle) (now waiting) depth ⌝ }
-    ensures given { λ _. ⌜ Given target passed (now (sets .entry)) (now (idle .entry)) (now (sets .exit)) (now (idle .exit)) ⌝ }
-    ensures listing { λ r. ⌜ Listing (length (now (sets .entry))) (now (idle .exit)) (now (waiting .exit)) r ⌝ }
+    requires { ⌜ (target < length (now sets)) × Worklist (length (now sets)) (now idle) (now waiting) depth ⌝ }
+    ensures joined { λ _. ⌜ JoinedInto target timers (now (sets .entry)) (now (idle .entry)) (now (sets .exit)) (now (idle .exit)) ⌝ }
+    ensures worklist { λ r. ⌜ Worklist (length (now (sets .entry))) (now (idle .exit)) (now (waiting .exit)) r ⌝ }
     ensures less { λ r. ⌜ r + sumOf (now (sets .entry)) ≤ depth + sumOf (now (sets .exit)) ⌝ }
 {
     let t = target as usize;
     let old = sets[t];
-    let grown = TimerSet { bits: old }.join(TimerSet { bits: passed }).bits;
+    let grown = TimerSet { bits: old }.join(TimerSet { bits: timers }).bits;
     if grown == old {
         return depth;
     }
@@ -85,9 +85,9 @@ fn visit<'a>(
     waiting: &mut [u16],
     depth: usize,
 ) -> usize
-    requires { ⌜ ((initial : ℕ) × (sources : List ℕ) × Taken initial (length (now sets)) sources (now targets) (now cut) (now next) here first
+    requires { ⌜ ((initial : ℕ) × (sources : List ℕ) × DuringVisit initial (length (now sets)) sources (now targets) (now cut) (now next) here first
         (now sets) (now idle) (now waiting) depth) ⌝ }
-    ensures working { λ r. ⌜ ((initial : ℕ) (sources : List ℕ) → Taken initial (length (now (sets .entry))) sources (now (targets .entry))
+    ensures working { λ r. ⌜ ((initial : ℕ) (sources : List ℕ) → DuringVisit initial (length (now (sets .entry))) sources (now (targets .entry))
         (now (cut .entry)) (now (next .entry)) here first (now (sets .entry)) (now (idle .entry)) (now (waiting .entry)) depth
         → Working initial (length (now (sets .entry))) sources (now (targets .entry)) (now (cut .entry)) here (length sources)
         (now (sets .exit)) (now (idle .exit)) (now (waiting .exit)) r) ⌝ }
@@ -98,8 +98,8 @@ fn visit<'a>(
     let mut top = depth;
     let mut i = first as usize;
     while i < n {
-        let passed = set.minus(TimerSet { bits: cut[i] });
-        top = give(targets[i], passed.bits, sets, idle, waiting, top);
+        let brought = set.minus(TimerSet { bits: cut[i] });
+        top = join_into(targets[i], brought.bits, sets, idle, waiting, top);
         i = next[i] as usize;
     }
     top
@@ -116,9 +116,9 @@ fn empty_list<'a>(
     waiting: &mut [u16],
     depth: usize,
 )
-    requires { ⌜ ((initial : ℕ) × (sources : List ℕ) × Between initial (length (now sets)) sources (now targets) (now cut) (now first) (now next)
-        (now sets) (now idle) (now waiting) depth) ⌝ }
-    ensures { λ _. ⌜ ((initial : ℕ) (sources : List ℕ) → Between initial (length (now (sets .entry))) sources (now (targets .entry))
+    requires { ⌜ ((initial : ℕ) × (sources : List ℕ) × BetweenVisits initial (length (now sets)) sources (now targets) (now cut) (now first)
+        (now next) (now sets) (now idle) (now waiting) depth) ⌝ }
+    ensures { λ _. ⌜ ((initial : ℕ) (sources : List ℕ) → BetweenVisits initial (length (now (sets .entry))) sources (now (targets .entry))
         (now (cut .entry)) (now (first .entry)) (now (next .entry)) (now (sets .entry)) (now (idle .entry)) (now (waiting .entry)) depth
         → now (sets .exit) ≡ forwardSets initial (length (now (sets .entry))) sources (now (targets .entry)) (now (cut .entry))) ⌝ }
 {

@@ -12,7 +12,7 @@ use Rattle.model.proofs.Settled.{length-settled}
 use Rattle.chart_lists.specs.Limits.{mostLocations, mostTransitions}
 use Rattle.flow.proofs.EdgeLists.{locations-are}
 use Rattle.forward.specs.Forward.{ownSets, SafeForward, forwardSets}
-use Rattle.forward.proofs.Passing.{long-own}
+use Rattle.forward.proofs.Visiting.{long-own}
 
 length-empty : (n m : ℕ) → n ≤ m → _≡_ (length {A = ℕ} (take n (replicate m 0))) n
 length-empty n m h = length-take-le n (replicate m 0) (omega (arith, length-replicate {A = ℕ} m 0))

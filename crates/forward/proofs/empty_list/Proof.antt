@@ -7,8 +7,8 @@ use native.Mathlib.Omega.{arith}
 use borrow.Author.Needs.{needs}
 use lib.ListN.{length, getD, length-set}
 use Rattle.lists.specs.Lists.{sumOf}
-use Rattle.forward.specs.Worklist.{Between}
-use Rattle.forward.proofs.Passing.{last-below, taken-first, between-again}
+use Rattle.forward.specs.Worklist.{BetweenVisits}
+use Rattle.forward.proofs.Visiting.{last-below, visit-first, between-again}
 use Rattle.forward.proofs.Ending.{sum-below, all-settled}
 use Rattle.forward.proofs.empty_list.Statement.{statement}
 use Rattle.forward.proofs.empty_list.Tie as tie
@@ -16,8 +16,8 @@ use Rattle.forward.proofs.empty_list.Tie as tie
 abbrev Inv-loop : tie.InvT-loop
 Inv-loop targets cut first next sets₀ idle₀ waiting₀ depth left₀ sets idle waiting left =
     (length sets ≡ length sets₀) × (length idle ≡ length idle₀) × (length waiting ≡ length waiting₀)
-    × ((initial : ℕ) (sources : List ℕ) → Between initial (length sets₀) sources targets cut first next sets₀ idle₀ waiting₀ depth
-    → Between initial (length sets₀) sources targets cut first next sets idle waiting left)
+    × ((initial : ℕ) (sources : List ℕ) → BetweenVisits initial (length sets₀) sources targets cut first next sets₀ idle₀ waiting₀ depth
+    → BetweenVisits initial (length sets₀) sources targets cut first next sets idle waiting left)
 
 abbrev μ-loop : tie.MeasureT-loop
 μ-loop targets cut first next sets₀ idle₀ waiting₀ depth left₀ sets idle waiting left = 2 ^ 64 * length sets₀ - sumOf sets + left
@@ -27,7 +27,7 @@ start l = l .before .before .before .before .before .before .before .before
 
 -- what the loop has done so far
 turn : (l : tie.At-loop Inv-loop μ-loop) → let a = start l .args in
-    Between (start l .pre .0) (length (a .sets .now)) (start l .pre .1) (a .targets .now) (a .cut .now) (a .first .now) (a .next .now)
+    BetweenVisits (start l .pre .0) (length (a .sets .now)) (start l .pre .1) (a .targets .now) (a .cut .now) (a .first .now) (a .next .now)
     (l .loop .sets) (l .loop .idle) (l .loop .waiting) (l .loop .left)
 turn l = let p = start l .pre in l .loop .inv .3 (p .0) (p .1) (p .2)
 
@@ -49,16 +49,18 @@ sub-left c = search needs
 
 mul-q : tie.Need-mul-q Inv-loop μ-loop
 mul-q c =
-    let h : place c < length (c .before .loop .waiting) = omega (arith, c .loop-test .taken, turn (c .before) .working .listing .room) in search needs
+    let room = turn (c .before) .working .worklist .room in
+    let h : place c < length (c .before .loop .waiting) = omega (arith, c .loop-test .taken, room) in
+    search needs
 
 slice-read-q : tie.Need-slice-read-q Inv-loop μ-loop
-slice-read-q c = omega (arith, c .before .loop-test .taken, turn (c .before .before) .working .listing .room)
+slice-read-q c = omega (arith, c .before .loop-test .taken, turn (c .before .before) .working .worklist .room)
 
 cast-q : tie.Need-cast-q Inv-loop μ-loop
 cast-q c = omega (arith, c .slice-known4 .given (place (c .before)) .fits)
 
 slice-write-idle : tie.Need-slice-write-idle Inv-loop μ-loop
-slice-write-idle c = omega (arith, location (c .before), turn (c .before .before) .working .listing .idles)
+slice-write-idle c = omega (arith, location (c .before), turn (c .before .before) .working .worklist .idles)
 
 mul-visit : tie.Need-mul-visit Inv-loop μ-loop
 mul-visit c = omega (arith, c .slice-known4 .given (place (c .before)) .fits)
@@ -70,7 +72,7 @@ visit-requires : tie.Need-visit-requires Inv-loop μ-loop
 visit-requires c κs =
     let i = c .before .before .before .before .before in
     let p = start (i .before) .pre in
-    (p .0, p .1, rw (i .before .loop .inv .0) (taken-first (turn (i .before)) (place i) (place-is i)))
+    (p .0, p .1, rw (i .before .loop .inv .0) (visit-first (turn (i .before)) (place i) (place-is i)))
 
 loop-less : tie.Need-loop-less Inv-loop μ-loop
 loop-less c =
@@ -79,7 +81,7 @@ loop-less c =
     let l = i .before in
     let p = start l .pre in
     let t = turn l in
-    let w = v .visit .ensures .0 (p .0) (p .1) (rw (l .loop .inv .0) (taken-first t (place i) (place-is i))) in
+    let w = v .visit .ensures .0 (p .0) (p .1) (rw (l .loop .inv .0) (visit-first t (place i) (place-is i))) in
     omega (arith, i .loop-test .taken, v .visit .ensures .1, l .loop .inv .0, sum-below w)
 
 loop-again : tie.Need-loop-again Inv-loop μ-loop
@@ -93,7 +95,7 @@ loop-again c =
       search needs,
       (λ initial sources t.
           let b = l .inv .3 initial sources t in
-          let w = v .visit .ensures .0 initial sources (rw (l .inv .0) (taken-first b (place i) (place-is i))) in
+          let w = v .visit .ensures .0 initial sources (rw (l .inv .0) (visit-first b (place i) (place-is i))) in
           between-again b (rw (l .inv .0) at w)),
     )
 

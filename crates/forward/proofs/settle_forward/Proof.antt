@@ -8,10 +8,10 @@ use lib.ListN.{length, replicate, set, length-replicate, length-set}
 use Rattle.timer_set.specs.Members.{everyTimer}
 use Rattle.chart_lists.specs.Limits.{mostLocations, mostTransitions}
 use Rattle.forward.specs.Forward.{ownSets}
-use Rattle.forward.specs.Worklist.{Between}
+use Rattle.forward.specs.Worklist.{BetweenVisits}
 use lib.Seq.{getD-set-same}
-use Rattle.forward.proofs.Waiting.{listing-none}
-use Rattle.forward.proofs.Passing.{long-own}
+use Rattle.forward.proofs.Waiting.{worklist-none}
+use Rattle.forward.proofs.Visiting.{long-own}
 use Rattle.forward.proofs.Ending.{between-start}
 use Rattle.forward.proofs.settle_forward.Statement.{statement}
 use Rattle.forward.proofs.settle_forward.Tie as tie
@@ -56,7 +56,8 @@ slice-aggregate-push-2 c = search needs
 push-requires : tie.Need-push-requires
 push-requires c κs =
     let s = start (c .before .before .before .before .before) in
-    (length (s .args .sets .now), s .pre .0 .inside, listing-none _ mostLocations _ (few s) (omega (arith, length-replicate {A = ℕ} mostLocations 0)))
+    let empty = length-replicate {A = ℕ} mostLocations 0 in
+    (length (s .args .sets .now), s .pre .0 .inside, worklist-none _ mostLocations _ (few s) (omega (arith, empty)))
 
 slice-aggregate-empty-list : tie.Need-slice-aggregate-empty-list
 slice-aggregate-empty-list c = search needs
@@ -86,7 +87,7 @@ unfolding everyTimer
 own s = ap (λ (l : List ℕ). set l (s .args .initial) 18446744073709551615) (s .pre .1)
 
 ready : (c : tie.After-waiting3) → let a = begin c .args in
-    Between (a .initial) (length (a .sets .now)) (a .sources .now) (a .targets .now) (a .cut .now)
+    BetweenVisits (a .initial) (length (a .sets .now)) (a .sources .now) (a .targets .now) (a .cut .now)
     (linked (pushed c) .link .last .1 .0) (linked (pushed c) .link .last .1 .1 .0) (set (a .sets .now) (a .initial) 18446744073709551615)
     (pushed c .push .last .1 .0) (pushed c .push .last .1 .1 .0) (pushed c .push .result)
 ready c =
@@ -98,7 +99,7 @@ ready c =
     let inside : s .args .initial < length {A = ℕ} (replicate mostLocations 1) = omega (arith, s .pre .0 .inside, few s, ones) in
     let full = length-replicate {A = ℕ} mostLocations mostTransitions in
     between-start (s .pre .0) (k .link .ensures .0) (k .link .ensures .1) (omega (arith, kept, few s, full))
-    (p .push .ensures .1 .0 _ (s .pre .0 .inside) (listing-none _ mostLocations _ (few s) (omega (arith, length-replicate {A = ℕ} mostLocations 0))))
+    (p .push .ensures .1 .0 _ (s .pre .0 .inside) (worklist-none _ mostLocations _ (few s) (omega (arith, length-replicate {A = ℕ} mostLocations 0))))
     (rw (p .push .ensures .0) (getD-set-same (replicate mostLocations 1) (s .args .initial) 0 0 inside)) (own s)
 
 empty-list-requires : tie.Need-empty-list-requires

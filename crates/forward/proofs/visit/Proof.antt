@@ -1,4 +1,4 @@
--- `visit` goes from each transition to the next that leaves the same location (Passing). Assumes nothing.
+-- `visit` goes from each transition to the next that leaves the same location (Visiting). Assumes nothing.
 use mathlib.Core.Path.{_≡_}
 use mathlib.Core.List.{List}
 use Prim.Native.Nat.{ℕ, _+_, _-_, _≤_, _<_}
@@ -6,16 +6,16 @@ use native.Mathlib.Omega.{arith}
 use borrow.Author.Needs.{needs}
 use lib.ListN.{length, getD}
 use Rattle.lists.specs.Lists.{sumOf}
-use Rattle.forward.specs.Worklist.{Taken}
-use Rattle.forward.proofs.Passing.{target-inside, next-later, taken-more, set-stays, working-end}
+use Rattle.forward.specs.Worklist.{DuringVisit}
+use Rattle.forward.proofs.Visiting.{target-inside, next-later, visit-more, set-stays, working-end}
 use Rattle.forward.proofs.visit.Statement.{statement}
 use Rattle.forward.proofs.visit.Tie as tie
 
 abbrev Inv-loop : tie.InvT-loop
 Inv-loop targets cut next first here sets₀ idle₀ waiting₀ depth n set top₀ i₀ sets idle waiting top i =
     (length sets ≡ length sets₀) × (length idle ≡ length idle₀) × (length waiting ≡ length waiting₀) × (top + sumOf sets₀ ≤ depth + sumOf sets)
-    × ((initial : ℕ) (sources : List ℕ) → Taken initial (length sets₀) sources targets cut next here first sets₀ idle₀ waiting₀ depth
-    → Taken initial (length sets₀) sources targets cut next here i sets idle waiting top × (set .bits ≡ getD sets here 0))
+    × ((initial : ℕ) (sources : List ℕ) → DuringVisit initial (length sets₀) sources targets cut next here first sets₀ idle₀ waiting₀ depth
+    → DuringVisit initial (length sets₀) sources targets cut next here i sets idle waiting top × (set .bits ≡ getD sets here 0))
 
 abbrev μ-loop : tie.MeasureT-loop
 μ-loop targets cut next first here sets₀ idle₀ waiting₀ depth n set top₀ i₀ sets idle waiting top i = n - i
@@ -29,7 +29,7 @@ sources l = start l .pre .1
 
 -- what the loop has done so far
 turn : (l : tie.At-loop Inv-loop μ-loop) → let a = start l .args in
-    Taken (start l .pre .0) (length (a .sets .now)) (sources l) (a .targets .now) (a .cut .now) (a .next .now) (a .here) (l .loop .i)
+    DuringVisit (start l .pre .0) (length (a .sets .now)) (sources l) (a .targets .now) (a .cut .now) (a .next .now) (a .here) (l .loop .i)
     (l .loop .sets) (l .loop .idle) (l .loop .waiting) (l .loop .top)
 turn l = let p = start l .pre in l .loop .inv .4 (p .0) (p .1) (p .2) .0
 
@@ -54,17 +54,17 @@ shared-slice-read-t21 c = search needs
 minus-requires : tie.Need-minus-requires Inv-loop μ-loop
 minus-requires c κs = search needs
 
-mul-give : tie.Need-mul-give Inv-loop μ-loop
-mul-give c = search needs
+mul-join-into : tie.Need-mul-join-into Inv-loop μ-loop
+mul-join-into c = search needs
 
-shared-slice-read-give : tie.Need-shared-slice-read-give Inv-loop μ-loop
-shared-slice-read-give c = search needs
+shared-slice-read-join-into : tie.Need-shared-slice-read-join-into Inv-loop μ-loop
+shared-slice-read-join-into c = search needs
 
-give-requires : tie.Need-give-requires Inv-loop μ-loop
-give-requires c κs =
+join-into-requires : tie.Need-join-into-requires Inv-loop μ-loop
+join-into-requires c κs =
     let i = c .before .before .before .before .before .before in
     let t = turn (i .before) in
-    (target-inside (t .safe) (t .working .within) _ (below i), rw (i .before .loop .inv .0) (t .working .listing))
+    (target-inside (t .safe) (t .working .sound) _ (below i), rw (i .before .loop .inv .0) (t .working .worklist))
 
 mul-i : tie.Need-mul-i Inv-loop μ-loop
 mul-i c = search needs
@@ -72,41 +72,41 @@ mul-i c = search needs
 shared-slice-read-i : tie.Need-shared-slice-read-i Inv-loop μ-loop
 shared-slice-read-i c = search needs
 
--- what the target was given: what was passed on to it, and the turn that this is of
-abbrev given : tie.After-shared-slice-known6 Inv-loop μ-loop → tie.After-give Inv-loop μ-loop
-given c = c .before .before .before .before .before .before .before
+-- after the join: what the transition brings, and the turn that this is of
+abbrev joined : tie.After-shared-slice-known6 Inv-loop μ-loop → tie.After-join-into Inv-loop μ-loop
+joined c = c .before .before .before .before .before .before .before
 
-abbrev passed : tie.After-give Inv-loop μ-loop → tie.After-minus Inv-loop μ-loop
-passed g = g .before .before .before .before .before
+abbrev brought : tie.After-join-into Inv-loop μ-loop → tie.After-minus Inv-loop μ-loop
+brought g = g .before .before .before .before .before
 
-abbrev inside : tie.After-give Inv-loop μ-loop → tie.In-loop Inv-loop μ-loop
-inside g = passed g .before .before
+abbrev inside : tie.After-join-into Inv-loop μ-loop → tie.In-loop Inv-loop μ-loop
+inside g = brought g .before .before
 
 cast-i : tie.Need-cast-i Inv-loop μ-loop
-cast-i c = omega (arith, c .shared-slice-known6 .given (inside (given c) .before .loop .i) .fits)
+cast-i c = omega (arith, c .shared-slice-known6 .given (inside (joined c) .before .loop .i) .fits)
 
 loop-less : tie.Need-loop-less Inv-loop μ-loop
 loop-less c =
-    let i = inside (given c) in
+    let i = inside (joined c) in
     omega (arith, i .loop-test .taken, next-later (turn (i .before)) (below i))
 
 loop-again : tie.Need-loop-again Inv-loop μ-loop
 loop-again c =
-    let g = given c in
-    let m = passed g in
+    let g = joined c in
+    let m = brought g in
     let i = inside g in
     let l = i .before .loop in (
       search needs,
       search needs,
       search needs,
-      omega (arith, l .inv .3, g .give .ensures .1 .1),
+      omega (arith, l .inv .3, g .join-into .ensures .1 .1),
       (λ initial sources t.
           let u = l .inv .4 initial sources t in
           let b : l .i < length sources = omega (arith, i .loop-test .taken, t .safe .edges .froms) in
           let e = m .minus .ensures in
-          let d = g .give .ensures .0 in
-          let y = rw (l .inv .0) at (g .give .ensures .1 .0) in
-          (taken-more (u .0) b (u .1) e d y, set-stays (u .0) b (u .1) e d y)),
+          let d = g .join-into .ensures .0 in
+          let y = rw (l .inv .0) at (g .join-into .ensures .1 .0) in
+          (visit-more (u .0) b (u .1) e d y, set-stays (u .0) b (u .1) e d y)),
     )
 
 same-length : tie.Need-same-length Inv-loop μ-loop
@@ -137,9 +137,9 @@ visit-spec =
     mul-t19
     shared-slice-read-t21
     minus-requires
-    mul-give
-    shared-slice-read-give
-    give-requires
+    mul-join-into
+    shared-slice-read-join-into
+    join-into-requires
     mul-i
     shared-slice-read-i
     cast-i

@@ -1,10 +1,10 @@
--- `give`: a set that grows has a larger sum, and its location waits. Assumes nothing.
+-- `join_into`: a set that grows has a larger sum, and its location waits. Assumes nothing.
 use mathlib.Core.Path.{sym, _∙_}
 use native.Mathlib.Omega.{arith}
 use borrow.Author.Needs.{needs}
-use Rattle.forward.proofs.Waiting.{given-none, given-more, sum-more}
-use Rattle.forward.proofs.give.Statement.{statement}
-use Rattle.forward.proofs.give.Tie as tie
+use Rattle.forward.proofs.Waiting.{joined-into-none, joined-into-more, sum-more}
+use Rattle.forward.proofs.join_into.Statement.{statement}
+use Rattle.forward.proofs.join_into.Tie as tie
 
 mul-old : tie.Need-mul-old
 mul-old c = search needs
@@ -19,7 +19,7 @@ returns : tie.Need-returns
 returns c =
     let j = c .before in
     let s = j .before .before .before .before .before in
-    (given-none (sym (j .join .ensures) ∙ c .if1 .taken), (s .pre .1, omega arith))
+    (joined-into-none (sym (j .join .ensures) ∙ c .if1 .taken), (s .pre .1, omega arith))
 
 mul-sets : tie.Need-mul-sets
 mul-sets c = search needs
@@ -45,16 +45,16 @@ returns-2 c =
     let e = a .before .before .before in
     let j = e .before in
     let s = j .before .before .before .before .before in
-    let more = sum-more (s .args .target) (s .args .passed) (s .args .sets .now) (j .join .ensures) (s .pre .0) (e .if1 .left) in (
-      given-more _ _ _ (j .join .ensures) (a .push .ensures .0),
+    let more = sum-more (s .args .target) (s .args .timers) (s .args .sets .now) (j .join .ensures) (s .pre .0) (e .if1 .left) in (
+      joined-into-more _ _ _ (j .join .ensures) (a .push .ensures .0),
       (
         a .push .ensures .1 .0 _ (s .pre .0) (s .pre .1),
         omega (arith, a .push .ensures .1 .1, more),
       ),
     )
 
-pub give-spec : {M : Type 1} → statement M
-give-spec =
+pub join-into-spec : {M : Type 1} → statement M
+join-into-spec =
     tie.close
     (tie.spec
     mul-old
