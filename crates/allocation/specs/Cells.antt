@@ -4,14 +4,15 @@ use mathlib.Core.List.{List}
 use Prim.Native.Nat.{ℕ, _*_, _/_, _%_}
 use Rattle.lists.specs.Lists.{upTo}
 use Rattle.model.specs.Rewrite.{Numbering}
+use Rattle.chart_lists.specs.Limits.{mostLocations, mostTimers}
 
 -- a cell for each timer of each location: the most there are, and so the most numbers that families can need
 abbrev pub mostCells : ℕ
-mostCells = 16384
+mostCells = mostLocations * mostTimers
 
 -- the words of 64 numbers that these take
 abbrev pub mostWords : ℕ
-mostWords = 256
+mostWords = mostCells / 64
 
 -- the cell of a pair that has no number, which no number given reaches
 abbrev pub noNumber : ℕ

@@ -23,10 +23,10 @@ abbrev pub heldWords : ℕ
 heldWords = 8
 
 abbrev pub heldNumbers : ℕ
-heldNumbers = 512
+heldNumbers = 64 * heldWords
 
 abbrev pub heldLength : ℕ
-heldLength = 2048
+heldLength = mostLocations * heldWords
 
 -- some number below n passes
 unfoldable pub anyBelow : (ℕ → Bool) → ℕ → Bool

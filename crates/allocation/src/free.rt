@@ -12,9 +12,9 @@ ghost use Rattle.allocation.specs.Rows.{Lengths, WordsAgree, Within, inR
 use timer_set::TimerSet;
 
 // As many numbers as there may be cells, and the words that they take.
-const MOST_NUMBERS: u16 = 16384;
+const MOST_NUMBERS: u16 = crate::MOST_CELLS as u16;
 
-const MOST_WORDS: u16 = 256;
+const MOST_WORDS: u16 = MOST_NUMBERS / 64;
 
 // Word w of the numbers that the family's locations hold.
 fn held_word(sets: &[u64], held: &[u64], from: usize, end: usize, j: u8, w: usize) -> TimerSet

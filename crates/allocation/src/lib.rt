@@ -20,14 +20,14 @@ use timer_set::TimerSet;
 pub const NO_NUMBER: u16 = 65535;
 
 // A cell for each timer of each location: the most there are, and so the most numbers that families can need.
-pub const MOST_CELLS: usize = 16384;
+pub const MOST_CELLS: usize = chart_lists::MOST_LOCATIONS * chart_lists::MOST_TIMERS;
 
 // So many words of 64 numbers are kept for each location, word v of location s at 256 v + s; the numbers in them; the list's length.
 const HELD_WORDS: u16 = 8;
 
-const HELD_NUMBERS: u16 = 512;
+const HELD_NUMBERS: u16 = HELD_WORDS * 64;
 
-const HELD_LENGTH: usize = 2048;
+const HELD_LENGTH: usize = chart_lists::MOST_LOCATIONS * HELD_WORDS as usize;
 
 // Each set of `all` with the timers of the same one of `sets`, which are empty from `end` on.
 fn join_sets(sets: &[u64], end: usize, all: &mut [u64])
