@@ -19,7 +19,7 @@ use Rattle.model.specs.Flow.{settled}
 use Rattle.model.specs.Family.{Pairs, isPair, Joined, Family, familyNumber, linkFlow, familyOf, meets, WellFormed}
 use Rattle.model.proofs.Joined.{joined-refl, joined-trans, joined-sym, joined-pair}
 use Rattle.model.proofs.LinkFlow.{link-flow-iff}
-pub use Rattle.model.specs.SharingRule.{NumberOfFamily, Meet}
+pub use Rattle.model.specs.Placing.{NumberOfFamily, Meet}
 
 same-family : (f g : Family) → f .timer ≡ g .timer → f .first ≡ g .first → f .locations ≡ g .locations → f ≡ g
 same-family f g t a l = λ i. record { timer = t i; first = a i; locations = l i }

@@ -12,7 +12,7 @@ use borrow.Author.Tests.{eq-eqb}
 use Rattle.lists.specs.Lists.{gather}
 use Rattle.lists.specs.Rising.{Rising}
 use Rattle.lists.specs.Elements.{Element}
-use Rattle.model.specs.SharingRule.{FamilyOfPair}
+use Rattle.model.specs.Placing.{FamilyOfPair}
 use Rattle.lists.proofs.Bools.{same-number}
 use Rattle.lists.proofs.Elements.{gather-in, gather-out, gather-rising, rising-wider}
 use Rattle.model.specs.Family.{Pairs, isPair, Joined, Family, familyNumber, familyOf, familyFrom, families, WellFormed}

@@ -15,7 +15,7 @@ use Rattle.lists.proofs.Membership.{memb-cases, memb-head, memb-tail, memb-nil,
 use Rattle.lists.proofs.Lowest.{lowest-passes, lowest-before, lowest-is}
 use Rattle.model.specs.Family.{Family, meets}
 use Rattle.model.specs.FirstFit.{Placed, held, free, place, usedBy, allHeld, blocked}
-pub use Rattle.model.specs.SharingRule.{HeldBy, FirstFitRule}
+pub use Rattle.model.specs.Placing.{HeldBy, FirstFitRule}
 
 -- ---- the smallest number that is not in a list
 

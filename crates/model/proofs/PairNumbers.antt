@@ -8,7 +8,7 @@ use mathlib.Core.List.{[]}
 use Prim.Native.Nat.{ℕ, _<_}
 use lib.ListN.{getElem?}
 use Rattle.lists.specs.Lists.{memb}
-use Rattle.model.specs.SharingRule.{FamilyOfPair, PairNumber}
+use Rattle.model.specs.Placing.{FamilyOfPair, PairNumber}
 use Rattle.lists.proofs.Bools.{same-bool}
 use Rattle.model.specs.Family.{Pairs, isPair, Linked, Joined, Family, has, familyOf, families, WellFormed}
 use Rattle.model.specs.FirstFit.{Placed, place, firstFit, usedBy, numberAt}

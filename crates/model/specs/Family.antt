@@ -10,6 +10,7 @@ use mathlib.Core.Option.{some}
 use Rattle.timer_set.specs.Members.{member, common, minus, everyTimer}
 use Rattle.lists.specs.Lists.{anyOf, memb, lowest, gather, pick}
 use Rattle.model.specs.Chart.{Transition, Chart}
+use Rattle.model.specs.Chain.{Chain}
 use Rattle.model.specs.Flow.{Flow, settled}
 use Rattle.model.specs.Live.{startsSet, liveSets}
 
@@ -69,15 +70,10 @@ pub record Linked (p : Pairs) (j q s : ℕ) : Type 0 where
   pub holds : member (link .timers) j ≡ true
   pub ends : ((link .one ≡ q) × (link .other ≡ s)) ⊎ ((link .one ≡ s) × (link .other ≡ q))
 
--- links lead from (q, j) over the locations of the list to (s, j)
-abbrev pub Chain : Pairs → ℕ → ℕ → List ℕ → ℕ → Type 0
-Chain p j q [] s = q ≡ s
-Chain p j q (x ∷ xs) s = Linked p j q x × Chain p j x xs s
-
--- (s, j) is of the family of (q, j)
+-- (s, j) is of the family of (q, j): a chain of links joins them
 pub record Joined (p : Pairs) (j q s : ℕ) : Type 0 where
   pub way : List ℕ
-  pub chain : Chain p j q way s
+  pub chain : Chain (Linked p j) q way s
 
 -- ---- the same, computed
 

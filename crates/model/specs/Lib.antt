@@ -15,6 +15,8 @@ pub mod Plan
 pub mod Equivalence
 pub mod Returned
 pub mod Places
+pub mod Chain
+pub mod Placing
 pub mod SharingRule
 pub mod PlayerTerms
 pub mod Comes

@@ -1,52 +1,83 @@
--- The number of a family, meeting, and the rule of first fit, in document 01's words. That the computed ones keep them is shown in proofs/.
--- Assumes nothing.
+-- The rule by which drawn timers share board timers (document 01, "Live, born, family, board number"), in the words of paths and transitions
+-- alone. That first fit keeps it, and that no other numbering does, is shown in proofs/. Assumes nothing.
 use mathlib.Core.Path.{_≡_}
-use mathlib.Core.Bool.{true}
-use mathlib.Core.Option.{some}
-use mathlib.Core.List.{List, _∷_, _++_}
-use Prim.Native.Nat.{ℕ, _+_, _*_, _≤_, _<_}
-use lib.ListN.{getElem?}
-use Rattle.model.specs.Family.{Pairs, isPair, Joined, Family, familyOf, meets}
-use Rattle.model.specs.FirstFit.{Placed, firstFit}
+use mathlib.Core.Logic.{_⊎_}
+use mathlib.Core.Bool.{false}
+use mathlib.Core.List.{List}
+use Prim.Native.Nat.{ℕ, suc, _+_, _*_, _≤_, _<_}
+use Rattle.lists.specs.Lists.{memb}
+use Rattle.model.specs.Chart.{Transition, Chart, Nth}
+use Rattle.model.specs.Path.{Live}
+use Rattle.model.specs.Chain.{Chain}
+use Rattle.model.specs.Rewrite.{Numbering}
+use Rattle.model.specs.Plan.{Has}
+
+-- A pair is a location with a timer that is live there. The pairs (q, j) and (s, j) are linked when a transition that does not start j runs from
+-- one's location to the other's.
+pub record LiveLink (c : Chart) (j q s : ℕ) : Type 0 where
+  pub number : ℕ
+  pub transition : Transition
+  pub is-nth : Nth c number transition
+  pub not-started : memb j (transition .starts) ≡ false
+  pub ends : ((transition .source ≡ q) × (transition .target ≡ s)) ⊎ ((transition .source ≡ s) × (transition .target ≡ q))
+  pub live-one : Live c q j
+  pub live-other : Live c s j
+
+-- (s, j) is of the family of the pair (q, j): a chain of links joins them
+pub record SameFamily (c : Chart) (j q s : ℕ) : Type 0 where
+  pub pair : Live c q j
+  pub way : List ℕ
+  pub chain : Chain (LiveLink c j) q way s
 
 -- n is the number of the family of (q, j): the smallest 64 times location plus timer among its pairs
-pub record NumberOfFamily (p : Pairs) (q j n : ℕ) : Type 0 where
+pub record FamilyNumber (c : Chart) (q j n : ℕ) : Type 0 where
   pub location : ℕ
-  pub joined : Joined p j q location
+  pub same : SameFamily c j q location
   pub is-its : n ≡ 64 * location + j
-  pub smallest : (s : ℕ) → Joined p j q s → n ≤ 64 * s + j
+  pub smallest : (s : ℕ) → SameFamily c j q s → n ≤ 64 * s + j
 
--- the families of (q, j) and (s, k) contain a common location
-pub record Meet (p : Pairs) (q j s k : ℕ) : Type 0 where
+-- the family of (s, i) comes before that of (q, j): it has the lower number
+pub record Earlier (c : Chart) (s i q j : ℕ) : Type 0 where
+  pub lower : ℕ
+  pub higher : ℕ
+  pub is-lower : FamilyNumber c s i lower
+  pub is-higher : FamilyNumber c q j higher
+  pub rises : lower < higher
+
+-- the families of (q, j) and (s, i) meet: they contain a common location
+pub record FamiliesMeet (c : Chart) (q j s i : ℕ) : Type 0 where
   pub location : ℕ
-  pub left : Joined p j q location
-  pub right : Joined p k s location
+  pub of-one : SameFamily c j q location
+  pub of-other : SameFamily c i s location
 
--- a family of the list that f meets holds k
-pub record HeldBy (f : Family) (k : ℕ) (ps : List Placed) : Type 0 where
-  pub place : ℕ
-  pub holder : Placed
-  pub is-nth : getElem? ps place ≡ some holder
-  pub met : meets f (holder .family) ≡ true
-  pub number : holder .number ≡ k
+-- an earlier family that the family of (q, j) meets holds k: that of (location, timer)
+pub record HeldEarlier (c : Chart) (N : Numbering) (q j k : ℕ) : Type 0 where
+  pub location : ℕ
+  pub timer : ℕ
+  pub earlier : Earlier c location timer q j
+  pub meet : FamiliesMeet c q j location timer
+  pub number : Has N location timer k
 
--- the rule in the document's words; the last one placed stands first
-pub record FirstFitRule (ps : List Placed) : Type 0 where
-  pub apart : (later : List Placed) (g : Placed) (earlier : List Placed) → ps ≡ later ++ (g ∷ earlier)
-      → (i : ℕ) (h : Placed) → getElem? earlier i ≡ some h → meets (g .family) (h .family) ≡ true → h .number ≡ g .number → ⊥
-  pub smallest : (later : List Placed) (g : Placed) (earlier : List Placed) → ps ≡ later ++ (g ∷ earlier)
-      → (k : ℕ) → k < g .number → HeldBy (g .family) k earlier
+-- the rule
+pub record SharingRule (c : Chart) (N : Numbering) : Type 0 where
+  -- every pair has a number
+  pub numbered : (q j : ℕ) → Live c q j → (k : ℕ) × Has N q j k
+  -- and nothing else has one
+  pub live : (q j k : ℕ) → Has N q j k → Live c q j
+  -- the pairs of a family have one number
+  pub one-number : (q s j k : ℕ) → SameFamily c j q s → Has N q j k → Has N s j k
+  -- no earlier family that it meets holds it
+  pub free : (q j k : ℕ) → Has N q j k → HeldEarlier c N q j k → ⊥
+  -- and each smaller number is held by such a one
+  pub smallest : (q j k m : ℕ) → Has N q j k → m < k → HeldEarlier c N q j m
+  -- used is above every number given
+  pub used-above : (q j k : ℕ) → Has N q j k → k < N .used
+  -- and one more than the largest; where there is no pair it is 0
+  pub used-reached : (u : ℕ) → N .used ≡ suc u → (q : ℕ) × (j : ℕ) × Has N q j u
 
--- f is the family of a pair, the pair of its first location
-pub record FamilyOfPair (p : Pairs) (f : Family) : Type 0 where
-  pub pair : isPair p (f .first) (f .timer) ≡ true
-  pub whole : f ≡ familyOf p (f .first) (f .timer)
-
--- the family of the pair (q, j) was given the number k
-pub record PairNumber (p : Pairs) (q j k : ℕ) : Type 0 where
-  pub pair : isPair p q j ≡ true
-  pub place : ℕ
-  pub placed : Placed
-  pub is-nth : getElem? (firstFit p) place ≡ some placed
-  pub family : placed .family ≡ familyOf p q j
-  pub number : placed .number ≡ k
+-- 20: all K numbers are held by earlier families that the family of some pair meets
+pub record AllNumbersHeld (K : ℕ) (c : Chart) (N : Numbering) : Type 0 where
+  pub location : ℕ
+  pub timer : ℕ
+  pub pair : Live c location timer
+  pub held : (k : ℕ) → k < K → HeldEarlier c N location timer k
