@@ -17,6 +17,7 @@ pub mod Families
 pub mod FamilyList
 pub mod PairNumbers
 pub mod PlacedOnce
+pub mod LivePairs
 pub mod BoardPlan
 pub mod UsedNumbers
 pub mod Answers
