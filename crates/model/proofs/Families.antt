@@ -1,5 +1,5 @@
--- The family computed of a pair is the family by chains of links: its locations, its number, the same for each of its pairs, and which ones meet.
--- Hard: that all pairs of a family compute the same one: their rising lists of locations have the same elements. Assumes nothing.
+-- The family computed of a pair is the family by chains of links: its locations, its lowest one, and the same for each of its pairs. Hard: that all
+-- pairs of a family compute the same one: their rising lists of locations have the same elements. Assumes nothing.
 use mathlib.Core.Path.{_≡_, refl, sym, _∙_}
 use mathlib.Core.Logic.{_↔_}
 use mathlib.Core.Bool.{true}
@@ -11,15 +11,13 @@ use Rattle.timer_set.specs.Members.{member}
 use Rattle.lists.specs.Lists.{memb}
 use Rattle.lists.specs.Rising.{Rising}
 use Rattle.lists.proofs.Bools.{same-bool}
-use Rattle.lists.proofs.Membership.{any-memb-in, any-memb-out}
 use Rattle.lists.proofs.Lowest.{lowest-passes, lowest-most}
 use Rattle.lists.proofs.Gather.{pick-in, pick-out, pick-rising}
 use Rattle.lists.proofs.Rising.{rising-same}
 use Rattle.model.specs.Flow.{settled}
-use Rattle.model.specs.Family.{Pairs, isPair, Joined, Family, familyNumber, linkFlow, familyOf, meets, WellFormed}
+use Rattle.model.specs.Family.{Pairs, isPair, Joined, Family, linkFlow, familyOf, WellFormed}
 use Rattle.model.proofs.Joined.{joined-refl, joined-trans, joined-sym, joined-pair}
 use Rattle.model.proofs.LinkFlow.{link-flow-iff}
-pub use Rattle.model.specs.Placing.{NumberOfFamily, Meet}
 
 same-family : (f g : Family) → f .timer ≡ g .timer → f .first ≡ g .first → f .locations ≡ g .locations → f ≡ g
 same-family f g t a l = λ i. record { timer = t i; first = a i; locations = l i }
@@ -50,15 +48,6 @@ module _ {p : Pairs} (formed : WellFormed p) (q j : ℕ) (pair : isPair p q j �
       let below : familyOf p q j .first < p .locations = omega (arith, first-least q (joined-refl q), formed .location q j pair) in
       link-flow-iff formed q j pair (familyOf p q j .first) below .0 (lowest-passes _ (p .locations) below)
 
-  pub family-number : NumberOfFamily p q j (familyNumber (familyOf p q j))
-  unfolding familyNumber
-  family-number = record {
-    location = familyOf p q j .first;
-    joined = first-joined;
-    is-its = rw (family-timer p q j) refl;
-    smallest = λ s a. rw (family-timer p q j) (let l = first-least s a in omega arith);
-  }
-
   pub family-rising : Rising (p .locations) 0 (familyOf p q j .locations)
   unfolding familyOf
   family-rising = pick-rising _ (p .locations)
@@ -76,16 +65,3 @@ module _ {p : Pairs} (formed : WellFormed p) {j : ℕ} where
     where
       pair′ : isPair p s j ≡ true
       pair′ = joined-pair formed a pair
-
--- the test of a common location is right
-pub meets-iff : {p : Pairs} → WellFormed p → (q j s k : ℕ) → isPair p q j ≡ true → isPair p s k ≡ true
-    → (meets (familyOf p q j) (familyOf p s k) ≡ true) ↔ Meet p q j s k
-unfolding meets
-meets-iff {p} formed q j s k pair pair′ = (
-  λ h.
-      let x = any-memb-out (λ y. memb y (familyOf p s k .locations)) (familyOf p q j .locations) h in
-      record { location = x .0; left = family-has formed q j pair (x .0) .0 (x .1); right = family-has formed s k pair′ (x .0) .0 (x .2) },
-  λ m.
-      any-memb-in (λ y. memb y (familyOf p s k .locations)) (m .location) (familyOf p q j .locations)
-      (family-has formed q j pair (m .location) .1 (m .left)) (family-has formed s k pair′ (m .location) .1 (m .right)),
-)

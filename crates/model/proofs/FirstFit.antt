@@ -1,10 +1,11 @@
--- First fit over any list of families: the rule in the document's words, how many numbers are used, and refusal 20 ("Live, born, family,
--- board number"). Hard: 20: all K numbers are held for a family exactly where the number that it is given is K or more. Assumes nothing.
+-- First fit over any list of families: which numbers are held, that each family has the smallest that is not, how many numbers are used, and refusal
+-- 20 ("Live, born, family, board number"). Hard: 20: all K numbers are held for a family exactly where the number that it is given is K or more.
+-- Assumes nothing.
 use mathlib.Core.Path.{_≡_, refl, sym, ap, _∙_, subst}
 use mathlib.Core.Logic.{_⊎_, inl, inr, _↔_}
 use mathlib.Core.Bool.{Bool, true, false, not, _||_, true≢false}
 use mathlib.Core.Option.{some, Option·none-ne-some, Option·some-injective}
-use mathlib.Core.List.{List, [], _∷_, _++_, map}
+use mathlib.Core.List.{List, [], _∷_, map}
 use Prim.Native.Nat.{ℕ, zero, suc, max, _≤_, _<_}
 use native.Mathlib.Omega.{arith}
 use lib.ListN.{getElem?}
@@ -15,7 +16,7 @@ use Rattle.lists.proofs.Membership.{memb-cases, memb-head, memb-tail, memb-nil,
 use Rattle.lists.proofs.Lowest.{lowest-passes, lowest-before, lowest-is}
 use Rattle.model.specs.Family.{Family, meets}
 use Rattle.model.specs.FirstFit.{Placed, held, free, place, usedBy, allHeld, blocked}
-pub use Rattle.model.specs.Placing.{HeldBy, FirstFitRule}
+pub use Rattle.model.specs.Placing.{HeldBy}
 
 -- ---- the smallest number that is not in a list
 
@@ -74,24 +75,6 @@ pub place-fitted : (fs : List Family) (ps : List Placed) → Fitted ps → Fitte
 unfolding place
 place-fitted [] ps a = a
 place-fitted (f ∷ fs) ps a = place-fitted fs (record { family = f; number = free (held f ps) } ∷ ps) (refl, a)
-
-fitted-at : (later : List Placed) (g : Placed) (earlier : List Placed) → Fitted (later ++ (g ∷ earlier)) → g .number ≡ free (held (g .family) earlier)
-fitted-at [] g earlier a = a .0
-fitted-at (h ∷ later) g earlier a = fitted-at later g earlier (a .1)
-
-pub first-fit-rule : (fs : List Family) → FirstFitRule (place fs [])
-first-fit-rule fs = record {
-  apart = λ later g earlier e i h n m s.
-      not-both (held-in (g .family) earlier i h n m)
-      (ap (λ (k : ℕ). memb k (held (g .family) earlier)) (s ∙ number later g earlier e) ∙ free-not-held (held (g .family) earlier));
-  smallest = λ later g earlier e k l.
-      held-out (g .family) k earlier
-      (free-least (held (g .family) earlier) k (subst (λ (x : ℕ). k < x) (number later g earlier e) l));
-}
-  where
-    number : (later : List Placed) (g : Placed) (earlier : List Placed) → place fs [] ≡ later ++ (g ∷ earlier)
-        → g .number ≡ free (held (g .family) earlier)
-    number later g earlier e = fitted-at later g earlier (subst (λ (x : List Placed). Fitted x) e (place-fitted fs [] tt))
 
 -- ---- how many numbers are used
 

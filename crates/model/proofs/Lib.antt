@@ -17,9 +17,13 @@ pub mod Families
 pub mod FamilyList
 pub mod PairNumbers
 pub mod PlacedOnce
+pub mod EarlierFamilies
 pub mod LivePairs
+pub mod FamilyNumbers
 pub mod BoardPlan
 pub mod UsedNumbers
+pub mod FirstFitShares
+pub mod SharingDetermined
 pub mod Answers
 pub mod Steps
 pub mod Rewritten

@@ -30,7 +30,7 @@ place-falling limit lo (f ∷ fs) ps h r a =
     place-falling limit (suc (familyNumber f)) fs (record { family = f; number = free (held f ps) } ∷ ps) (r .0 .1) (r .1)
     (omega arith, falling-wider lo (familyNumber f) ps (r .0 .0) a)
 
-falling-below : (limit : ℕ) (ps : List Placed) (i : ℕ) {g : Placed} → Falling limit ps → getElem? ps i ≡ some g → familyNumber (g .family) < limit
+pub falling-below : (limit : ℕ) (ps : List Placed) (i : ℕ) {g : Placed} → Falling limit ps → getElem? ps i ≡ some g → familyNumber (g .family) < limit
 falling-below limit [] i a e = absurd (Option·none-ne-some _ e)
 falling-below limit (h ∷ ps) zero a e = rw (ap (λ (x : Placed). familyNumber (x .family)) (Option·some-injective _ _ e)) at (a .0)
 falling-below limit (h ∷ ps) (suc i) a e = omega (arith, a .0, falling-below (familyNumber (h .family)) ps i (a .1) e)

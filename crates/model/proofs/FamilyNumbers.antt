@@ -1,0 +1,64 @@
+-- The family that is computed of a live pair is its family by chains of transitions: its locations, its number, which one is earlier, and which ones
+-- meet. Nothing is hard. Assumes nothing.
+use mathlib.Core.Path.{_≡_, refl}
+use mathlib.Core.Logic.{_↔_}
+use mathlib.Core.Bool.{true}
+use Prim.Native.Nat.{ℕ, _<_}
+use native.Mathlib.Omega.{arith}
+use Rattle.lists.specs.Lists.{memb}
+use Rattle.lists.proofs.Membership.{any-memb-in, any-memb-out}
+use Rattle.model.specs.Chart.{Chart}
+use Rattle.model.specs.Valid.{Valid}
+use Rattle.model.specs.Path.{Live}
+use Rattle.model.specs.Family.{livePairs, Family, familyNumber, familyOf, meets}
+use Rattle.model.specs.SharingRule.{SameFamily, FamilyNumber, Earlier, FamiliesMeet}
+use Rattle.model.proofs.Families.{family-timer, family-has, first-least, first-joined}
+use Rattle.model.proofs.LivePairs.{pair-live, live-pairs-formed, joined-iff}
+
+-- a family has one number
+pub number-unique : {c : Chart} {q j m n : ℕ} → FamilyNumber c q j m → FamilyNumber c q j n → m ≡ n
+number-unique a b = omega (arith, a .smallest (b .location) (b .same), b .smallest (a .location) (a .same))
+
+module _ {W : ℕ} {c : Chart} (valid : Valid W c) where
+  -- the family that is computed of a pair
+  abbrev family : ℕ → ℕ → Family
+  family q j = familyOf (livePairs c) q j
+
+  pub family-locations : (q j : ℕ) → Live c q j → (s : ℕ) → (memb s (family q j .locations) ≡ true) ↔ SameFamily c j q s
+  family-locations q j l s =
+      let has = family-has (live-pairs-formed valid) q j (pair-live valid q j .1 l) s in
+      (λ m. joined-iff valid j q s l .0 (has .0 m), λ a. has .1 (joined-iff valid j q s l .1 a))
+
+  pub family-number : (q j : ℕ) → Live c q j → FamilyNumber c q j (familyNumber (family q j))
+  unfolding familyNumber
+  family-number q j l = let pair = pair-live valid q j .1 l in record {
+    location = family q j .first;
+    same = joined-iff valid j q (family q j .first) l .0 (first-joined (live-pairs-formed valid) q j pair);
+    is-its = rw (family-timer (livePairs c) q j) refl;
+    smallest = λ s a. rw (family-timer (livePairs c) q j)
+        (omega (arith, first-least (live-pairs-formed valid) q j pair s (joined-iff valid j q s l .1 a)));
+  }
+
+  module _ (q j s i : ℕ) (l : Live c q j) (l′ : Live c s i) where
+    pub earlier-iff : (familyNumber (family s i) < familyNumber (family q j)) ↔ Earlier c s i q j
+    earlier-iff = (
+      λ h. record {
+        lower = familyNumber (family s i);
+        higher = familyNumber (family q j);
+        is-lower = family-number s i l′;
+        is-higher = family-number q j l;
+        rises = h;
+      },
+      λ e. omega (arith, number-unique (e .is-lower) (family-number s i l′), number-unique (e .is-higher) (family-number q j l), e .rises),
+    )
+
+    pub meets-iff : (meets (family q j) (family s i) ≡ true) ↔ FamiliesMeet c q j s i
+    unfolding meets
+    meets-iff = (
+      λ h.
+          let x = any-memb-out (λ y. memb y (family s i .locations)) (family q j .locations) h in
+          record { location = x .0; of-one = family-locations q j l (x .0) .0 (x .1); of-other = family-locations s i l′ (x .0) .0 (x .2) },
+      λ m.
+          any-memb-in (λ y. memb y (family s i .locations)) (m .location) (family q j .locations)
+          (family-locations q j l (m .location) .1 (m .of-one)) (family-locations s i l′ (m .location) .1 (m .of-other)),
+    )
