@@ -6,8 +6,8 @@ use mathlib.Core.Logic.{_⊎_, inl, inr, _↔_}
 use mathlib.Core.Bool.{Bool, true, false, not, _&&_}
 use mathlib.Core.Option.{some}
 use Prim.Native.Nat.{ℕ}
-use lib.ListN.{getD, getElem?}
-use Rattle.timer_set.specs.Members.{member, minus, common}
+use lib.ListN.{getElem?}
+use Rattle.timer_set.specs.Members.{member}
 use Rattle.timer_set.proofs.Members.{member-minus, member-common, member-setOf}
 use Rattle.lists.specs.Lists.{memb}
 use Rattle.lists.proofs.Bools.{not-true, and-left, and-right, and-both}
@@ -16,19 +16,19 @@ use Rattle.model.specs.Chart.{Transition, Chart}
 use Rattle.model.specs.Valid.{Valid}
 use Rattle.model.specs.Path.{Live}
 use Rattle.model.specs.Live.{startsSet, liveSets, live}
-use Rattle.model.specs.Family.{Link, isPair, livePairs, Linked, Joined, WellFormed, WellFormedLink}
+use Rattle.model.specs.Family.{Link, isPair, linkOf, livePairs, Linked, Joined, WellFormed, WellFormedLink}
 use Rattle.model.specs.SharingRule.{LiveLink, SameFamily}
 use Rattle.model.proofs.Transitions.{nth-valid}
 use Rattle.model.proofs.Paths.{live-inside}
 use Rattle.model.proofs.Joined.{chain-wider}
 use Rattle.model.proofs.LivePaths.{live-iff}
 
--- the timers that a transition links, and its link
-abbrev kept : Chart → Transition → ℕ
-kept c r = minus (common (getD (liveSets c) (r .source) 0) (getD (liveSets c) (r .target) 0)) (startsSet r)
-
+-- the link of a transition, and its timers
 abbrev link : Chart → Transition → Link
-link c r = record { one = r .source; other = r .target; timers = kept c r }
+link c r = linkOf (liveSets c) r
+
+abbrev kept : Chart → Transition → ℕ
+kept c r = link c r .timers
 
 module _ {W : ℕ} {c : Chart} (valid : Valid W c) where
   pub pair-live : (q j : ℕ) → (isPair (livePairs c) q j ≡ true) ↔ Live c q j

@@ -31,17 +31,21 @@ pub record Pairs : Type 0 where
 unfoldable pub isPair : Pairs → (q j : ℕ) → Bool
 isPair p q j = member (getD (p .sets) q 0) j
 
--- the pairs of a chart: the live timers of each location. A transition links the timers that it does not start and that are live at both ends.
+-- what a transition links: the timers that it does not start and that are live at both its ends
+abbrev pub linkOf : (live : List ℕ) → Transition → Link
+linkOf live r = record {
+  one = r .source;
+  other = r .target;
+  timers = minus (common (getD live (r .source) 0) (getD live (r .target) 0)) (startsSet r);
+}
+
+-- the pairs of a chart: the live timers of each location, linked by its transitions
 unfoldable pub livePairs : Chart → Pairs
-livePairs c = let sets = liveSets c in record {
+livePairs c = let live = liveSets c in record {
   locations = c .locations;
   timers = c .timers;
-  sets = sets;
-  links = map (λ (r : Transition). record {
-    one = r .source;
-    other = r .target;
-    timers = minus (common (getD sets (r .source) 0) (getD sets (r .target) 0)) (startsSet r);
-  }) (c .transitions);
+  sets = live;
+  links = map (linkOf live) (c .transitions);
 }
 
 -- ---- pairs that are well formed: their locations and timers are in range, and so are the links
