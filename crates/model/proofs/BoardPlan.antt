@@ -17,7 +17,8 @@ use Rattle.model.specs.FirstFit.{firstFit, usedBy, numberAt, blocked, bo
 use Rattle.model.specs.Rewrite.{numbering, newStarts}
 use Rattle.model.specs.Plan.{Plan}
 use Rattle.model.proofs.Paths.{live-here, live-back, live-unstarted}
-pub use Rattle.model.proofs.LivePairs.{pair-live, live-pairs-formed, linked-iff}
+pub use Rattle.model.proofs.LivePairs.{pair-live, live-pairs-formed}
+use Rattle.model.proofs.LivePairs.{linked-iff}
 use Rattle.model.proofs.FirstFit.{blocked-iff}
 use Rattle.model.proofs.NumberAt.{number-below}
 use Rattle.model.proofs.PairNumbers.{number-of-pair, number-pair, linked-same, apart, below}

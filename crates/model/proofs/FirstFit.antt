@@ -78,10 +78,6 @@ place-fitted (f ∷ fs) ps a = place-fitted fs (record { family = f; number = fr
 
 -- ---- how many numbers are used
 
-pub used-none : usedBy [] ≡ 0
-unfolding usedBy top
-used-none = refl
-
 pub used-above : (ps : List Placed) (i : ℕ) (g : Placed) → getElem? ps i ≡ some g → g .number < usedBy ps
 unfolding usedBy
 used-above ps i g e = top-above _ (g .number) (nth-memb _ i (nth-map (λ (g : Placed). g .number) ps i e))

@@ -1,8 +1,8 @@
--- The sharing rule determines the numbers: two numberings that keep it are equal. Hard: by induction over the family numbers. If a family had a
--- smaller number in the one than in the other, an earlier family that it meets would hold that number in the other, so, numbered alike already, in
--- the one too. Assumes nothing.
+-- What the sharing rule says of the numberings that keep it: families that meet have different numbers, and there is only one such numbering. Hard:
+-- two of them are equal by induction over the family numbers. If a family had a smaller number in the one than in the other, an earlier family that
+-- it meets would hold that number in the other, so, numbered alike already, in the one too. Assumes nothing.
 use mathlib.Core.Path.{_≡_, refl, sym, ap, _∙_}
-use mathlib.Core.Logic.{_⊎_, inl, inr}
+use mathlib.Core.Logic.{⊎-elim}
 use mathlib.Core.Option.{Option, none, some}
 use Prim.Native.Nat.{ℕ, zero, suc, _≤_, _<_}
 use native.Mathlib.Nat.{le-antisymm, lt-suc-self}
@@ -13,8 +13,35 @@ use Rattle.model.specs.Valid.{Valid}
 use Rattle.model.specs.Path.{Live}
 use Rattle.model.specs.Rewrite.{Numbering}
 use Rattle.model.specs.Plan.{Has}
-use Rattle.model.specs.SharingRule.{FamilyNumber, SharingRule}
+use Rattle.model.specs.SharingRule.{SameFamily, FamilyNumber, Earlier, FamiliesMeet, HeldEarlier, SharingRule}
+use Rattle.model.proofs.Paths.{live-inside}
+use Rattle.model.proofs.Joined.{joined-trans, joined-sym}
+use Rattle.model.proofs.LivePairs.{joined-iff}
 use Rattle.model.proofs.FamilyNumbers.{number-unique, family-number}
+
+-- a family that is met and has the same number is not an earlier one
+not-earlier : {c : Chart} {N : Numbering} → SharingRule c N → {q j s i k a b : ℕ} → FamiliesMeet c q j s i → Has N q j k → Has N s i k
+    → FamilyNumber c q j a → FamilyNumber c s i b → a ≤ b
+not-earlier {c} {N} rule {q} {j} {s} {i} {k} {a} {b} m e e′ f g = ⊎-elim (λ l. absurd (rule .free q j k e (held l))) (λ l. l) (lt-or-le b a)
+  where
+    held : b < a → HeldEarlier c N q j k
+    held l =
+        let earlier : Earlier c s i q j = record { lower = b; higher = a; is-lower = g; is-higher = f; rises = l } in
+        record { location = s; timer = i; earlier = earlier; meet = m; number = e′ }
+
+-- pairs that have one number, of families that meet, are of one family
+pub meeting-apart : {W : ℕ} {c : Chart} → Valid W c → {N : Numbering} → SharingRule c N → (q j s i k : ℕ) → FamiliesMeet c q j s i
+    → Has N q j k → Has N s i k → (j ≡ i) × SameFamily c j q s
+meeting-apart {c = c} valid rule q j s i k m e e′ =
+    let l = m .of-one .pair in
+    let l′ = m .of-other .pair in
+    let f = family-number valid q j l in
+    let g = family-number valid s i l′ in
+    let turned : FamiliesMeet c s i q j = record { location = m .location; of-one = m .of-other; of-other = m .of-one } in
+    let same = le-antisymm (not-earlier rule m e e′ f g) (not-earlier rule turned e′ e g f) in
+    let t : j ≡ i = omega (arith, same, f .is-its, g .is-its, live-inside valid l .timer, live-inside valid l′ .timer, valid .few-timers) in
+    let way = joined-iff valid i s (m .location) l′ .1 (m .of-other) in
+    (t, joined-iff valid j q s l .0 (joined-trans (joined-iff valid j q (m .location) l .1 (m .of-one)) (joined-sym (rw (sym t) at way))))
 
 -- the two number the families below the limit alike
 abbrev AlikeBelow : Chart → ℕ → Numbering → Numbering → Type 0
@@ -23,15 +50,13 @@ AlikeBelow c limit N M = (q j n : ℕ) → FamilyNumber c q j n → n < limit �
 -- then the next one's number in M is at most that in N
 next-most : {c : Chart} {N M : Numbering} → SharingRule c N → SharingRule c M → (q j n k m : ℕ) → FamilyNumber c q j n → AlikeBelow c n N M
     → Has N q j k → Has M q j m → m ≤ k
-next-most {c} {N} {M} a b q j n k m f alike e e′ = go (lt-or-le k m)
+next-most {c} {N} {M} a b q j n k m f alike e e′ = ⊎-elim (λ l. absurd (a .free q j k e (held (b .smallest q j m k e′ l)))) (λ l. l) (lt-or-le k m)
   where
-    go : (k < m) ⊎ (m ≤ k) → m ≤ k
-    go (inl l) =
-        let h = b .smallest q j m k e′ l in
+    held : HeldEarlier c M q j k → HeldEarlier c N q j k
+    held h =
         let x = h .earlier in
         let same = alike (h .location) (h .timer) (x .lower) (x .is-lower) (omega (arith, number-unique (x .is-higher) f, x .rises)) in
-        absurd (a .free q j k e (record { location = h .location; timer = h .timer; earlier = x; meet = h .meet; number = same ∙ h .number }))
-    go (inr l) = l
+        record { location = h .location; timer = h .timer; earlier = x; meet = h .meet; number = same ∙ h .number }
 
 alike-below : {c : Chart} {N M : Numbering} → SharingRule c N → SharingRule c M → (limit : ℕ) → AlikeBelow c limit N M
 alike-below a b zero q j n f l = absurd (omega arith)
@@ -39,9 +64,9 @@ alike-below {c} {N} {M} a b (suc limit) q j n f l =
     let before : AlikeBelow c n N M = λ s i o g h. alike-below a b limit s i o g (omega arith) in
     let x = a .numbered q j (f .same .pair) in
     let y = b .numbered q j (f .same .pair) in
-    let same : x .0 ≡ y .0 = le-antisymm (next-most b a q j n (y .0) (x .0) f (λ s i o g h. sym (before s i o g h)) (y .1) (x .1))
-    (next-most a b q j n (x .0) (y .0) f before (x .1) (y .1)) in
-    x .1 ∙ ap (λ (k : ℕ). some k) same ∙ sym (y .1)
+    let most = next-most a b q j n (x .0) (y .0) f before (x .1) (y .1) in
+    let least = next-most b a q j n (y .0) (x .0) f (λ s i o g h. sym (before s i o g h)) (y .1) (x .1) in
+    x .1 ∙ ap (λ (k : ℕ). some k) (le-antisymm least most) ∙ sym (y .1)
 
 -- then no more numbers are used
 used-most : {c : Chart} {N M : Numbering} → SharingRule c N → SharingRule c M → ((q j : ℕ) → M .number q j ≡ N .number q j)

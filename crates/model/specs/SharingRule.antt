@@ -23,7 +23,7 @@ pub record LiveLink (c : Chart) (j q s : ℕ) : Type 0 where
   pub live-one : Live c q j
   pub live-other : Live c s j
 
--- (s, j) is of the family of the pair (q, j): a chain of links joins them
+-- (s, j) is of the family of the pair (q, j): a chain of links joins them, over the locations of the way
 pub record SameFamily (c : Chart) (j q s : ℕ) : Type 0 where
   pub pair : Live c q j
   pub way : List ℕ
@@ -58,7 +58,7 @@ pub record HeldEarlier (c : Chart) (N : Numbering) (q j k : ℕ) : Type 0 where
   pub meet : FamiliesMeet c q j location timer
   pub number : Has N location timer k
 
--- the rule
+-- the rule: N numbers the pairs as document 01 says
 pub record SharingRule (c : Chart) (N : Numbering) : Type 0 where
   -- every pair has a number
   pub numbered : (q j : ℕ) → Live c q j → (k : ℕ) × Has N q j k
@@ -66,7 +66,7 @@ pub record SharingRule (c : Chart) (N : Numbering) : Type 0 where
   pub live : (q j k : ℕ) → Has N q j k → Live c q j
   -- the pairs of a family have one number
   pub one-number : (q s j k : ℕ) → SameFamily c j q s → Has N q j k → Has N s j k
-  -- no earlier family that it meets holds it
+  -- no earlier family that the pair's family meets holds its number
   pub free : (q j k : ℕ) → Has N q j k → HeldEarlier c N q j k → ⊥
   -- and each smaller number is held by such a one
   pub smallest : (q j k m : ℕ) → Has N q j k → m < k → HeldEarlier c N q j m
