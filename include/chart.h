@@ -87,6 +87,33 @@ typedef struct chart_playing {
     uint64_t accepting;
 } chart_playing;
 
+/* The answers as the library lays them out: fields of 8 bytes, one after the other. */
+#ifdef __cplusplus
+#define CHART_ASSERT static_assert
+#else
+#define CHART_ASSERT _Static_assert
+#endif
+#define CHART_FIELD(type, field, offset) \
+    CHART_ASSERT(offsetof(type, field) == (offset) && sizeof(((type *)0)->field) == 8, #type "." #field)
+CHART_FIELD(chart_analysis, number, 0);
+CHART_FIELD(chart_analysis, place, 8);
+CHART_FIELD(chart_analysis, used, 16);
+CHART_FIELD(chart_analysis, floor, 24);
+CHART_ASSERT(sizeof(chart_analysis) == 32, "chart_analysis");
+CHART_FIELD(chart_rewriting, number, 0);
+CHART_FIELD(chart_rewriting, place, 8);
+CHART_FIELD(chart_rewriting, used, 16);
+CHART_FIELD(chart_rewriting, length, 24);
+CHART_ASSERT(sizeof(chart_rewriting) == 32, "chart_rewriting");
+CHART_FIELD(chart_playing, number, 0);
+CHART_FIELD(chart_playing, place, 8);
+CHART_FIELD(chart_playing, location, 16);
+CHART_FIELD(chart_playing, time, 24);
+CHART_FIELD(chart_playing, accepting, 32);
+CHART_ASSERT(sizeof(chart_playing) == 40, "chart_playing");
+#undef CHART_FIELD
+#undef CHART_ASSERT
+
 /* Analyses a chart file. Writes the live set of each location into live, location 0 first, timer j at bit j.
  * live needs one entry for each location, CHART_MOST_LOCATIONS are always enough; entries beyond the locations are untouched.
  * Refusals: 1 to 10, 21. */

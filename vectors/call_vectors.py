@@ -13,12 +13,13 @@ ANALYSE, REWRITE, PLAY = [], [], []
 
 
 def chart(locations, timers, arrows, initial=0, accepting=None):
-    """A version 1 file. An arrow: source, target, started timers, tests (timer, code, constant). The last location accepts unless said."""
+    """A version 1 file. An arrow: source, target, started timers, tests (timer, code, constant), event if not 0. The last location accepts unless
+    said."""
     accepting = [locations - 1] if accepting is None else accepting
     n = lambda v, w: v.to_bytes(w, 'big')
     body = n(locations, 2) + n(initial, 2) + n(timers, 1) + n(len(accepting), 2) + b''.join(n(q, 2) for q in accepting) + n(len(arrows), 2)
-    for source, target, starts, tests in arrows:
-        record = n(source, 2) + n(target, 2) + n(0, 1) + n(len(starts), 1) + bytes(starts) + n(len(tests), 1)
+    for source, target, starts, tests, *event in arrows:
+        record = n(source, 2) + n(target, 2) + n(sum(event), 1) + n(len(starts), 1) + bytes(starts) + n(len(tests), 1)
         record += b''.join(n(j, 1) + n(code, 1) + n(k, 2) for j, code, k in tests)
         body += n(len(record), 2) + record
     return n(1, 1) + n(len(body), 4) + body
@@ -107,6 +108,19 @@ rewrite('11 comes before 21', A, 65, 0, 'refused 11 65535 changed 0')
 rewrite('used 65 does not fit 64', OVER_64, 64, 65536, 'refused 20 65535 changed 0')
 rewrite('the chart of one location', SMALL, 0, 14, rewritten(0, SMALL, 14))
 rewrite('a file cut', B[:-1], 16, 65536, 'refused 1 65535 changed 0')
+
+# Events are kept. Timer 0 is live nowhere; timer 2 is live at location 1 and has number 0 there; timer 1 is started where it is not live.
+rewrite('events 7, 255 and 1, starts left out, timers changed',
+        chart(3, 3, [(0, 1, [0, 2], [], 7), (1, 1, [2], [(2, AT_LEAST, 3)], 255), (1, 2, [1], [(2, BELOW, 300)], 1)]), 1, 65536,
+        rewritten(1, bytes.fromhex('01 00000030 0003 0000 01 0001 0002 0003 0008 0000 0001 07 01 00 00'
+                                   '000c 0001 0001 ff 01 00 01 00 02 0003 000b 0001 0002 01 00 01 00 01 012c'), 65536))
+# Timer 1 is live from location 1 on and has number 0, timer 0 from location 2 on and has 1; the last transition's starts still rise.
+rewrite('events 200, 0 and 128, two timers with one another\'s numbers',
+        chart(3, 2, [(0, 1, [1], [], 200), (1, 2, [0], []), (2, 2, [0, 1], [(0, AT_MOST, 5), (1, EQUAL, 6)], 128)]), 2, 65536,
+        rewritten(2, bytes.fromhex('01 00000032 0003 0000 02 0001 0002 0003 0008 0000 0001 c8 01 00 00 0008 0001 0002 00 01 01 00'
+                                   '0011 0002 0002 80 02 00 01 02 01 00 0005 00 04 0006'), 65536))
+rewrite('event 255 of a transition that loses its start', chart(1, 1, [(0, 0, [0], [], 255)]), 0, 65536,
+        rewritten(0, bytes.fromhex('01 00000014 0001 0000 00 0001 0000 0001 0007 0000 0000 ff 00 00'), 65536))
 
 
 # counts, then steps (transition, time); the transitions and times of `extra` are appended to one list only

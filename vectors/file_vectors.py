@@ -1,10 +1,12 @@
 """Vectors for the reader and the writer of chart files. The expected lines are written from document 01, not taken from a run.
 
 Each read vector: a comment, the nine lists' lengths (or LARGEST), the file's bytes, the expected lines. Each write vector: a comment, the header,
-the nine lists, the room, the expected lines. `vectors/make` turns them into input and expected output of crates/vectors.
+the nine lists, the room, the expected lines. Each count vector: a comment, three positions, what stands at the front of the nine lists, the expected
+lines. `vectors/make` turns them into input and expected output of crates/vectors.
 
 What the program prints:
   a refusal:  refused N P changed C        C: entries of lent lists, or bytes of the lent buffer, that are not as they were
+  a count:    changed C                    the same count of given lists: of accepting locations, of transitions, of tests, each from its position on
   a chart:    locations L initial Q timers T accepting N E E .. transitions M beyond C
               S>T event E starts W tests G J:C:K ..     for transitions 0 to 3 and the last one (of accepting locations likewise 0 to 3 and the last)
               written LEN HEX next HH                   the same chart written again: the bytes (the last 8 if over 64), and the byte after them
@@ -25,6 +27,7 @@ LARGEST = [256, 512, 512, 512, 512, 512, 4096, 4096, 4096]
 NOWHERE = 'refused %d 65535 changed 0'
 READ = []
 WRITE = []
+COUNT = []
 
 
 def read(comment, data, lines, room=LARGEST):
@@ -142,6 +145,13 @@ read('the largest file, 54,286 bytes', BIG,
      ['locations 256 initial 255 timers 64 accepting 256 0 1 2 3 255 transitions 512 beyond 0'] + [BIG_LINE] * 5 + ['written 54286 3f04ffff3f04ffff next aa'])
 read('the largest file and one byte', framed(BIG[5:] + h('00')), 'refused 3 65535 changed 0')
 
+# ---- events: any byte, kept
+EVENTS = framed(h('0002 0000 00 0001 0001 0004 0007 0000 0001 07 00 00 0007 0001 0000 ff 00 00 0007 0001 0001 01 00 00 0007 0000 0000 80 00 00'))
+read('events 7, 255, 1 and 128', EVENTS,
+     ['locations 2 initial 0 timers 0 accepting 1 1 transitions 4 beyond 0', '0>1 event 7 starts 0 tests 0', '1>0 event 255 starts 0 tests 0',
+      '1>1 event 1 starts 0 tests 0', '0>0 event 128 starts 0 tests 0',
+      written(EVENTS)])
+
 # ---- 21: lists of exactly the needed length, then each one entry too short
 EXACT = [2, 2, 2, 2, 2, 2, 3, 3, 3]
 TWO = framed(h('0003 0001 02 0002 0000 0002 0002 000c 0000 0001 05 01 01 01 01 03 0102 000f 0001 0002 06 00 02 00 02 0003 01 04 0004'))
@@ -165,8 +175,10 @@ GOOD = (3, 1, 2, 2, 2)
 LISTS = [[0, 2], [0, 1], [1, 2], [5, 6], [2, 0], [1, 2], [1, 0, 1], [3, 2, 4], [258, 3, 4]]
 
 
-def but(k, entries):
-    return [entries if i == k else x for i, x in enumerate(LISTS)]
+def but(*others):
+    """LISTS with other entries in list k, and in further lists: k, entries, .."""
+    changes = dict(zip(others[::2], others[1::2]))
+    return [changes.get(k, entries) for k, entries in enumerate(LISTS)]
 
 
 write('the chart of two transitions', GOOD, LISTS, 65536, written(TWO))
@@ -192,9 +204,64 @@ write('accepting locations equal', GOOD, but(0, [1, 1]), 65536, 'refused 7 65535
 write('more accepting locations than locations', (3, 1, 2, 4, 2), but(0, [0, 1, 2, 2]), 65536, 'refused 7 65535 changed 0')
 write('code 5', GOOD, but(7, [3, 2, 5]), 65536, 'refused 8 1 changed 0')
 write('a bad source before a list that ends', GOOD, [[0, 2], [3, 1], [], [], [], [], [], [], []], 65536, 'refused 5 0 changed 0')
-write('a list that ends before a bad code', GOOD, [x if i != 3 else [] for i, x in enumerate(but(7, [5, 5, 5]))], 65536, 'refused 3 65535 changed 0')
-write('an early 8 before a late 6', GOOD, [x if i != 4 else [2, 4] for i, x in enumerate(but(7, [5, 2, 4]))], 65536, 'refused 8 0 changed 0')
+write('a list that ends before a bad code', GOOD, but(3, [], 7, [5, 5, 5]), 65536, 'refused 3 65535 changed 0')
+write('an early 8 before a late 6', GOOD, but(4, [2, 4], 7, [5, 2, 4]), 65536, 'refused 8 0 changed 0')
+write('no location, so that no initial one is below', (0, 0, 2, 2, 2), LISTS, 65536, 'refused 4 65535 changed 0')
+write('257 locations before a bad initial one', (257, 257, 2, 2, 2), LISTS, 65536, 'refused 4 65535 changed 0')
+write('65 timers before a bad accepting location', (3, 1, 65, 2, 2), but(0, [0, 3]), 65536, 'refused 4 65535 changed 0')
+write('a bad accepting location before 513 transitions', (3, 1, 2, 2, 513), but(0, [0, 3]), 65536, 'refused 5 65535 changed 0')
+write('accepting locations equal before 513 transitions', (3, 1, 2, 2, 513), but(0, [1, 1]), 65536, 'refused 7 65535 changed 0')
+write('a list of accepting locations that ends before 513 transitions', (3, 1, 2, 2, 513), but(0, [0]), 65536, 'refused 3 65535 changed 0')
+write('513 transitions before a bad source', (3, 1, 2, 2, 513), but(1, [3, 1]), 65536, 'refused 4 65535 changed 0')
+write('a bad source before a list of targets that ends', GOOD, but(1, [0, 3], 2, [1]), 65536, 'refused 5 1 changed 0')
+write('a list of sources that ends before a bad target', GOOD, but(1, [0], 2, [1, 3]), 65536, 'refused 3 65535 changed 0')
+write('a bad target before a list of events that ends', GOOD, but(2, [1, 3], 3, [5]), 65536, 'refused 5 1 changed 0')
+write('a list of events that ends before a bad start', GOOD, but(3, [5], 4, [2, 4]), 65536, 'refused 3 65535 changed 0')
+write('a bad target before a bad start', GOOD, but(2, [3, 2], 4, [4, 0]), 65536, 'refused 5 0 changed 0')
+write('a bad start before a list of test counts that ends', GOOD, but(4, [2, 4], 5, [1]), 65536, 'refused 6 1 changed 0')
+write('a list of test counts that ends before the next bad start', GOOD, but(4, [2, 4], 5, []), 65536, 'refused 3 65535 changed 0')
+write('a bad start before 9 tests', GOOD, but(4, [4, 0], 5, [9, 2]), 65536, 'refused 6 0 changed 0')
+write('9 tests before the next bad start', GOOD, but(4, [2, 4], 5, [9, 2]), 65536, 'refused 4 0 changed 0')
+write('9 tests before a list of timers that ends', GOOD, but(5, [9, 2], 6, []), 65536, 'refused 4 0 changed 0')
+write('a list of timers that ends before a bad code', GOOD, but(6, [1, 0], 7, [3, 2, 5]), 65536, 'refused 3 65535 changed 0')
+write('6 and 8 in one test: the timer comes first', GOOD, but(6, [1, 0, 2], 7, [3, 2, 5]), 65536, 'refused 6 1 changed 0')
+write('a bad code before the next test of a bad timer', GOOD, but(6, [1, 0, 2], 7, [3, 5, 4]), 65536, 'refused 8 1 changed 0')
+write('a bad timer before a list of codes that ends', GOOD, but(6, [1, 0, 2], 7, [3, 2]), 65536, 'refused 6 1 changed 0')
+write('a bad code before a list of constants that ends', GOOD, but(7, [3, 2, 5], 8, [258, 3]), 65536, 'refused 8 1 changed 0')
+write('a list of constants that ends before the next bad code', GOOD, but(7, [3, 2, 5], 8, [258]), 65536, 'refused 3 65535 changed 0')
+for comment, header, lists, refusal in [
+        ('3', GOOD, but(8, [258, 3]), '3 65535'), ('4', (3, 1, 65, 2, 2), LISTS, '4 65535'), ('4, at a transition', GOOD, but(5, [1, 9]), '4 1'),
+        ('5', (3, 3, 2, 2, 2), LISTS, '5 65535'), ('5, at a transition', GOOD, but(2, [1, 3]), '5 1'), ('6', GOOD, but(6, [1, 0, 2]), '6 1'),
+        ('7', GOOD, but(0, [2, 0]), '7 65535'), ('8', GOOD, but(7, [3, 2, 5]), '8 1')]:
+    write(comment + ' comes before 21', header, lists, 20, 'refused %s changed 0' % refusal)
+write('events 7, 255, 1 and 128', (2, 0, 0, 1, 4), [[1], [0, 1, 1, 0], [1, 0, 1, 0], [7, 255, 1, 128], [0] * 4, [0] * 4, [], [], []], 65536,
+      written(EVENTS))
 write('all 64 timers started', (1, 0, 64, 0, 1), [[], [0], [0], [0], [2 ** 64 - 1], [0], [], [], []], 65536,
       'written 87 393a3b3c3d3e3f00 next aa')
 write('no room at all', (1, 0, 0, 0, 0), [[]] * 9, 0, 'refused 21 65535 changed 0')
 write('a chart of one location', (1, 0, 0, 0, 0), [[]] * 9, 14, 'written 14 0100000009000100000000000000 next --')
+
+
+# ---- the count of changed entries itself: positions in the list of accepting locations, in those of the transitions, in those of the tests
+def count(comment, positions, lists, changed):
+    COUNT.append((comment, positions, lists, ['changed %d' % changed]))
+
+
+WIDTHS = [2, 2, 2, 1, 8, 1, 1, 1, 2]
+AS_FILLED = [int.from_bytes(bytes([170]) * width, 'big') for width in WIDTHS]
+
+
+def only(k, entries):
+    return [entries if i == k else [] for i in range(9)]
+
+
+count('all as filled', (0, 0, 0), [[]] * 9, 0)
+count('entries as filled', (0, 0, 0), [[value] * 3 for value in AS_FILLED], 0)
+for k, (width, filled) in enumerate(zip(WIDTHS, AS_FILLED)):
+    count('list %d, an entry other in its lowest bit' % k, (0, 0, 0), only(k, [filled ^ 1]), 1)
+    count('list %d, an entry other in its highest bit' % k, (0, 0, 0), only(k, [filled, filled ^ 1 << 8 * width - 1]), 1)
+    count('list %d, entries before the position, at it and after it' % k, (2, 2, 2), only(k, [0, 0, 0, 0, filled, 0]), 3)
+for k in (0, 3, 4):
+    count('list %d, all of it' % k, (0, 0, 0), only(k, [0] * LARGEST[k]), LARGEST[k])
+count('1 to 9 entries of the nine lists', (0, 0, 0), [[0] * n for n in range(1, 10)], 45)
+count('the same from 1, 2 and 3 on: 0, then 0 1 2 3 4, then 4 5 6', (1, 2, 3), [[0] * n for n in range(1, 10)], 25)

@@ -1,8 +1,22 @@
-/* Analyses, rewrites for 16 timers and plays chart B of document 01, and prints the answers. */
+/* Analyses charts A and B of document 01, rewrites B for 16 timers and plays it, and prints the answers. */
 #include <inttypes.h>
 #include <stdio.h>
 
 #include "chart.h"
+
+/* A, 7 locations, 3 timers: 0→1 starts 0; 1→2 starts 1; 2→3 tests 0 at least 3, starts 2; 2→4 tests 1 at most 7, starts 2; 3→5 tests 1 below 9;
+ * 4→5 tests 0 equal 4; 5→6 tests 2 above 2. The bytes of charts/a.chart. */
+static const uint8_t A[] = {
+    1, 0, 0, 0, 98,                                 /* version, length of the rest */
+    0, 7, 0, 0, 3, 0, 1, 0, 6, 0, 7,                /* locations, initial, timers, accepting: 6; transitions */
+    0, 8, 0, 0, 0, 1, 0, 1, 0, 0,                   /* 0→1 */
+    0, 8, 0, 1, 0, 2, 0, 1, 1, 0,                   /* 1→2 */
+    0, 12, 0, 2, 0, 3, 0, 1, 2, 1, 0, 2, 0, 3,      /* 2→3 */
+    0, 12, 0, 2, 0, 4, 0, 1, 2, 1, 1, 0, 0, 7,      /* 2→4 */
+    0, 11, 0, 3, 0, 5, 0, 0, 1, 1, 1, 0, 9,         /* 3→5 */
+    0, 11, 0, 4, 0, 5, 0, 0, 1, 0, 4, 0, 4,         /* 4→5 */
+    0, 11, 0, 5, 0, 6, 0, 0, 1, 2, 3, 0, 2,         /* 5→6 */
+};
 
 /* B, 4 locations, 2 timers: 0→1 starts 0; 1→2 tests 0 at most 2, starts 1; 2→3 tests 1 at least 1. The bytes of charts/b.chart. */
 static const uint8_t B[] = {
@@ -18,11 +32,11 @@ static const uint8_t B[] = {
 /* What memory is filled with before it is lent. */
 enum { UNTOUCHED = 170 };
 
-static void analyse(size_t room) {
+static void analyse(const uint8_t *file, size_t length, size_t room) {
     uint64_t live[8];
     for (size_t q = 0; q < LENGTH(live); q++)
         live[q] = UNTOUCHED;
-    chart_analysis a = chart_analyse(B, sizeof B, live, room);
+    chart_analysis a = chart_analyse(file, length, live, room);
     if (a.number != CHART_NO_REFUSAL)
         printf("refused %" PRIu64 " %" PRIu64 "\n", a.number, a.place);
     else
@@ -59,12 +73,16 @@ static void play(const uint8_t *file, size_t length, const uint32_t *counts, siz
 }
 
 int main(void) {
-    analyse(8);
-    analyse(3);
+    analyse(A, sizeof A, 8);
+    analyse(B, sizeof B, 8);
+    analyse(B, sizeof B, 3);
 
     uint8_t board[64];
     rewrite(0, board, sizeof board);
     rewrite(CHART_MOST_TIMERS + 1, board, sizeof board);
+    /* 16 in their low bytes: K is judged whole */
+    rewrite(256 + 16, board, sizeof board);
+    rewrite(65536 + 16, board, sizeof board);
     rewrite(16, board, 1);
     size_t length = rewrite(16, board, sizeof board);
 

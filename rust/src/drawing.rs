@@ -34,6 +34,11 @@ impl Arrow {
         Arrow { source, target, ..Arrow::default() }
     }
 
+    pub fn event(mut self, event: u8) -> Self {
+        self.event = event;
+        self
+    }
+
     pub fn starts(mut self, timers: &[u8]) -> Self {
         self.starts = timers.to_vec();
         self

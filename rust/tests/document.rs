@@ -101,6 +101,28 @@ fn a_start_that_is_not_born_is_left_out() {
 }
 
 #[test]
+fn events_are_kept() {
+    // Timer 0 is live nowhere; timer 2 is live at location 1 and has number 0 there; timer 1 is started where it is not
+    // live.
+    let drawing = Drawing::new(
+        3,
+        3,
+        vec![
+            Arrow::new(0, 1).event(7).starts(&[0, 2]),
+            Arrow::new(1, 1).event(255).tests(2, AT_LEAST, 3).starts(&[2]),
+            Arrow::new(1, 2).event(1).tests(2, BELOW, 300).starts(&[1]),
+        ],
+    );
+    let expected = [
+        &[1, 0, 0, 0, 48, 0, 3, 0, 0, 1, 0, 1, 0, 2, 0, 3][..],
+        &[0, 8, 0, 0, 0, 1, 7, 1, 0, 0],
+        &[0, 12, 0, 1, 0, 1, 255, 1, 0, 1, 0, 2, 0, 3],
+        &[0, 11, 0, 1, 0, 2, 1, 0, 1, 0, 1, 1, 44],
+    ];
+    assert_eq!(rewritten(&drawing, 1), Ok(expected.concat()));
+}
+
+#[test]
 fn a_start_on_another_path_does_not_help() {
     let file = never_started().file();
     assert_eq!(analyse(&file, &mut [0; 2]), refused(10, 1));

@@ -25,8 +25,9 @@ fn analysis() {
 fn rewriting() {
     let mut out = [0xAA; 200];
     assert_eq!(rewrite(&chart_a().file(), 2, &mut out), Err(Refusal { number: 20, place: NOWHERE }));
-    assert_eq!(rewrite(&chart_a().file(), 65, &mut out), Err(Refusal { number: 11, place: NOWHERE }));
-    assert_eq!(rewrite(&chart_a().file(), u32::MAX, &mut out), Err(Refusal { number: 11, place: NOWHERE }));
+    for k in [65, 256 + 3, 65_536 + 3, u32::MAX] {
+        assert_eq!(rewrite(&chart_a().file(), k, &mut out), Err(Refusal { number: 11, place: NOWHERE }));
+    }
     assert_eq!(out, [0xAA; 200]);
     assert_eq!(rewrite(&chart_a().file(), 3, &mut out), Ok(Rewriting { used: 3, length: 103 }));
     assert_eq!(out[..103], chart_a().file());

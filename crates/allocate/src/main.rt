@@ -3,18 +3,15 @@ use libc::STDIN_FILENO;
 use libc::STDOUT_FILENO;
 use listing::LARGEST_INPUT;
 use listing::LARGEST_TEXT;
-use listing::Listed;
 
 // One byte more than an input may have is asked for, so that a longer input is seen.
 const ASKED: usize = LARGEST_INPUT + 1;
 
-// The buffer for the text holds every text.
+// The buffer holds every text, so that there is always one to write.
 fn main() {
     let mut input = [0u8; ASKED];
     let n = io::read_full(STDIN_FILENO, &mut input);
     let mut text = [0u8; LARGEST_TEXT];
-    let answer = listing::list(&input[..n], &mut text);
-    if let Listed::Text(length) = answer {
-        io::write_all(STDOUT_FILENO, &text[..length]);
-    }
+    let length = listing::put_text(&mut text, &input[..n]);
+    io::write_all(STDOUT_FILENO, &text[..length]);
 }

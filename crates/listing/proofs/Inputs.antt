@@ -10,10 +10,10 @@ use lib.Seq.{take-all, length-take-le}
 use borrow.Author.Tests.{le-leb}
 use Rattle.file_format.specs.Parse.{Bytes}
 use Rattle.lists.proofs.Bools.{lt-or-le}
-use Rattle.model.specs.Answer.{result, nowhere}
+use Rattle.model.specs.Answer.{nowhere}
 use Rattle.file_format.proofs.File.{reads-valid}
 use Rattle.judgement.proofs.Corollaries.{judged-result}
-use Rattle.listing.specs.Listing.{largestInput, largestText, accepted, answerText, textOf, listInto}
+use Rattle.listing.specs.Listing.{largestInput, largestText, accepted, answerText, textOf}
 use Rattle.listing.proofs.Fits.{refused-fits, chart-fits}
 use Rattle.listing.proofs.Accepted.{text-16, text-1}
 use Rattle.listing.proofs.Outcomes.{Outcome, outcome}
@@ -51,8 +51,3 @@ text-of-first input = go (lt-or-le largestInput (length input))
         let e : length (take (suc largestInput) input) ≡ suc largestInput = length-take-le (suc largestInput) input (omega arith) in
         text-16 (take (suc largestInput) input) (omega arith) ∙ sym (text-16 input l)
     go (inr l) = ap textOf (take-all (suc largestInput) input (omega arith))
-
--- with that much room the text is always given whole
-pub text-whole : (input : List ℕ) → Bytes input → listInto largestText input ≡ result (textOf input)
-unfolding listInto
-text-whole input b = rw (le-leb (length (textOf input)) largestText (text-fits input b))

@@ -5,7 +5,6 @@ pub mod Cells
 pub mod Fits
 pub mod ChartText
 pub mod Accepted
-pub mod Answers
 pub mod Inputs
 pub mod Outcomes
 pub mod Digits

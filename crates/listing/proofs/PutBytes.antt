@@ -3,10 +3,10 @@ use mathlib.Core.Path.{_≡_, refl, sym, ap, _∙_}
 use mathlib.Core.List.{List, [], _∷_, _++_}
 use Prim.Native.Nat.{ℕ, _+_, _-_, _≤_, _<_}
 use native.Mathlib.Omega.{arith}
-use lib.ListN.{length, take, drop, set, length-append}
+use lib.ListN.{length, drop, set, length-append}
 use borrow.Rule.Slice.PartMut.{midOf, putMid}
 use Rattle.chart_lists.specs.Lists.{put}
-use Rattle.chart_lists.proofs.Put.{put-nil, length-put, take-put, put-last}
+use Rattle.chart_lists.proofs.Put.{put-nil, length-put, put-last}
 use Rattle.chart_lists.proofs.Part.{put-part, mid-room}
 use Rattle.listing.specs.PutBytes.{PutBytes}
 
@@ -46,10 +46,7 @@ module _ {xs l out : List ℕ} {a : ℕ} (w : PutBytes xs l out a) where
   pub bytes-room : (n : ℕ) → a + n ≤ length l → n ≤ length (midOf a (length out - a) out)
   bytes-room n h = mid-room a out n (omega (arith, long (omega arith)))
 
-  -- they stand in front
-  pub bytes-front : take a out ≡ xs
-  bytes-front = ap (take a) (w .bytes-are) ∙ take-put xs l a (sym (w .size-is))
-
+  -- the part holds them
   pub bytes-cover : a ≤ length out
   unfolding put
   bytes-cover = omega (arith, w .size-is, ap length (w .bytes-are) ∙ length-append xs (drop (length xs) l))

@@ -6,16 +6,13 @@ use Prim.Native.Nat.{ℕ}
 use lib.Dec.{leb}
 use lib.ListN.{length}
 use Rattle.lists.specs.Lists.{gather}
-use Rattle.model.specs.Answer.{Answer, result, refused, then, unless, nowhere}
+use Rattle.model.specs.Answer.{Answer, result, refused, then, nowhere}
 use Rattle.model.specs.Chart.{Chart}
 use Rattle.model.specs.FirstFit.{board, floor}
 use Rattle.model.specs.Rewrite.{Numbering, numbering}
 use Rattle.model.specs.Judge.{fitted, rewriting}
 use Rattle.file_format.specs.File.{chartIn}
-use Rattle.refusal.specs.Refused.{refusedAs}
 use Rattle.listing.specs.Text.{decimal, space, lineFeed, refusedWord, usedWord, floorWord, limitWord, atWord, greater}
-use Rattle.listing.specs.declared.Listed.{Listed}
-use Rattle.listing.specs.declared.Listed.the-variants as listed
 
 -- the bytes that an input may have
 abbrev pub largestInput : ℕ
@@ -66,16 +63,3 @@ textOf (k ∷ file) = elim (leb (length (k ∷ file)) largestInput) [
   | false ↦ refusedText 16 nowhere
   | true ↦ answerText k (accepted k file)
 ]
-
--- 21 if the lent buffer is too short for the text
-unfoldable pub listInto : (room : ℕ) → List ℕ → Answer (List ℕ)
-listInto room input = let text = textOf input in unless (leb (length text) room) 21 nowhere (result text)
-
--- what is answered: the length of the text, or the refusal
-unfoldable pub listAnswer : (room : ℕ) → List ℕ → Answer ℕ
-listAnswer room input = then (listInto room input) (λ text. result (length text))
-
--- what an answer of the code means
-abbrev pub listedAs : Listed → Answer ℕ
-listedAs (listed.Text n) = result n
-listedAs (listed.Refused f) = refusedAs f

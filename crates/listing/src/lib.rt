@@ -1,10 +1,7 @@
 // The program's text from its whole input, in a lent buffer.
-ghost use mathlib.Core.Path.{_≡_};
 ghost use Prim.Native.Nat.{_≤_};
 ghost use lib.ListN.{length};
-ghost use Rattle.chart_lists.specs.Lists.{overwritten};
 ghost use Rattle.listing.specs.Listing.{largestText, accepted, answerText, textOf};
-ghost use Rattle.listing.specs.Listing.{listInto, listAnswer, listedAs};
 ghost use Rattle.listing.specs.PutBytes.{PutBytes};
 
 mod lines;
@@ -12,21 +9,13 @@ mod text;
 
 use crate::lines::put_chart;
 use crate::lines::put_refusal;
-use crate::text::put_word;
 use numbering::FileNumbered;
 use numbering::Limit;
-use refusal::Refusal;
 
 // The bytes that an input may have, and the bytes that hold every text.
 pub const LARGEST_INPUT: usize = 65536;
 
 pub const LARGEST_TEXT: usize = 131072;
-
-// The length of the text, or a refusal.
-pub enum Listed {
-    Text(usize),
-    Refused(Refusal),
-}
 
 // The text for a chart file and a board of so many timers.
 fn put_file(out: &mut [u8], limit: u8, file: &[u8]) -> usize
@@ -52,8 +41,8 @@ fn put_file(out: &mut [u8], limit: u8, file: &[u8]) -> usize
     }
 }
 
-// The text of the whole input.
-fn put_text(out: &mut [u8], input: &[u8]) -> usize
+// The text of the whole input over the front of a lent buffer that holds every text.
+pub fn put_text(out: &mut [u8], input: &[u8]) -> usize
     requires { ⌜ largestText ≤ length (now out) ⌝ }
     ensures { λ r. ⌜ PutBytes (textOf (now (input .entry))) (now (out .entry)) (now (out .exit)) r ⌝ }
 {
@@ -64,19 +53,4 @@ fn put_text(out: &mut [u8], input: &[u8]) -> usize
         return put_refusal(out, refusal::WRONG_LENGTH);
     }
     put_file(out, input[0], &input[1..])
-}
-
-// The text of the whole input over the front of the lent buffer, or 21.
-pub fn list(input: &[u8], out: &mut [u8]) -> Listed
-    ensures answer { λ r. ⌜ listedAs r ≡ listAnswer (length (now (out .entry))) (now (input .entry)) ⌝ }
-    ensures lent { λ _. ⌜
-        now (out .exit) ≡ overwritten (λ text. text) (listInto (length (now (out .entry))) (now (input .entry))) (now (out .entry)) ⌝ }
-{
-    let mut text = [0u8; LARGEST_TEXT];
-    let n = put_text(&mut text, input);
-    if out.len() < n {
-        return Listed::Refused(refusal::NO_ROOM);
-    }
-    put_word(out, &text[..n]);
-    Listed::Text(n)
 }

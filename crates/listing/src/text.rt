@@ -20,7 +20,7 @@ fn put_decimal(out: &mut [u8], n: u64) -> usize
 }
 
 // A word.
-pub fn put_word(out: &mut [u8], word: &[u8]) -> usize
+fn put_word(out: &mut [u8], word: &[u8]) -> usize
     requires { ⌜ length (now word) ≤ length (now out) ⌝ }
     ensures { λ r. ⌜ PutBytes (now (word .entry)) (now (out .entry)) (now (out .exit)) r ⌝ }
 {

@@ -63,6 +63,48 @@ fn show_read(answer: Read, lists: Lists) {
     }
 }
 
+// Shows how many entries of given lists are not as if they were lent and left alone, from the given positions on.
+pub fn count_changed(vector: &[u8], positions: &[u8]) {
+    let mut accepting = [FILLED16; MOST_LOCATIONS];
+    list16(field(vector, 2), &mut accepting);
+    let mut sources = [FILLED16; MOST_TRANSITIONS];
+    list16(field(vector, 3), &mut sources);
+    let mut targets = [FILLED16; MOST_TRANSITIONS];
+    list16(field(vector, 4), &mut targets);
+    let mut events = [FILLED8; MOST_TRANSITIONS];
+    list8(field(vector, 5), &mut events);
+    let mut starts = [FILLED64; MOST_TRANSITIONS];
+    list64(field(vector, 6), 0, &mut starts);
+    let mut test_counts = [FILLED8; MOST_TRANSITIONS];
+    list8(field(vector, 7), &mut test_counts);
+    let mut timers = [FILLED8; MOST_TESTS];
+    list8(field(vector, 8), &mut timers);
+    let mut codes = [FILLED8; MOST_TESTS];
+    list8(field(vector, 9), &mut codes);
+    let mut constants = [FILLED16; MOST_TESTS];
+    list16(field(vector, 10), &mut constants);
+    let lists = Lists {
+        accepting,
+        sources,
+        targets,
+        events,
+        starts,
+        test_counts,
+        timers,
+        codes,
+        constants,
+    };
+    show_changed(lists, positions);
+}
+
+fn show_changed(lists: Lists, positions: &[u8]) {
+    let a = count(positions, 0, MOST_LOCATIONS);
+    let n = count(positions, 1, MOST_TRANSITIONS);
+    let g = count(positions, 2, MOST_TESTS);
+    item(b"changed ", changed(lists, a, n, g) as u64);
+    end();
+}
+
 // How many entries are not as they were: from the a-th on in the list of accepting locations, from the n-th on in those of the transitions, and from
 // the g-th on in those of the tests.
 fn changed(lists: Lists, a: usize, n: usize, g: usize) -> usize {

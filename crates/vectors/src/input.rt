@@ -55,6 +55,13 @@ pub fn field<'a>(s: &'a [u8], k: usize) -> &'a [u8] {
     &s[from..to]
 }
 
+// Puts the bytes of a field into a list.
+pub fn list8(s: &[u8], list: &mut [u8]) {
+    for i in 0..least(s.len(), list.len()) {
+        list[i] = low8(byte(s, i));
+    }
+}
+
 // Puts the numbers of a field into a list, and answers the front that holds them.
 pub fn list16<'a>(s: &[u8], list: &'a mut [u16]) -> &'a mut [u16] {
     let n = least(s.len() >> 3, list.len());

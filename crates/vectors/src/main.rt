@@ -4,6 +4,7 @@
 // of fields: a letter, values, and then a file or lists.
 //   'r'  the lengths of the nine lists to lend; a file to read
 //   'w'  the header and the length of the buffer to lend; nine lists to write
+//   'c'  three positions; nine lists, from which on the changed entries are counted
 //   'a'  the length of the list to lend and the number of locations; a file to analyse
 //   'k'  the limit and the length of the buffer to lend; a file to rewrite
 //   'p'  how many steps of transition 0 at time 0 come first; a file, counts, transitions and times to play
@@ -35,6 +36,7 @@ fn run_vector(vector: &[u8]) {
     match low8(byte(field(vector, 0), 0)) {
         b'r' => charts::read(file, values),
         b'w' => charts::write(vector, values),
+        b'c' => charts::count_changed(vector, values),
         b'a' => calls::analyse(file, values),
         b'k' => calls::rewrite(file, values),
         b'p' => calls::play(file, values, vector),

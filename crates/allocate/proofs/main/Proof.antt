@@ -1,20 +1,10 @@
--- `main` is safe: the length that the listing answers is within the buffer. Assumes nothing.
-use mathlib.Core.Path.{sym, ap, _∙_}
-use Prim.Native.Nat.{_≤_}
-use native.Mathlib.Omega.{arith}
-use lib.ListN.{length}
+-- `main` is safe: its buffer holds every text, as `put_text` asks, so the text is within it. Assumes nothing.
+use mathlib.Core.Path.{sym}
 use lib.Seq.{length-take-le}
-use Rattle.listing.specs.Listing.{listedAs}
-use Rattle.listing.proofs.Answers.{listed-within}
+use Rattle.listing.proofs.PutBytes.{bytes-cover}
 use borrow.Author.Needs.{needs}
 use Rattle.allocate.proofs.main.Statement.{statement}
 use Rattle.allocate.proofs.main.Tie as tie
-
--- the part that is written out is within the buffer
-within : (c : tie.After-answer) → c .answer .given .0 .0 ≤ length (c .before .before .before .list .last .1 .0)
-within c =
-    let l = c .before .before .before .list in
-    omega (arith, listed-within _ _ (sym (ap listedAs (c .answer .given .1)) ∙ l .ensures .0), l .kept .1 .0)
 
 slice-aggregate-read-full : tie.Need-slice-aggregate-read-full
 slice-aggregate-read-full c = search needs
@@ -22,38 +12,29 @@ slice-aggregate-read-full c = search needs
 read-full-requires : tie.Need-read-full-requires
 read-full-requires c κs = search needs
 
+slice-aggregate-put-text : tie.Need-slice-aggregate-put-text
+slice-aggregate-put-text c = search needs
+
 array-share-prefix-input : tie.Need-array-share-prefix-input
 array-share-prefix-input c = search needs
 
-slice-aggregate-list : tie.Need-slice-aggregate-list
-slice-aggregate-list c = search needs
+slice-aggregate-put-text-2 : tie.Need-slice-aggregate-put-text-2
+slice-aggregate-put-text-2 c = search needs
 
-slice-aggregate-list-2 : tie.Need-slice-aggregate-list-2
-slice-aggregate-list-2 c = search needs
-
-list-requires : tie.Need-list-requires
-list-requires c κs = search needs
-
-enum-known-answer : tie.Need-enum-known-answer
-enum-known-answer c = search needs
+put-text-requires : tie.Need-put-text-requires
+put-text-requires c κs = search needs
 
 array-share-prefix-text : tie.Need-array-share-prefix-text
-array-share-prefix-text c = within (c .before)
+array-share-prefix-text c = bytes-cover (c .before .put-text .ensures)
 
 slice-aggregate-write-all : tie.Need-slice-aggregate-write-all
-slice-aggregate-write-all c = sym (length-take-le _ _ (within (c .before .before)))
+slice-aggregate-write-all c = sym (length-take-le _ _ (bytes-cover (c .before .before .put-text .ensures)))
 
 write-all-requires : tie.Need-write-all-requires
 write-all-requires c κs = search needs
 
-enum-told : tie.Need-enum-told
-enum-told c = search needs
-
 returns : tie.Need-returns
 returns c = search needs
-
-returns-2 : tie.Need-returns-2
-returns-2 c = search needs
 
 pub main-spec : {M : Type 1} → statement M
 main-spec =
@@ -61,14 +42,11 @@ main-spec =
     (tie.spec
     slice-aggregate-read-full
     read-full-requires
+    slice-aggregate-put-text
     array-share-prefix-input
-    slice-aggregate-list
-    slice-aggregate-list-2
-    list-requires
-    enum-known-answer
+    slice-aggregate-put-text-2
+    put-text-requires
     array-share-prefix-text
     slice-aggregate-write-all
     write-all-requires
-    enum-told
-    returns
-    returns-2)
+    returns)
