@@ -12,6 +12,6 @@ fn main() {
     let mut input = [0u8; ASKED];
     let n = io::read_full(STDIN_FILENO, &mut input);
     let mut text = [0u8; LARGEST_TEXT];
-    let length = listing::put_text(&mut text, &input[..n]);
+    let length = listing::list(&input[..n], &mut text);
     io::write_all(STDOUT_FILENO, &text[..length]);
 }

@@ -41,8 +41,8 @@ fn put_file(out: &mut [u8], limit: u8, file: &[u8]) -> usize
     }
 }
 
-// The text of the whole input over the front of a lent buffer that holds every text.
-pub fn put_text(out: &mut [u8], input: &[u8]) -> usize
+// The text of the whole input.
+fn put_text(out: &mut [u8], input: &[u8]) -> usize
     requires { ⌜ largestText ≤ length (now out) ⌝ }
     ensures { λ r. ⌜ PutBytes (textOf (now (input .entry))) (now (out .entry)) (now (out .exit)) r ⌝ }
 {
@@ -53,4 +53,11 @@ pub fn put_text(out: &mut [u8], input: &[u8]) -> usize
         return put_refusal(out, refusal::WRONG_LENGTH);
     }
     put_file(out, input[0], &input[1..])
+}
+
+// The text of the whole input over the front of the buffer, and its length. A buffer of this size holds every text, so that none is refused.
+pub fn list(input: &[u8], out: &mut [u8; LARGEST_TEXT]) -> usize
+    ensures { λ r. ⌜ PutBytes (textOf (now (input .entry))) (now (out .entry)) (now (out .exit)) r ⌝ }
+{
+    put_text(out, input)
 }

@@ -1,4 +1,4 @@
--- `main` is safe: its buffer holds every text, as `put_text` asks, so the text is within it. Assumes nothing.
+-- `main` is safe: the listing's buffer holds every text, so the text is within it. Assumes nothing.
 use mathlib.Core.Path.{sym}
 use lib.Seq.{length-take-le}
 use Rattle.listing.proofs.PutBytes.{bytes-cover}
@@ -12,23 +12,20 @@ slice-aggregate-read-full c = search needs
 read-full-requires : tie.Need-read-full-requires
 read-full-requires c κs = search needs
 
-slice-aggregate-put-text : tie.Need-slice-aggregate-put-text
-slice-aggregate-put-text c = search needs
-
 array-share-prefix-input : tie.Need-array-share-prefix-input
 array-share-prefix-input c = search needs
 
-slice-aggregate-put-text-2 : tie.Need-slice-aggregate-put-text-2
-slice-aggregate-put-text-2 c = search needs
+slice-aggregate-list : tie.Need-slice-aggregate-list
+slice-aggregate-list c = search needs
 
-put-text-requires : tie.Need-put-text-requires
-put-text-requires c κs = search needs
+list-requires : tie.Need-list-requires
+list-requires c κs = search needs
 
 array-share-prefix-text : tie.Need-array-share-prefix-text
-array-share-prefix-text c = bytes-cover (c .before .put-text .ensures)
+array-share-prefix-text c = bytes-cover (c .list .ensures)
 
 slice-aggregate-write-all : tie.Need-slice-aggregate-write-all
-slice-aggregate-write-all c = sym (length-take-le _ _ (bytes-cover (c .before .before .put-text .ensures)))
+slice-aggregate-write-all c = sym (length-take-le _ _ (bytes-cover (c .before .list .ensures)))
 
 write-all-requires : tie.Need-write-all-requires
 write-all-requires c κs = search needs
@@ -42,10 +39,9 @@ main-spec =
     (tie.spec
     slice-aggregate-read-full
     read-full-requires
-    slice-aggregate-put-text
     array-share-prefix-input
-    slice-aggregate-put-text-2
-    put-text-requires
+    slice-aggregate-list
+    list-requires
     array-share-prefix-text
     slice-aggregate-write-all
     write-all-requires
