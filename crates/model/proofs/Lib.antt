@@ -18,6 +18,7 @@ pub mod FamilyList
 pub mod PairNumbers
 pub mod PlacedOnce
 pub mod BoardPlan
+pub mod UsedNumbers
 pub mod Answers
 pub mod Steps
 pub mod Rewritten

@@ -1,6 +1,6 @@
 -- The numbers that first fit gives to pairs: each pair has the number of its family, and nothing else has one; linked pairs have one number,
 -- two timers of a location have two. Hard: that a placed family which has the pair is the pair's own. Assumes nothing.
-use mathlib.Core.Path.{_≡_, sym, ap, _∙_, subst}
+use mathlib.Core.Path.{_≡_, refl, sym, ap, _∙_, subst}
 use mathlib.Core.Logic.{_⊎_, inl, inr}
 use mathlib.Core.Bool.{true}
 use mathlib.Core.Option.{some, Option·none-ne-some}
@@ -47,6 +47,12 @@ module _ {p : Pairs} (formed : WellFormed p) where
   has-whole f q j a h =
       let x = has-joined f q j a h in
       a .whole ∙ ap (λ (i : ℕ). familyOf p (f .first) i) (has-timer f q j h) ∙ family-same formed (x .0) (x .1)
+
+  -- and it has the pair of its first
+  pub has-first : (f : Family) → FamilyOfPair p f → has f (f .first) (f .timer) ≡ true
+  has-first f a =
+      has-pair f (f .first) (f .timer) refl
+      (ap (λ (g : Family). memb (f .first) (g .locations)) (a .whole) ∙ family-has formed (f .first) (f .timer) (a .pair) (f .first) .1 (joined-refl _))
 
   pub number-of-pair : (q j : ℕ) → isPair p q j ≡ true → (k : ℕ) × (numberAt (firstFit p) q j ≡ some k)
   unfolding firstFit
