@@ -1,14 +1,14 @@
 -- The largest file that the reader accepts is that of the full chart. Hard: only that no list of 512 transitions is made: their laws are shown for
 -- any number of equal ones. Assumes nothing.
 use mathlib.Core.Path.{_≡_, subst}
-use mathlib.Core.List.{List, [], _∷_, map}
+use mathlib.Core.List.{List}
 use Prim.Native.Nat.{ℕ, zero, suc, _+_, _*_, _≤_}
 use native.Mathlib.Nat.{one-le-pow}
 use native.Mathlib.Omega.{arith}
 use lib.ListN.{length, replicate, length-replicate}
-use Rattle.lists.specs.Lists.{sumOf, gather, upTo}
-use Rattle.lists.specs.Rising.{Rising, All}
-use Rattle.lists.proofs.Gather.{length-upTo, rising-append}
+use Rattle.lists.specs.Rising.{All}
+use Rattle.lists.proofs.Gather.{length-upTo, upTo-rising}
+use Rattle.lists.proofs.Sums.{sum-replicate}
 use Rattle.model.specs.Valid.{ValidTest, ValidTransition, Valid}
 use Rattle.file_format.specs.Body.{recordLength}
 use Rattle.file_format.specs.File.{fileOf}
@@ -16,22 +16,9 @@ use Rattle.file_format.specs.Lengths.{transitionLength, bodyLength, file
 use Rattle.file_format.proofs.Lengths.{length-file, largest-file}
 use Rattle.file_format.proofs.File.{chart-survives, file-survives, reads-valid}
 
--- the numbers below n rise
-upTo-rising : (n : ℕ) → Rising n 0 (upTo (λ i. i) n)
-unfolding upTo gather
-upTo-rising zero = tt
-upTo-rising (suc n) = rising-append (suc n) 0 n (upTo (λ i. i) n) (n ∷ []) (upTo-rising n) (omega arith) (omega arith) ((omega arith, omega arith), tt)
-
--- n times the same
-module _ {A : Type 0} (a : A) where
-  all-same : (P : A → Type 0) → P a → (n : ℕ) → All P (replicate n a)
-  all-same P p zero = tt
-  all-same P p (suc n) = (p, all-same P p n)
-
-  sum-equal : (f : A → ℕ) (n : ℕ) → sumOf (map f (replicate n a)) ≡ n * f a
-  unfolding sumOf
-  sum-equal f zero = omega arith
-  sum-equal f (suc n) = omega (arith, sum-equal f n)
+all-same : {A : Type 0} (P : A → Type 0) (a : A) → P a → (n : ℕ) → All P (replicate n a)
+all-same P a p zero = tt
+all-same P a p (suc n) = (p, all-same P a p n)
 
 module _ (W : ℕ) where
   full-transition : ValidTransition W 256 64 fullTransition
@@ -42,7 +29,7 @@ module _ (W : ℕ) where
     event = omega arith;
     starts = upTo-rising 64;
     few-tests = omega arith;
-    tests = all-same _ (ValidTest W 64) (record { timer = omega arith; constant = one-le-pow W 256 (omega arith) }) 8;
+    tests = all-same (ValidTest W 64) _ (record { timer = omega arith; constant = one-le-pow W 256 (omega arith) }) 8;
   }
 
   full-valid : Valid W fullChart
@@ -54,12 +41,12 @@ module _ (W : ℕ) where
     few-timers = omega arith;
     accepting = upTo-rising 256;
     few-transitions = omega (arith, length-replicate 512 fullTransition);
-    transitions = all-same fullTransition (ValidTransition W 256 64) full-transition 512;
+    transitions = all-same (ValidTransition W 256 64) fullTransition full-transition 512;
   }
 
   full-length : fileLength W fullChart ≡ 46094 + 4096 * W
   unfolding fullChart fullTransition fileLength bodyLength transitionLength recordLength
-  full-length = omega (arith, length-upTo (λ q. q) 256, length-upTo (λ j. j) 64, sum-equal fullTransition (transitionLength W) 512)
+  full-length = omega (arith, length-upTo (λ q. q) 256, length-upTo (λ j. j) 64, sum-replicate (transitionLength W) fullTransition 512)
 
 pub largest-accepted : LargestFile largestFile
 unfolding fileOf

@@ -52,7 +52,8 @@ module _ {p : Pairs} (formed : WellFormed p) where
   pub has-first : (f : Family) → FamilyOfPair p f → has f (f .first) (f .timer) ≡ true
   has-first f a =
       has-pair f (f .first) (f .timer) refl
-      (ap (λ (g : Family). memb (f .first) (g .locations)) (a .whole) ∙ family-has formed (f .first) (f .timer) (a .pair) (f .first) .1 (joined-refl _))
+      (ap (λ (g : Family). memb (f .first) (g .locations)) (a .whole)
+      ∙ family-has formed (f .first) (f .timer) (a .pair) (f .first) .1 (joined-refl (f .first)))
 
   pub number-of-pair : (q j : ℕ) → isPair p q j ≡ true → (k : ℕ) × (numberAt (firstFit p) q j ≡ some k)
   unfolding firstFit

@@ -1,10 +1,10 @@
 -- What the rewriting returns, part by part: every transition and every test in its place. Nothing is hard: a tested timer is live where it is
 -- tested, so it has a number there and no test is left out. Assumes nothing.
 use mathlib.Core.Path.{_≡_, refl, sym, ap, subst, _∙_}
-use mathlib.Core.Option.{some}
-use mathlib.Core.List.{List, [], _∷_, map, filterMap}
-use Prim.Native.Nat.{ℕ, suc}
-use lib.ListN.{getElem?}
+use mathlib.Core.List.{List, [], _∷_, filterMap}
+use Prim.Native.Nat.{ℕ}
+use Rattle.lists.specs.Elements.{Each}
+use Rattle.lists.proofs.Nth.{each-map}
 use Rattle.model.specs.Answer.{result}
 use Rattle.model.specs.Chart.{Test, Transition, Chart, Nth}
 use Rattle.model.specs.Valid.{Valid}
@@ -21,14 +21,9 @@ use Rattle.file_format.specs.Parse.{Bytes}
 use Rattle.file_format.specs.File.{chartIn}
 use Rattle.file_format.proofs.File.{reads-valid}
 use Rattle.rewriting.specs.Rewriting.{rewriteInto}
-use Rattle.rewriting.specs.Returned.{Each, RewrittenTest, RewrittenTransition, RewrittenChart}
+use Rattle.rewriting.specs.Returned.{RewrittenTest, RewrittenTransition, RewrittenChart}
 use Rattle.rewriting.proofs.Board.{tests-numbered}
 use Rattle.rewriting.proofs.Fits.{rewriting-of}
-
-each-map : {A B : Type 0} (R : A → B → Type 0) (f : A → B) (xs : List A) → ((i : ℕ) (a : A) → getElem? xs i ≡ some a → R a (f a))
-    → Each R xs (map f xs)
-each-map R f [] h = tt
-each-map R f (x ∷ xs) h = (h 0 x refl, each-map R f xs (λ i. h (suc i)))
 
 module _ (c : Chart) where
   tests-rewritten : (q : ℕ) (ts : List Test) → Numbered (numbering (board c)) q ts

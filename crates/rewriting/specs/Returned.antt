@@ -4,9 +4,10 @@ use mathlib.Core.Path.{_≡_}
 use mathlib.Core.Logic.{_↔_}
 use mathlib.Core.Bool.{true}
 use mathlib.Core.Option.{some}
-use mathlib.Core.List.{List, [], _∷_}
+use mathlib.Core.List.{List}
 use Prim.Native.Nat.{ℕ, _≤_}
 use Rattle.lists.specs.Lists.{memb}
+use Rattle.lists.specs.Elements.{Each}
 use Rattle.model.specs.Answer.{result}
 use Rattle.model.specs.Chart.{Test, Transition, Chart, Nth}
 use Rattle.model.specs.Valid.{Valid}
@@ -21,13 +22,6 @@ pub record RewritingOf (K : ℕ) (bs : List ℕ) (x : Rewriting) : Type 0 where
   pub chart : Chart
   pub reads : chartIn bs ≡ result chart
   pub made : rewriting K chart ≡ result x
-
--- as many elements in both lists, and those of the same place are related
-abbrev pub Each : {A B : Type 0} → (A → B → Type 0) → List A → List B → Type 0
-Each R [] [] = Unit {0}
-Each R [] (y ∷ ys) = ⊥
-Each R (x ∷ xs) [] = ⊥
-Each R (x ∷ xs) (y ∷ ys) = R x y × Each R xs ys
 
 -- a test t of the chart, on a transition that leaves q, and the test t′ that stands in its place
 pub record RewrittenTest (c : Chart) (q : ℕ) (t t′ : Test) : Type 0 where
