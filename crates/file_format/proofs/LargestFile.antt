@@ -1,5 +1,5 @@
--- The largest file that the reader accepts is that of the full chart. Hard: only that no list of 512 transitions is made: their laws are shown for
--- any number of equal ones. Assumes nothing.
+-- The largest file that the reader accepts is that of the full chart. Nothing is hard: laws of any number of equal elements give its length and that
+-- it is valid, so the file itself is never computed. Assumes nothing.
 use mathlib.Core.Path.{_≡_, subst}
 use mathlib.Core.List.{List}
 use Prim.Native.Nat.{ℕ, zero, suc, _+_, _*_, _≤_}
