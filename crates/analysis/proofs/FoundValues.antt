@@ -9,6 +9,8 @@ use lib.Seq.{getD-append-add, getD-drop}
 use Rattle.model.specs.Answer.{result}
 use Rattle.model.specs.Chart.{Chart}
 use Rattle.model.specs.Live.{liveSets}
+use Rattle.model.specs.FirstFit.{used}
+use Rattle.model.proofs.UsedNumbers.{used-above, used-reached}
 use Rattle.file_format.specs.Parse.{Bytes}
 use Rattle.file_format.proofs.File.{reads-valid}
 use Rattle.chart_lists.specs.Lists.{put, overwritten}
@@ -42,7 +44,7 @@ module _ (xs l : List ℕ) (q : ℕ) where
 module _ (bs before : List ℕ) (bytes : Bytes bs) where
   of-chart : (c : Chart) {f : AnalysisValues} → Accepts bs c → c .locations ≤ length before → f ≡ valuesOf c
       → FoundValues bs before (overwritten liveSets (analysedIn (length before) bs) before) f
-  unfolding analysedIn valuesOf
+  unfolding analysedIn valuesOf used
   of-chart c a h e =
       let valid = reads-valid bs c bytes (a .reads) in
       let front : (q : ℕ) → q < c .locations → getD (put (liveSets c) before) q 0 ≡ getD (liveSets c) q 0 =
@@ -56,6 +58,8 @@ module _ (bs before : List ℕ) (bytes : Bytes bs) where
         floor-most = λ q h. rw (front q h) (floor-most valid q);
         floor-reached = (x .0, x .1, rw (front (x .0) (x .1)) (x .2));
         floor-used = floor-used valid;
+        used-above = used-above c;
+        used-reached = used-reached valid;
         used-none = used-none valid;
       }
 

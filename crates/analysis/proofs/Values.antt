@@ -19,11 +19,11 @@ use Rattle.model.specs.Valid.{Valid}
 use Rattle.model.specs.Path.{Live}
 use Rattle.model.specs.Live.{live, liveFlow, liveSets}
 use Rattle.model.specs.Family.{livePairs}
-use Rattle.model.specs.FirstFit.{numberAt, firstFit, fullest, floor, board, used}
+use Rattle.model.specs.FirstFit.{numberAt, fullest, floor, board, used}
 use Rattle.model.proofs.Settled.{settled-words}
-use Rattle.model.proofs.FirstFit.{used-reached}
-use Rattle.model.proofs.PairNumbers.{placed-family, apart, below}
-use Rattle.model.proofs.BoardPlan.{pair-live, live-pairs-formed, live-number}
+use Rattle.model.proofs.UsedNumbers.{used-reached}
+use Rattle.model.proofs.PairNumbers.{apart, below}
+use Rattle.model.proofs.BoardPlan.{number-live, live-number}
 use Rattle.model.proofs.LivePaths.{live-shaped, live-iff}
 use Rattle.analysis.proofs.DifferentNumbers.{few-numbers}
 use Rattle.families.proofs.ChartPairs.{live-each}
@@ -107,6 +107,5 @@ module _ {W : ℕ} {c : Chart} (valid : Valid W c) where
       none-used : ((q j : ℕ) → Live c q j → ⊥) → (n : ℕ) → used c ≡ n → used c ≡ 0
       none-used f zero e = e
       none-used f (suc k) e =
-          let x = used-reached (firstFit (livePairs c)) k e in
-          let a = placed-family (live-pairs-formed valid) (x .0) (x .1) (x .2) in
-          absurd (f _ _ (pair-live valid _ _ .0 (a .pair)))
+          let x = used-reached valid k e in
+          absurd (f _ _ (number-live valid (x .0) (x .1) k (x .2)))

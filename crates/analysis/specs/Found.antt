@@ -2,13 +2,15 @@
 use mathlib.Core.Path.{_≡_}
 use mathlib.Core.Logic.{_↔_}
 use mathlib.Core.Bool.{true}
+use mathlib.Core.Option.{some}
 use mathlib.Core.List.{List}
-use Prim.Native.Nat.{ℕ, _≤_, _<_}
+use Prim.Native.Nat.{ℕ, suc, _≤_, _<_}
 use lib.Count.{ones}
 use lib.ListN.{getD}
 use Rattle.timer_set.specs.Members.{member}
 use Rattle.model.specs.Chart.{Chart}
 use Rattle.model.specs.Path.{Live}
+use Rattle.model.specs.FirstFit.{numberAt, board}
 use Rattle.judgement.specs.Charts.{Accepts}
 use Rattle.analysis.specs.Analysing.{AnalysisValues, valuesOf}
 
@@ -20,7 +22,7 @@ pub record Analysed (room : ℕ) (bs : List ℕ) (f : AnalysisValues) : Type 0 w
   pub values-are : f ≡ valuesOf chart
 
 -- the chart, which is accepted; in the list the live set of each location by paths, and the rest untouched; floor is the count of the fullest of
--- these, and at most used, which is 0 exactly where no timer is live
+-- these; used, no less than floor, is one more than the largest board number given, and 0 exactly where no timer is live and so there is no family
 pub record FoundValues (bs before after : List ℕ) (f : AnalysisValues) : Type 0 where
   pub chart : Chart
   pub accepts : Accepts bs chart
@@ -29,4 +31,6 @@ pub record FoundValues (bs before after : List ℕ) (f : AnalysisValues) : Type 
   pub floor-most : (q : ℕ) → q < chart .locations → ones (getD after q 0) ≤ f .floor
   pub floor-reached : (q : ℕ) × (q < chart .locations) × (ones (getD after q 0) ≡ f .floor)
   pub floor-used : f .floor ≤ f .used
+  pub used-above : (q j k : ℕ) → numberAt (board chart) q j ≡ some k → k < f .used
+  pub used-reached : (u : ℕ) → f .used ≡ suc u → (q : ℕ) × (j : ℕ) × (numberAt (board chart) q j ≡ some u)
   pub used-none : (f .used ≡ 0) ↔ ((q j : ℕ) → Live chart q j → ⊥)

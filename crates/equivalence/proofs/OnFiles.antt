@@ -15,8 +15,8 @@ use Rattle.model.specs.FirstFit.{held, free, place, firstFit, usedBy, numberAt,
 use Rattle.model.specs.Rewrite.{numbering, renamed, newTests, newStarts, newTransition, rewrittenBy}
 use Rattle.model.specs.Judge.{judged, fitted, rewriting}
 use Rattle.model.specs.Player.{arrival, answerOf, tooLarge, countsJudged, stepsOf, played}
-use Rattle.model.specs.Cases.{arrow, test, drawn, A, B, C, selfLoop, neverStarted, restart, ownStart, B′, C′, selfLoop′, boardNumbers}
-use Rattle.model.specs.Cases.{Case, case, starred, unnoticed}
+use Rattle.model.specs.Cases.{arrow, onEvent, test, drawn, A, B, C, selfLoop, neverStarted, restart, ownStart, twoEvents}
+use Rattle.model.specs.Cases.{B′, C′, selfLoop′, twoEvents′, boardNumbers, Case, case, starred, unnoticed}
 use Rattle.file_format.specs.Parse.{number, below, many, entry, rising, digits, writeAll}
 use Rattle.file_format.specs.Body.{readComparison, readTest, readTests, recordLength, readTransition, readTransitions, readHeader, chartOf, readBody}
 use Rattle.file_format.specs.Body.{writeTest, writeTransition, writeHeader, writeBody}
@@ -29,7 +29,8 @@ use Rattle.player.specs.Playing.{playAnswer}
 use Rattle.equivalence.specs.OnFiles.{analysedList, askFile}
 
 pub starred-on-files : map (λ (x : Case). askFile (x .question)) (starred ++ unnoticed) ≡ map (λ (x : Case). x .reply) (starred ++ unnoticed)
-unfolding arrow test drawn A B C selfLoop neverStarted restart ownStart B′ C′ selfLoop′ boardNumbers case starred unnoticed
+unfolding arrow onEvent test drawn A B C selfLoop neverStarted restart ownStart twoEvents B′ C′ selfLoop′ twoEvents′
+    boardNumbers case starred unnoticed
     member joined common minus added everyTimer setOf met comparisonOf codeOf ones onesIn filterMap
     memb anyOf firstOf lowest gather upTo pick top
     grown restarted allMet after enabled attempt steps begin outcome playerTime accepts

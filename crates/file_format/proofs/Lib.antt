@@ -9,5 +9,6 @@ pub mod Transitions
 pub mod Body
 pub mod Lengths
 pub mod File
+pub mod LargestFile
 pub mod Bytes
 pub mod Refusals

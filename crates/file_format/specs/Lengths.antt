@@ -1,11 +1,16 @@
--- How many bytes the parts of a chart file have, its constants in W bytes. That what is written has these lengths is shown in
--- proofs/Lengths. Assumes nothing.
-use mathlib.Core.List.{map}
-use Prim.Native.Nat.{ℕ, _+_, _*_}
-use lib.ListN.{length}
-use Rattle.lists.specs.Lists.{sumOf}
+-- How many bytes the parts of a chart file have, its constants in W bytes, and the largest file. That what is written has these lengths is shown in
+-- proofs/Lengths, that the largest file is that of the chart here in proofs/LargestFile. Assumes nothing.
+use mathlib.Core.Path.{_≡_}
+use mathlib.Core.List.{List, map}
+use Prim.Native.Nat.{ℕ, _+_, _*_, _≤_}
+use lib.ListN.{length, replicate}
+use Rattle.comparison.specs.declared.Comparison.the-variants.{AtMost}
+use Rattle.lists.specs.Lists.{sumOf, upTo}
+use Rattle.model.specs.Answer.{result}
 use Rattle.model.specs.Chart.{Transition, Chart}
+use Rattle.file_format.specs.Parse.{Bytes}
 use Rattle.file_format.specs.Body.{recordLength}
+use Rattle.file_format.specs.File.{chartIn, fileOf}
 
 -- with the two bytes of its own length
 unfoldable pub transitionLength : (W : ℕ) → Transition → ℕ
@@ -22,3 +27,23 @@ fileLength W c = 5 + bodyLength W c
 -- the bytes of the largest file that the reader accepts
 abbrev pub largestFile : ℕ
 largestFile = 54286
+
+-- a transition with as much as a chart's limits allow: it starts all 64 timers and has 8 tests
+unfoldable pub fullTransition : Transition
+fullTransition = record {
+  source = 0;
+  target = 0;
+  event = 0;
+  starts = upTo (λ j. j) 64;
+  tests = replicate 8 (record { timer = 0; comparison = AtMost; constant = 0 });
+}
+
+-- a chart with as much as its limits allow: 256 locations, all accepting, 64 timers, 512 such transitions
+unfoldable pub fullChart : Chart
+fullChart = record { locations = 256; initial = 0; timers = 64; accepting = upTo (λ q. q) 256; transitions = replicate 512 fullTransition }
+
+-- the largest file that the reader accepts has n bytes: none has more, and that of the full chart is accepted and has as many
+pub record LargestFile (n : ℕ) : Type 0 where
+  pub most : (bs : List ℕ) (c : Chart) → Bytes bs → chartIn bs ≡ result c → length bs ≤ n
+  pub reads : chartIn (fileOf fullChart) ≡ result fullChart
+  pub reached : length (fileOf fullChart) ≡ n

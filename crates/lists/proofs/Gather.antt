@@ -82,6 +82,12 @@ pick-rising f (suc n) = rising-append (suc n) 0 n (pick f n) _ (pick-rising f n)
     last true = ((omega arith, omega arith), tt)
     last false = tt
 
+pub upTo-rising : (n : ℕ) → Rising n 0 (upTo (λ i. i) n)
+unfolding upTo gather
+upTo-rising zero = tt
+upTo-rising (suc n) =
+    rising-append (suc n) 0 n (upTo (λ i. i) n) (n ∷ []) (upTo-rising n) (omega arith) (omega arith) ((omega arith, omega arith), tt)
+
 -- a rising list is no longer than the room that it has
 pub rising-length : (limit lo : ℕ) (xs : List ℕ) → Rising limit lo xs → lo ≤ limit → lo + length xs ≤ limit
 rising-length limit lo [] r h = omega arith

@@ -9,6 +9,7 @@ use native.Mathlib.Omega.{arith}
 use lib.ListN.{length, getD, getElem?, set, length-map}
 use lib.Seq.{ext-getD, getD-set-same, getD-set-other}
 use Rattle.lists.specs.Lists.{upTo}
+use Rattle.lists.specs.Elements.{Each}
 use Rattle.lists.proofs.Gather.{length-upTo, getD-upTo}
 use Rattle.lists.proofs.Membership.{nth-map}
 
@@ -39,6 +40,12 @@ module _ {A : Type 0} where
       let b : i < n = omega (arith, length-upTo f n) in
       let x = nth-below l i (omega arith) in
       getD-upTo f n i d b ∙ each i (x .0) (x .1) ∙ sym (getD-nth (map g l) i d (nth-map g l i (x .1))))
+
+-- a list and what each of its elements is mapped to
+pub each-map : {A B : Type 0} (R : A → B → Type 0) (f : A → B) (l : List A) → ((i : ℕ) (a : A) → getElem? l i ≡ some a → R a (f a))
+    → Each R l (map f l)
+each-map R f [] h = tt
+each-map R f (x ∷ l) h = (h 0 x refl, each-map R f l (λ i. h (suc i)))
 
 -- an entry more
 pub filled-more : (f : ℕ → ℕ) (l : List ℕ) (x : ℕ) → x < length l → ((k : ℕ) → k < x → getD l k 0 ≡ f k)

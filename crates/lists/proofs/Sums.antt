@@ -7,7 +7,7 @@ use Prim.Native.Nat.{ℕ, zero, suc, _+_, _*_, _^_, _≤_, _<_}
 use native.Mathlib.Nat.{suc-inj, suc-ne-zero, mul-suc}
 use native.Mathlib.Decide.{ℕ-discrete}
 use native.Mathlib.Omega.{arith}
-use lib.ListN.{length, getD, set}
+use lib.ListN.{length, getD, set, replicate}
 use Rattle.lists.specs.Lists.{sumOf}
 use Rattle.lists.specs.Rising.{All}
 
@@ -47,6 +47,12 @@ module _ {A : Type 0} (f : A → ℕ) where
   unfolding sumOf
   sum-same n h [] = omega arith
   sum-same n h (a ∷ xs) = rw mul-suc (omega (arith, h a, sum-same n h xs))
+
+  -- of n times one element
+  pub sum-replicate : (a : A) (n : ℕ) → sumOf (map f (replicate n a)) ≡ n * f a
+  unfolding sumOf
+  sum-replicate a zero = omega arith
+  sum-replicate a (suc n) = omega (arith, sum-replicate a n)
 
   -- at most n for each element
   pub sum-most : (n : ℕ) (P : A → Type 0) → ((a : A) → P a → f a ≤ n) → (xs : List A) → All P xs → sumOf (map f xs) ≤ n * length xs

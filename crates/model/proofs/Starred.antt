@@ -15,11 +15,12 @@ use Rattle.model.specs.FirstFit.{held, free, place, firstFit, usedBy, nu
 use Rattle.model.specs.Rewrite.{numbering, renamed, newTests, newStarts, newTransition, rewrittenBy}
 use Rattle.model.specs.Judge.{judged, fitted, rewriting}
 use Rattle.model.specs.Player.{arrival, answerOf, tooLarge, countsJudged, stepsOf, played}
-use Rattle.model.specs.Cases.{arrow, test, drawn, A, B, C, selfLoop, neverStarted, restart, ownStart, B′, C′, selfLoop′}
-use Rattle.model.specs.Cases.{boardNumbers, ask, Case, case, starred, unnoticed}
+use Rattle.model.specs.Cases.{arrow, onEvent, test, drawn, A, B, C, selfLoop, neverStarted, restart, ownStart, twoEvents}
+use Rattle.model.specs.Cases.{B′, C′, selfLoop′, twoEvents′, boardNumbers, ask, Case, case, starred, unnoticed}
 
 pub starred-hold : map (λ (x : Case). ask (x .question)) (starred ++ unnoticed) ≡ map (λ (x : Case). x .reply) (starred ++ unnoticed)
-unfolding arrow test drawn A B C selfLoop neverStarted restart ownStart B′ C′ selfLoop′ boardNumbers ask case starred unnoticed
+unfolding arrow onEvent test drawn A B C selfLoop neverStarted restart ownStart twoEvents B′ C′ selfLoop′ twoEvents′
+    boardNumbers ask case starred unnoticed
     member joined common minus added everyTimer met ones onesIn filterMap
     memb anyOf firstOf lowest gather upTo pick top
     grown restarted allMet after enabled attempt steps begin outcome playerTime accepts

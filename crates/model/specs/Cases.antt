@@ -17,6 +17,10 @@ use Rattle.model.specs.Player.{Arrival, played}
 unfoldable pub arrow : (s t : ℕ) → List ℕ → List Test → Transition
 arrow s t starts tests = record { source = s; target = t; event = 0; starts = starts; tests = tests }
 
+-- the same transition on event e; the document's arrows name no event, and have 0
+unfoldable pub onEvent : (e : ℕ) → Transition → Transition
+onEvent e r = record { source = r .source; target = r .target; event = e; starts = r .starts; tests = r .tests }
+
 -- "tests j at least k" and its like
 unfoldable pub test : ℕ → Comparison → ℕ → Test
 test j x k = record { timer = j; comparison = x; constant = k }
@@ -75,6 +79,10 @@ restart = drawn 4 3 1 (
 unfoldable pub ownStart : Chart
 ownStart = drawn 2 1 1 (arrow 0 1 (0 ∷ []) (test 0 AtLeast 0 ∷ []) ∷ [])
 
+-- on event 7 timer 1 is started, on event 255 it is tested
+unfoldable pub twoEvents : Chart
+twoEvents = drawn 3 2 2 (onEvent 7 (arrow 0 1 (1 ∷ []) []) ∷ onEvent 255 (arrow 1 2 [] (test 1 AtLeast 3 ∷ [])) ∷ [])
+
 -- B rewritten: transition 1 tests board timer 0 and then starts it
 unfoldable pub B′ : Chart
 B′ = drawn 4 3 1 (
@@ -96,6 +104,10 @@ C′ = drawn 6 5 2 (
 -- the self-loop rewritten: nothing is live, so nothing is started
 unfoldable pub selfLoop′ : Chart
 selfLoop′ = drawn 1 0 0 (arrow 0 0 [] [] ∷ [])
+
+-- the chart with events rewritten: timer 1 becomes 0, the events stay
+unfoldable pub twoEvents′ : Chart
+twoEvents′ = drawn 3 2 1 (onEvent 7 (arrow 0 1 (0 ∷ []) []) ∷ onEvent 255 (arrow 1 2 [] (test 0 AtLeast 3 ∷ [])) ∷ [])
 
 -- what a case asks of a chart
 pub data Question : Type 0 where
@@ -148,9 +160,10 @@ starred =
     ∷ []
 
 -- what "goes wrong unnoticed", beside the cases above: a timer started anew begins a family of its own; a start on the same transition does not
--- come before its test
+-- come before its test; and an event is kept, which is 0 in all charts above
 unfoldable pub unnoticed : List Case
 unnoticed =
     case (numbers restart) (given ((64, 0) ∷ (128, 0) ∷ []) 1 1)
     ∷ case (rewrite ownStart 64) (rewriting-is (refused 10 0))
+    ∷ case (rewrite twoEvents 1) (rewriting-is (result (record { used = 1; chart = twoEvents′ })))
     ∷ []

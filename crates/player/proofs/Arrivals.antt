@@ -13,7 +13,7 @@ use Rattle.steps.specs.declared.Stepped.{Stepped}
 use Rattle.steps.specs.declared.Verdict.{Verdict}
 use Rattle.steps.specs.declared.Verdict.the-variants as verdict
 use Rattle.steps.specs.Stepping.{Answered}
-use Rattle.steps.proofs.StepLists.{taken-or-not}
+use Rattle.steps.proofs.Attempts.{taken-or-not}
 
 same-refusal : {x : Verdict} {f g : Refusal} → x ≡ verdict.Refused f → x ≡ verdict.Refused g → f ≡ g
 same-refusal p q = cc

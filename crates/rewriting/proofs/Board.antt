@@ -19,7 +19,7 @@ use Rattle.numbering.specs.declared.Numbered.{Numbered as Count}
 use Rattle.numbering.specs.ChartNumbered.{ChartNumbered}
 
 -- every timer that is tested has a number where it is tested
-tests-numbered : {W : ℕ} {c : Chart} → Valid W c → (i : ℕ) (r : Transition) → Nth c i r → Numbered (numbering (board c)) (r .source) (r .tests)
+pub tests-numbered : {W : ℕ} {c : Chart} → Valid W c → (i : ℕ) (r : Transition) → Nth c i r → Numbered (numbering (board c)) (r .source) (r .tests)
 unfolding numbering
 tests-numbered valid i r n j t =
     live-number valid (r .source) j (live-here (record { number = i; transition = r; is-nth = n; leaves = refl; tests-it = t }))

@@ -4,5 +4,6 @@ pub mod Entry
 pub mod Board
 pub mod Written
 pub mod Fits
+pub mod ReturnedChart
 pub mod Outcomes
 pub mod Refusals

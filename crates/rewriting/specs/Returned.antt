@@ -1,10 +1,18 @@
--- What the rewriting returns: of which chart it is the rewriting, and that it fits the board and a file. Assumes nothing.
+-- What the rewriting returns: of which chart it is the rewriting, what becomes of each part of that chart (document 01, "Live, born, family, board
+-- number", the rewritten chart), and that it fits the board and a file. Assumes nothing.
 use mathlib.Core.Path.{_≡_}
+use mathlib.Core.Logic.{_↔_}
+use mathlib.Core.Bool.{true}
+use mathlib.Core.Option.{some}
 use mathlib.Core.List.{List}
 use Prim.Native.Nat.{ℕ, _≤_}
+use Rattle.lists.specs.Lists.{memb}
+use Rattle.lists.specs.Elements.{Each}
 use Rattle.model.specs.Answer.{result}
-use Rattle.model.specs.Chart.{Transition, Chart, Nth}
+use Rattle.model.specs.Chart.{Test, Transition, Chart, Nth}
 use Rattle.model.specs.Valid.{Valid}
+use Rattle.model.specs.Path.{Born}
+use Rattle.model.specs.FirstFit.{numberAt, board, used}
 use Rattle.model.specs.Rewrite.{NamesBelow}
 use Rattle.model.specs.Judge.{Rewriting, rewriting}
 use Rattle.file_format.specs.File.{chartIn, fileOf}
@@ -14,6 +22,32 @@ pub record RewritingOf (K : ℕ) (bs : List ℕ) (x : Rewriting) : Type 0 where
   pub chart : Chart
   pub reads : chartIn bs ≡ result chart
   pub made : rewriting K chart ≡ result x
+
+-- a test t of the chart, on a transition that leaves q, and the test t′ that stands in its place
+pub record RewrittenTest (c : Chart) (q : ℕ) (t t′ : Test) : Type 0 where
+  -- t′ reads the board number of the family of t's timer at q
+  pub timer : numberAt (board c) q (t .timer) ≡ some (t′ .timer)
+  pub comparison : t′ .comparison ≡ t .comparison
+  pub constant : t′ .constant ≡ t .constant
+
+-- a transition r of the chart, and the transition r′ that stands in its place
+pub record RewrittenTransition (c : Chart) (r r′ : Transition) : Type 0 where
+  pub source : r′ .source ≡ r .source
+  pub target : r′ .target ≡ r .target
+  pub event : r′ .event ≡ r .event
+  -- r′ starts k exactly where k is the number, at the target, of a timer born on r
+  pub starts : (k : ℕ) → (memb k (r′ .starts) ≡ true) ↔ ((j : ℕ) × Born c r j × (numberAt (board c) (r .target) j ≡ some k))
+  -- every test is kept, in its place, and reads the number at the source
+  pub tests : Each (RewrittenTest c (r .source)) (r .tests) (r′ .tests)
+
+-- x is the chart rewritten: all is kept but the number of timers and the timers that tests and starts name
+pub record RewrittenChart (c : Chart) (x : Rewriting) : Type 0 where
+  pub locations : x .chart .locations ≡ c .locations
+  pub initial : x .chart .initial ≡ c .initial
+  pub accepting : x .chart .accepting ≡ c .accepting
+  pub timers : x .chart .timers ≡ x .used
+  pub used : x .used ≡ used c
+  pub transitions : Each (RewrittenTransition c) (c .transitions) (x .chart .transitions)
 
 -- what is returned fits the board and a file
 pub record FitsBoard (K : ℕ) (x : Rewriting) : Type 0 where

@@ -17,11 +17,13 @@ use Rattle.model.specs.Run.{Counts, State as Run·State, grown, after, enabled,
 use Rattle.model.proofs.Steps.{judgedStep, attempt-none, attempt-some}
 use Rattle.chart_lists.specs.Lists.{Lists}
 use Rattle.chart_lists.specs.Holds.{Holds}
+use Rattle.refusal.specs.declared.Refusal.{Refusal}
 use Rattle.steps.specs.declared.State.{State}
 use Rattle.steps.specs.declared.Stepped.{Stepped}
+use Rattle.steps.specs.declared.Verdict.{Verdict}
 use Rattle.steps.specs.declared.Verdict.the-variants as verdict
 use Rattle.steps.specs.Counts.{CountsAgree, Room, MovedOn}
-use Rattle.steps.specs.Stepping.{Shows, Small, stepAt, refusedAt, Answered}
+use Rattle.steps.specs.Stepping.{Shows, Small, Kept, stepAt, refusedAt, Answered}
 use Rattle.steps.proofs.TransitionPlaces.{TransitionAt, no-transition, some-transition, transition-at}
 use Rattle.steps.proofs.MovedCounts.{count-started, count-grown, none-started, grown-agrees, started-agrees}
 
@@ -44,12 +46,20 @@ module _ (x : State) (q t starts : ℕ) {g v : List ℕ} (w : Small x) (h : x .t
           let more = grows .count j l ∙ none-started _ j _ in
           omega (arith, starting .count j l ∙ count-grown starts _ j _ e, more, w .bound j l)
 
+pub taken-or-not : {v : Verdict} {f : Refusal} → v ≡ verdict.Taken → v ≡ verdict.Refused f → ⊥
+taken-or-not p q = let z : _≡_ {A = ℕ} 0 1 = cc in omega arith
+
 -- a refusal of the code for one of the run
 pub refused-as : (k n : ℕ) (x : State) (z : Stepped) (y : Answer Run·State) → z ≡ refusedAt k n x → y ≡ refused k n → Answered z y
 refused-as k n x z y e f = subst (Answered z) (sym f) (ap (λ (q : Stepped). q .verdict) e)
 
-pub refused-small : (k n : ℕ) (x : State) (z : Stepped) → z ≡ refusedAt k n x → Small x → Small (z .state)
-refused-small k n x z e w = subst (λ (q : Stepped). Small (q .state)) (sym e) w
+-- and the state that it leaves: the one that it found
+pub refused-leaves : (k n : ℕ) (x : State) (z : Stepped) → Small x → z ≡ refusedAt k n x → Small (z .state) × Kept z x
+refused-leaves k n x z w e = let same = ap (λ (q : Stepped). q .state) e in (subst Small (sym same) w, record { state = λ f v. same })
+
+-- a step that is taken is not refused
+pub taken-kept : (x y : State) → Kept (record { verdict = verdict.Taken; state = y }) x
+taken-kept x y = record { state = λ f v. absurd (taken-or-not refl v) }
 
 module _ {c : Chart} {l : Lists} (held : Holds c l) (k i t : ℕ) (x : State) (s : Run·State) (w : Shows x s) where
   abbrev told : Answer Run·State

@@ -4,7 +4,6 @@ use mathlib.Core.Path.{_≡_, refl, sym, ap, subst, _∙_}
 use mathlib.Core.List.{List}
 use Prim.Native.Nat.{ℕ, suc, _+_, _≤_, _<_}
 use native.Mathlib.Numerals.{add-one}
-use native.Mathlib.Omega.{arith}
 use lib.ListN.{length, getD, drop, drop-of-length-le}
 use lib.Seq.{drop-cons}
 use Rattle.model.specs.Answer.{Answer, result, refused, then}
@@ -14,12 +13,9 @@ use Rattle.model.specs.Player.{stepsOf}
 use Rattle.refusal.specs.declared.Refusal.{Refusal}
 use Rattle.steps.specs.declared.State.{State}
 use Rattle.steps.specs.declared.Stepped.{Stepped}
-use Rattle.steps.specs.declared.Verdict.{Verdict}
 use Rattle.steps.specs.declared.Verdict.the-variants as verdict
 use Rattle.steps.specs.Stepping.{Shows, stepAt, Answered}
-
-pub taken-or-not : {v : Verdict} {f : Refusal} → v ≡ verdict.Taken → v ≡ verdict.Refused f → ⊥
-taken-or-not p q = let z : _≡_ {A = ℕ} 0 1 = cc in omega arith
+use Rattle.steps.proofs.Attempts.{taken-or-not}
 
 -- k of the steps are taken from s, x shows the state after them, and the rest of the steps decide
 pub record Reached (c : Chart) (is ts : List ℕ) (k : ℕ) (s : Run·State) (x : State) : Type 0 where

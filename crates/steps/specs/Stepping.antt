@@ -4,6 +4,7 @@ use Prim.Native.Nat.{ℕ, _+_, _≤_, _<_}
 use lib.ListN.{length, getD}
 use Rattle.model.specs.Answer.{Answer, result, refused}
 use Rattle.model.specs.Run.{Step, State as Run·State, largestTime}
+use Rattle.refusal.specs.declared.Refusal.{Refusal}
 use Rattle.steps.specs.declared.State.{State}
 use Rattle.steps.specs.declared.Verdict.the-variants as verdict
 use Rattle.steps.specs.declared.Stepped.{Stepped}
@@ -27,6 +28,10 @@ stepAt i t = record { transition = i; time = t }
 -- step number n is refused, and the state is as it was
 abbrev pub refusedAt : (number n : ℕ) → State → Stepped
 refusedAt k n x = record { verdict = verdict.Refused (record { number = k; place = n }); state = x }
+
+-- a refused step leaves the state as it was
+pub record Kept (r : Stepped) (x : State) : Type 0 where
+  pub state : (f : Refusal) → r .verdict ≡ verdict.Refused f → r .state ≡ x
 
 -- the code's answer is that of the run: a state that the code's new state shows, or the same refusal
 abbrev pub Answered : Stepped → Answer Run·State → Type 0

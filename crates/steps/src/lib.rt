@@ -8,7 +8,7 @@ ghost use Rattle.chart_lists.specs.Header.{headerOf};
 ghost use Rattle.chart_lists.specs.Holds.{Holds};
 ghost use Rattle.steps.specs.StepLists.{FirstTests, stepLists};
 ghost use Rattle.steps.specs.Counts.{Allowed};
-ghost use Rattle.steps.specs.Stepping.{Shows, Small, Answered, stepAt, refusedAt};
+ghost use Rattle.steps.specs.Stepping.{Shows, Small, Kept, Answered, stepAt, refusedAt};
 use crate::counts::grown;
 use crate::counts::started;
 use crate::counts::starting_counts;
@@ -72,6 +72,7 @@ pub fn step<'a>(
         (now (timers .entry)) (now (codes .entry)) (now (constants .entry)))
         → (s : Run·State) → Shows state s → Answered r (attempt playerTime c k s (stepAt transition time))) ⌝ }
     ensures small { λ r. ⌜ Small (r .state) ⌝ }
+    ensures kept { λ r. ⌜ Kept r state ⌝ }
 {
     let i = transition as usize;
     if i >= n {

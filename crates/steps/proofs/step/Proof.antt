@@ -11,7 +11,7 @@ use Rattle.steps.specs.StepLists.{stepLists}
 use Rattle.steps.specs.Counts.{Room}
 use Rattle.steps.proofs.Held.{holds-tests}
 use Rattle.steps.proofs.TransitionPlaces.{TransitionAt, some-transition, transition-at}
-use Rattle.steps.proofs.Attempts.{room, next-small, refused-as, refused-small}
+use Rattle.steps.proofs.Attempts.{room, next-small, refused-as, refused-leaves, taken-kept}
 use Rattle.steps.proofs.Attempts.{attempt-14, attempt-15, attempt-22, attempt-23, attempt-24, attempt-taken}
 use Rattle.steps.proofs.step.Statement.{statement}
 use Rattle.steps.proofs.step.Tie as tie
@@ -62,7 +62,7 @@ refused-requires c κs = search needs
 returns : tie.Need-returns
 returns c = let z = entry (c .before .before) in (
   λ ch n f L s w. refused-as 14 _ _ _ _ (c .refused .ensures) (attempt-14 L _ _ _ _ s w (omega (arith, c .before .if1 .taken))),
-  refused-small 14 _ _ _ (c .refused .ensures) (z .pre .1),
+  refused-leaves 14 _ _ _ (z .pre .1) (c .refused .ensures),
 )
 
 refused-requires-2 : tie.Need-refused-requires-2
@@ -71,7 +71,7 @@ refused-requires-2 c κs = search needs
 returns-2 : tie.Need-returns-2
 returns-2 c = let a = c .before .before in let z = entry (a .before) in (
   λ ch n f L s w. refused-as 15 _ _ _ _ (c .refused2 .ensures) (attempt-15 L _ _ _ _ s w (numbered a ch n) (c .before .if2 .taken)),
-  refused-small 15 _ _ _ (c .refused2 .ensures) (z .pre .1),
+  refused-leaves 15 _ _ _ (z .pre .1) (c .refused2 .ensures),
 )
 
 mul-if3 : tie.Need-mul-if3
@@ -86,7 +86,7 @@ refused-requires-3 c κs = search needs
 returns-3 : tie.Need-returns-3
 returns-3 c = let b = c .before .before .before .before in let a = past-14 b in let z = entry (a .before) in (
   λ ch n f L s w. refused-as 22 _ _ _ _ (c .refused3 .ensures) (attempt-22 L _ _ _ _ s w (numbered a ch n) (b .if2 .left) (c .before .if3 .taken)),
-  refused-small 22 _ _ _ (c .refused3 .ensures) (z .pre .1),
+  refused-leaves 22 _ _ _ (z .pre .1) (c .refused3 .ensures),
 )
 
 refused-requires-4 : tie.Need-refused-requires-4
@@ -97,7 +97,7 @@ returns-4 c = let d = c .before .before .before in let b = past-15 d in let a = 
   λ ch n f L s w.
       let so = attempt-23 L _ _ _ _ s w (numbered a ch n) (b .if2 .left) (d .if3 .left) (c .before .if4 .taken) in
       refused-as 23 _ _ _ _ (c .refused4 .ensures) so,
-  refused-small 23 _ _ _ (c .refused4 .ensures) (z .pre .1),
+  refused-leaves 23 _ _ _ (z .pre .1) (c .refused4 .ensures),
 )
 
 cast-passed : tie.Need-cast-passed
@@ -133,7 +133,7 @@ returns-5 c =
           let no = not-true _ (c .before .if5 .taken) in
           let so = attempt-24 L _ _ _ _ s w (numbered a ch n) (b .if2 .left) (d .if3 .left) (e .if4 .left) _ (g .grown .ensures) _ decided no in
           refused-as 24 _ _ _ _ (c .refused5 .ensures) so,
-      refused-small 24 _ _ _ (c .refused5 .ensures) (z .pre .1),
+      refused-leaves 24 _ _ _ (z .pre .1) (c .refused5 .ensures),
     )
 
 mul-t20 : tie.Need-mul-t20
@@ -165,7 +165,7 @@ returns-6 c =
           let yes = not-false _ (p .if5 .left) in
           let x = numbered a ch n in
           attempt-taken L _ _ _ _ s w x (b .if2 .left) (d .if3 .left) (e .if4 .left) _ (g .grown .ensures) _ decided yes _ (c .started .ensures),
-      next-small _ _ _ _ (start e .pre .1) (e .if4 .left) (g .grown .ensures) (c .started .ensures),
+      (next-small _ _ _ _ (start e .pre .1) (e .if4 .left) (g .grown .ensures) (c .started .ensures), taken-kept _ _),
     )
 
 pub step-spec : {M : Type 1} → statement M

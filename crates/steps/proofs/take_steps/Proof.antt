@@ -73,7 +73,7 @@ loop-less c = search needs
 loop-again : tie.Need-loop-again Inv-loop μ-loop
 loop-again c = let a = c .before .before .before in let l = turn a .loop in let e = a .step .ensures in (
   l .inv .0,
-  e .1,
+  e .1 .0,
   l .inv .2,
   l .inv .3,
   l .inv .4,
