@@ -30,3 +30,5 @@ pub mod PlayerLaws
 pub mod PlayerAnswer
 pub mod RewritingAlike
 pub mod EqualAnswers
+pub mod Meanings
+pub mod Examples

@@ -17,7 +17,6 @@ use Rattle.model.specs.Answer.{Answer, result, refused, then, unless}
 use Rattle.model.specs.Chart.{Transition, Chart, Nth}
 use Rattle.model.specs.Run.{Counts, State, Step, attempt, steps, begin, outcome, everyTime, playerTime, largestTime}
 use Rattle.model.specs.Player.{Arrival, arrival, answerOf}
-use Rattle.model.specs.Equivalence.{IsRun}
 use Rattle.model.proofs.Answers.{not-result, refused-same, number-is}
 use Rattle.model.proofs.Steps.{judgedStep, attempt-none, attempt-some}
 use Rattle.model.proofs.PlayerNumbers.{list-numbers}

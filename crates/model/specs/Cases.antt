@@ -148,9 +148,10 @@ starred =
     ∷ []
 
 -- what "goes wrong unnoticed", beside the cases above: a timer started anew begins a family of its own; a start on the same transition does not
--- come before its test
+-- come before its test, neither where it is judged nor where it is played
 unfoldable pub unnoticed : List Case
 unnoticed =
     case (numbers restart) (given ((64, 0) ∷ (128, 0) ∷ []) 1 1)
     ∷ case (rewrite ownStart 64) (rewriting-is (refused 10 0))
+    ∷ case (play B′ (0 ∷ []) (0 ∷ 1 ∷ []) (5 ∷ 8 ∷ [])) (played-is (refused 24 1))
     ∷ []

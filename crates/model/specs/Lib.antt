@@ -18,3 +18,4 @@ pub mod Places
 pub mod SharingRule
 pub mod PlayerTerms
 pub mod Comes
+pub mod Examples
