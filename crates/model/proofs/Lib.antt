@@ -32,3 +32,4 @@ pub mod RewritingAlike
 pub mod EqualAnswers
 pub mod Meanings
 pub mod Examples
+pub mod AlikeExamples

@@ -2,37 +2,23 @@
 -- that is wrong in both, so nothing else would show it. Nothing is hard. Assumes nothing.
 use mathlib.Core.Path.{_≡_, refl, sym, ap, _∙_, subst}
 use mathlib.Core.Logic.{inl, inr, _↔_}
-use mathlib.Core.Bool.{true, _&&_}
+use mathlib.Core.Bool.{true}
 use mathlib.Core.Option.{some, Option·some-injective, Option·none-ne-some}
 use mathlib.Core.List.{List, [], _∷_}
 use Prim.Native.Nat.{ℕ, zero, suc, _+_}
 use native.Mathlib.Nat.{zero-add}
+use native.Mathlib.Omega.{arith}
 use lib.ListN.{length, getElem?, take, drop, take-append-drop}
 use lib.Seq.{take-append-seam, take-nil}
 use Rattle.comparison.specs.Comparison.{met}
 use Rattle.lists.specs.Lists.{memb}
-use Rattle.lists.proofs.Bools.{and-left, and-right, and-both}
 use Rattle.model.specs.Answer.{Answer, result, refused, then}
 use Rattle.model.specs.Chart.{Test, Transition, Chart, Nth}
-use Rattle.model.specs.Valid.{Valid}
-use Rattle.model.specs.Path.{Born}
-use Rattle.model.specs.Live.{live}
-use Rattle.model.specs.Run.{Counts, State, Step, EndsAccepting, Point, grown, begin, steps, outcome, everyTime, waited}
+use Rattle.model.specs.Run.{Counts, State, Step, Run, EndsAccepting, Point, grown, begin, steps, outcome, everyTime, waited}
 use Rattle.model.specs.Player.{Arrival, arrival, answerOf}
-use Rattle.model.specs.Equivalence.{Starts, StartedIn, Reads, IsRun}
+use Rattle.model.specs.Equivalence.{Starts, StartedIn, Reads, SamePoints, IsRun}
 use Rattle.model.proofs.Answers.{not-result, result-same}
 use Rattle.model.proofs.Transitions.{nth-same}
-use Rattle.model.proofs.LivePaths.{live-iff}
-
--- born on r: r starts the timer, and it is in the live set of r's target
-pub born-iff : {W : ℕ} {c : Chart} → Valid W c → (r : Transition) (j : ℕ) → Born c r j ↔ ((memb j (r .starts) && live c (r .target) j) ≡ true)
-born-iff {c = c} valid r j = (
-  λ b. and-both (b .started) (live-iff valid (r .target) j .1 (b .active)),
-  λ h. record {
-    started = and-left _ (live c (r .target) j) h;
-    active = live-iff valid (r .target) j .0 (and-right (memb j (r .starts)) _ h);
-  },
-)
 
 -- ---- runs, their acceptance and their points
 
@@ -61,6 +47,14 @@ module _ (c : Chart) (v : Counts) (es : List Step) where
       accepting = ap (λ (a : Arrival). a .accepting) (result-same (y .2)) ∙ x .2;
     },
   )
+
+  -- what a run leaves is where it arrives
+  run-arrives : {s : State} → Run c v es s → {a : Arrival} → answerOf everyTime c v es ≡ result a
+      → (a .location ≡ s .location) × (a .time ≡ s .time)
+  unfolding answerOf arrival
+  run-arrives x e =
+      let same = result-same (sym e ∙ ap (λ (y : Answer State). then y (arrival c)) (x .ends)) in
+      (ap (λ (a : Arrival). a .location) same, ap (λ (a : Arrival). a .time) same)
 
   -- its points: what its first n steps come to, for any n, and d ticks more, for any d
   pub point-iff : (s : State) → Point c v es s ↔ ((n d : ℕ) × (then (outcome everyTime c v (take n es)) (λ x. result (waited d x)) ≡ result s))
@@ -139,3 +133,13 @@ module _ {c′ : Chart} {taken : List Step} {s s′ : State} {i k : ℕ} {t : Te
   -- and it is met exactly where t is
   pub reads-met : met (t′ .comparison) (s′ .counts (t′ .timer)) (t′ .constant) ≡ met (t .comparison) (s .counts (t .timer)) (t .constant)
   reads-met = rw (← same-test, x .comparison, x .shows, x .constant) refl
+
+-- points after the same steps: both charts have arrived at one location at one time
+pub same-points-arrive : {c c′ : Chart} {v w : Counts} {es : List Step} → SamePoints c c′ v w es → {a a′ : Arrival}
+    → answerOf everyTime c v es ≡ result a → answerOf everyTime c′ w es ≡ result a′ → (a .location ≡ a′ .location) × (a .time ≡ a′ .time)
+unfolding waited
+same-points-arrive x e e′ =
+    let at = run-arrives _ _ _ (x .run) e in
+    let at′ = run-arrives _ _ _ (x .run′) e′ in
+    let time : x .left .time + 0 ≡ x .left′ .time + 0 = x .waits 0 .time in
+    (at .0 ∙ x .waits 0 .location ∙ sym (at′ .0), omega (arith, at .1, at′ .1))

@@ -37,6 +37,10 @@ started = drawn 3 2 1 (arrow 0 1 (0 ∷ []) [] ∷ arrow 1 2 [] (test 0 AtLeast 
 unfoldable pub notStarted : Chart
 notStarted = drawn 3 2 1 (arrow 0 1 [] [] ∷ arrow 1 2 [] (test 0 AtLeast 0 ∷ []) ∷ [])
 
+-- 0→1 tests 0 at least 9, and nothing starts it: the starting count decides
+unfoldable pub countDecides : Chart
+countDecides = drawn 2 1 1 (arrow 0 1 [] (test 0 AtLeast 9 ∷ []) ∷ [])
+
 -- one number for every live timer of A
 unfoldable pub oneNumber : Numbering
 oneNumber = record { number = λ q j. elim (live A q j) [ true ↦ some 0 | false ↦ none ]; used = 1 }
