@@ -1,5 +1,5 @@
--- Charts that behave alike, and charts that do not: for each promise of `Alike` a pair of charts that keeps the others or that breaks it by itself.
--- Nothing is hard: what the definitions compute is put to the laws of `Meanings`. Assumes nothing.
+-- Charts that behave alike, and charts that do not: other runs, other acceptance, a test of a timer that was not started; and one chart from other
+-- counts, by each promise of `Alike`. Nothing is hard: what the definitions compute is put to the laws of `Meanings`. Assumes nothing.
 use mathlib.Core.Path.{_≡_, refl, sym, ap, _∙_}
 use mathlib.Core.Logic.{⊎-elim}
 use mathlib.Core.Bool.{Bool, true, true≢false}
@@ -58,7 +58,7 @@ not-started-not-alike a =
     let y : StartedIn notStarted 0 oneStep = reads-started x (record { there = refl }) refl in
     ⊎-elim (λ z. true≢false (sym (starts-iff notStarted 0 _ (record { there = refl }) .0 z))) (λ z. z) y
 
--- the same chart from other counts; each of the five promises fails by itself
+-- from the count 9 the step is taken, from 0 it is refused
 module _ (allowed : ℕ → Bool) (all : allowed 5 ≡ true) where
   decided : (answerOf allowed countDecides (λ j. 9) oneStep ≡ result (record { location = 1; time = 5; accepting = true }))
       × (answerOf allowed countDecides (λ j. 0) oneStep ≡ refused 24 0)
@@ -66,25 +66,26 @@ module _ (allowed : ℕ → Bool) (all : allowed 5 ≡ true) where
       grown restarted allMet after enabled attempt steps begin outcome accepts arrival answerOf
   decided = (rw all refl, rw all refl)
 
+-- so the chart does not behave as it does from other counts: by the answers, the runs, the acceptance, the points, the player's answers
 pub count-decides-not-alike : Alike countDecides countDecides → ⊥ × ⊥ × ⊥ × ⊥ × ⊥
 unfolding countDecides drawn arrow test begin steps outcome everyTime playerTime waited
 count-decides-not-alike a = (
-  result-refused (sym (a .answers (λ j. 9) (λ j. 0) oneStep) ∙ yes .0) (yes .1),
-  result-refused (is-run-iff countDecides (λ j. 0) oneStep .0 (a .runs (λ j. 9) (λ j. 0) oneStep .0 run) .1) (yes .1),
-  result-refused (ends-accepting-iff countDecides (λ j. 0) oneStep .0 (a .accepting (λ j. 9) (λ j. 0) oneStep .0 accepting) .1) (yes .1),
+  result-refused (sym (a .answers (λ j. 9) (λ j. 0) oneStep) ∙ list .0) (list .1),
+  result-refused (is-run-iff countDecides (λ j. 0) oneStep .0 (a .runs (λ j. 9) (λ j. 0) oneStep .0 run) .1) (list .1),
+  result-refused (ends-accepting-iff countDecides (λ j. 0) oneStep .0 (a .accepting (λ j. 9) (λ j. 0) oneStep .0 accepting) .1) (list .1),
   reads-none (both .waits 0 .reads 0 _ (record { there = refl }) (ap (λ (s : State). s .location) (result-same (both .run .ends))) 0 _ refl),
   result-refused (sym (a .plays (λ j. 9) (λ j. 0) oneStep) ∙ decided playerTime refl .0) (decided playerTime refl .1),
 )
   where
-    yes : (answerOf everyTime countDecides (λ j. 9) oneStep ≡ result (record { location = 1; time = 5; accepting = true }))
+    list : (answerOf everyTime countDecides (λ j. 9) oneStep ≡ result (record { location = 1; time = 5; accepting = true }))
         × (answerOf everyTime countDecides (λ j. 0) oneStep ≡ refused 24 0)
-    yes = decided everyTime refl
+    list = decided everyTime refl
 
     run : IsRun countDecides (λ j. 9) oneStep
-    run = is-run-iff countDecides (λ j. 9) oneStep .1 (_, yes .0)
+    run = is-run-iff countDecides (λ j. 9) oneStep .1 (_, list .0)
 
     accepting : EndsAccepting countDecides (λ j. 9) oneStep
-    accepting = ends-accepting-iff countDecides (λ j. 9) oneStep .1 (_, yes .0, refl)
+    accepting = ends-accepting-iff countDecides (λ j. 9) oneStep .1 (_, list .0, refl)
 
     both : SamePoints countDecides countDecides (λ j. 9) (λ j. 0) []
     both = a .points (λ j. 9) (λ j. 0) [] [] (_, record { ends = refl })

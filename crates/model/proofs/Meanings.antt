@@ -1,5 +1,5 @@
--- What the relations of runs and of demand 3 say, each held to something that the definitions compute. Two charts that behave alike keep a relation
--- that is wrong in both, so nothing else would show it. Nothing is hard. Assumes nothing.
+-- What the relations of runs and of demand 3 say, each held to something that the definitions compute: `Alike` sets two charts side by side, and a
+-- relation that is wrong for both would go unnoticed there. Nothing is hard. Assumes nothing.
 use mathlib.Core.Path.{_≡_, refl, sym, ap, _∙_, subst}
 use mathlib.Core.Logic.{inl, inr, _↔_}
 use mathlib.Core.Bool.{true}
@@ -12,20 +12,15 @@ use lib.ListN.{length, getElem?, take, drop, take-append-drop}
 use lib.Seq.{take-append-seam, take-nil}
 use Rattle.comparison.specs.Comparison.{met}
 use Rattle.lists.specs.Lists.{memb}
-use Rattle.model.specs.Answer.{Answer, result, refused, then}
+use Rattle.model.specs.Answer.{Answer, result, then}
 use Rattle.model.specs.Chart.{Test, Transition, Chart, Nth}
 use Rattle.model.specs.Run.{Counts, State, Step, Run, EndsAccepting, Point, grown, begin, steps, outcome, everyTime, waited}
 use Rattle.model.specs.Player.{Arrival, arrival, answerOf}
 use Rattle.model.specs.Equivalence.{Starts, StartedIn, Reads, SamePoints, IsRun}
-use Rattle.model.proofs.Answers.{not-result, result-same}
+use Rattle.model.proofs.Answers.{result-same, then-result}
 use Rattle.model.proofs.Transitions.{nth-same}
 
 -- ---- runs, their acceptance and their points
-
--- what goes on from a result is a result itself only if there was one
-then-result : {A B : Type 0} (x : Answer A) (f : A → Answer B) {b : B} → then x f ≡ result b → (a : A) × (x ≡ result a) × (f a ≡ result b)
-then-result (result a) f e = (a, refl, e)
-then-result (refused n p) f e = absurd (not-result e)
 
 module _ (c : Chart) (v : Counts) (es : List Step) where
   -- a run is a list whose answer is a result
@@ -36,7 +31,7 @@ module _ (c : Chart) (v : Counts) (es : List Step) where
     λ x. let y = then-result (outcome everyTime c v es) (arrival c) (x .1) in (y .0, record { ends = y .1 }),
   )
 
-  -- it ends accepting if that result accepts
+  -- it ends accepting exactly if that result accepts
   pub ends-accepting-iff : EndsAccepting c v es ↔ ((a : Arrival) × (answerOf everyTime c v es ≡ result a) × (a .accepting ≡ true))
   unfolding answerOf arrival
   ends-accepting-iff = (

@@ -10,10 +10,11 @@ use Rattle.model.specs.Player.{stepsOf}
 use Rattle.model.specs.Rewrite.{Numbering}
 use Rattle.model.specs.Cases.{arrow, test, drawn, A, B}
 
--- B played 0 at 5, and 0, 1 at 5, 7
+-- 0 at 5
 unfoldable pub oneStep : List Step
 oneStep = stepsOf (0 ∷ []) (5 ∷ [])
 
+-- 0, 1 at 5, 7
 unfoldable pub twoSteps : List Step
 twoSteps = stepsOf (0 ∷ 1 ∷ []) (5 ∷ 7 ∷ [])
 
