@@ -3,6 +3,7 @@
 use mathlib.Core.Path.{_≡_, sym, ap, _∙_, subst}
 use mathlib.Core.List.{List}
 use Prim.Native.Nat.{ℕ, _≤_}
+use lib.ListN.{length, getD}
 use Rattle.model.specs.Answer.{result}
 use Rattle.model.specs.Chart.{Chart}
 use Rattle.model.specs.Valid.{Valid}
@@ -16,8 +17,9 @@ use Rattle.model.proofs.EqualRuns.{plan-alike}
 use Rattle.model.proofs.RewrittenValid.{rewritten-valid}
 use Rattle.model.proofs.RewritingAlike.{rewriting-is}
 use Rattle.model.proofs.EqualAnswers.{rewritten-judged, equal-behaviour, rewriting-judged}
-use Rattle.model.specs.PlayerTerms.{CountsAllowed}
-use Rattle.model.proofs.PlayerLaws.{alike-played}
+use Rattle.model.specs.Player.{stepsOf}
+use Rattle.model.specs.PlayerTerms.{CountsAllowed, PlayerAnswer}
+use Rattle.model.proofs.PlayerLaws.{played-answer, alike-played}
 use Rattle.model.proofs.PlayerAnswer.{player-answer}
 use Rattle.file_format.specs.File.{chartIn, fileOf}
 use Rattle.file_format.proofs.File.{chart-survives, file-survives, reads-valid}
@@ -25,6 +27,12 @@ use Rattle.rewriting.specs.Rewriting.{rewriteInto}
 use Rattle.rewriting.proofs.Fits.{rewriting-of}
 use Rattle.player.specs.Playing.{playAnswer}
 use Rattle.equivalence.specs.Demand.{Demand}
+
+-- the player on the file of a chart that it takes
+file-answers : (c : Chart) → Valid 2 c → judged c ≡ result c → (v is ts : List ℕ) → CountsAllowed c v → length is ≡ length ts
+    → PlayerAnswer c (λ j. getD v j 0) (stepsOf is ts) (playAnswer (fileOf c) v is ts)
+unfolding playAnswer
+file-answers c valid j v is ts a l = rw (chart-survives c valid, played-answer c v j a is ts l) (player-answer c (λ k. getD v k 0) (stepsOf is ts))
 
 -- two charts that behave alike and that the player takes
 demand-of : (c c′ : Chart) → Valid 2 c → judged c ≡ result c → Alike c c′ → Valid 2 c′ → judged c′ ≡ result c′ → Demand c c′
@@ -34,7 +42,8 @@ demand-of c c′ valid j alike valid′ j′ = record {
   valid = valid′;
   judged-so = j′;
   plays = λ v w is ts a b. rw (chart-survives c valid, chart-survives c′ valid′) (alike-played c c′ alike j j′ v w a b is ts);
-  answers = player-answer c;
+  answers = file-answers c valid j;
+  answers′ = file-answers c′ valid′ j′;
 }
 
 -- every numbering that is a plan of the chart
@@ -60,3 +69,8 @@ module _ (K room : ℕ) (bs : List ℕ) (bytes : Bytes bs) (c : Chart) (reads : 
       → playAnswer bs v is ts ≡ playAnswer (fileOf (x .chart)) w is ts
   first-fit-plays v w is ts a b =
       ap (λ (y : List ℕ). playAnswer y v is ts) (sym (file-survives bs c bytes reads)) ∙ first-fit-demand .plays v w is ts a b
+
+  -- and on the bytes of the file, too, it is what the step list comes to
+  pub first-fit-answers : (v is ts : List ℕ) → CountsAllowed c v → length is ≡ length ts
+      → PlayerAnswer c (λ j. getD v j 0) (stepsOf is ts) (playAnswer bs v is ts)
+  first-fit-answers v is ts a l = rw (file-survives bs c bytes reads) at (first-fit-demand .answers v is ts a l)

@@ -2,14 +2,14 @@
 use mathlib.Core.Path.{_≡_}
 use mathlib.Core.List.{List}
 use Prim.Native.Nat.{ℕ}
+use lib.ListN.{length, getD}
 use Rattle.model.specs.Answer.{result}
 use Rattle.model.specs.Chart.{Chart}
 use Rattle.model.specs.Valid.{Valid}
-use Rattle.model.specs.Run.{Counts, Step}
 use Rattle.model.specs.Equivalence.{Alike}
 use Rattle.model.specs.Judge.{judged}
-use Rattle.model.specs.PlayerTerms.{CountsAllowed}
-use Rattle.model.specs.PlayerTerms.{PlayerAnswer}
+use Rattle.model.specs.Player.{stepsOf}
+use Rattle.model.specs.PlayerTerms.{CountsAllowed, PlayerAnswer}
 use Rattle.file_format.specs.File.{fileOf}
 use Rattle.player.specs.Playing.{playAnswer}
 
@@ -22,5 +22,8 @@ pub record Demand (c c′ : Chart) : Type 0 where
   pub judged-so : judged c′ ≡ result c′
   -- the player, called on both files from counts that 12 allows, gives one answer
   pub plays : (v w is ts : List ℕ) → CountsAllowed c v → CountsAllowed c′ w → playAnswer (fileOf c) v is ts ≡ playAnswer (fileOf c′) w is ts
-  -- and that answer is the step list's own, but for 15
-  pub answers : (v : Counts) (es : List Step) → PlayerAnswer c v es
+  -- and that answer is what the step list comes to, but for 15: on the drawn file, and on the rewritten one
+  pub answers : (v is ts : List ℕ) → CountsAllowed c v → length is ≡ length ts
+      → PlayerAnswer c (λ j. getD v j 0) (stepsOf is ts) (playAnswer (fileOf c) v is ts)
+  pub answers′ : (w is ts : List ℕ) → CountsAllowed c′ w → length is ≡ length ts
+      → PlayerAnswer c′ (λ j. getD w j 0) (stepsOf is ts) (playAnswer (fileOf c′) w is ts)

@@ -26,6 +26,11 @@ module _ {A : Type 0} where
   unless-result true n p x e = (refl, e)
   unless-result false n p x e = absurd (not-result e)
 
+-- where going on gives a result, there was one to go on from
+pub then-result : {A B : Type 0} (x : Answer A) (k : A → Answer B) {b : B} → then x k ≡ result b → (a : A) × (x ≡ result a) × (k a ≡ result b)
+then-result (result a) k e = (a, refl, e)
+then-result (refused n p) k e = absurd (not-result e)
+
 -- ---- two answers match: results that R relates, or the same refusal
 
 abbrev pub Matching : {A B : Type 0} → (A → B → Type 0) → Answer A → Answer B → Type 0

@@ -36,3 +36,6 @@ pub mod PlayerLaws
 pub mod PlayerAnswer
 pub mod RewritingAlike
 pub mod EqualAnswers
+pub mod Meanings
+pub mod Examples
+pub mod AlikeExamples

@@ -1,17 +1,18 @@
--- The live sets that the rounds give are what is live by paths. Hard: paths run forwards and the sets backwards: both are the least that holds at
--- each test and goes back over each transition that does not start the timer. Assumes nothing.
+-- The live sets that the rounds give are what is live by paths, and with them what is born. Hard: paths run forwards and the sets backwards: both
+-- are the least that holds at each test and goes back over each transition that does not start the timer. Assumes nothing.
 use mathlib.Core.Path.{_≡_, sym, ap, _∙_, subst}
 use mathlib.Core.Logic.{_⊎_, inl, inr, _↔_}
-use mathlib.Core.Bool.{true}
+use mathlib.Core.Bool.{true, _&&_}
 use Prim.Native.Nat.{ℕ, _≤_, _<_}
 use lib.Dec.{lit<}
 use Rattle.timer_set.specs.Members.{member}
+use Rattle.lists.specs.Lists.{memb}
 use Rattle.model.specs.Comes.{Comes, Shaped}
 use Rattle.timer_set.proofs.Members.{member-empty}
-use Rattle.lists.proofs.Bools.{not-both, lt-or-le}
+use Rattle.lists.proofs.Bools.{not-both, lt-or-le, and-left, and-right, and-both}
 use Rattle.model.specs.Chart.{Transition, Chart}
 use Rattle.model.specs.Valid.{Valid}
-use Rattle.model.specs.Path.{Live}
+use Rattle.model.specs.Path.{Live, Born}
 use Rattle.model.specs.Flow.{Edge}
 use Rattle.model.specs.Live.{startsSet, testsSet, liveFlow, liveSets, live}
 use Rattle.model.proofs.Transitions.{nth-valid}
@@ -64,3 +65,13 @@ module _ {W : ℕ} {c : Chart} (valid : Valid W c) where
       out : (q < c .locations) ⊎ (c .locations ≤ q) → live c q j ≡ true → Live c q j
       out (inl b) h = comes-live c j q (settled-iff (liveFlow c) live-shaped q j b .0 h)
       out (inr b) h = absurd (not-both (rw (settled-beyond (liveFlow c) q b) at h) (member-empty j))
+
+  -- born on r: r starts the timer, and it is in the live set of r's target
+  pub born-iff : (r : Transition) (j : ℕ) → Born c r j ↔ ((memb j (r .starts) && live c (r .target) j) ≡ true)
+  born-iff r j = (
+    λ b. and-both (b .started) (live-iff (r .target) j .1 (b .active)),
+    λ h. record {
+      started = and-left _ (live c (r .target) j) h;
+      active = live-iff (r .target) j .0 (and-right (memb j (r .starts)) _ h);
+    },
+  )

@@ -1,8 +1,8 @@
 -- The player's answer is the step list's own answer, except that it is 15 at step n exactly when the steps before n are taken, step n names a
--- transition, and its time is the first over `largestTime`. Hard: both are stepped at once: up to the first late step they go alike. Assumes
--- nothing.
+-- transition, and its time is the first over `largestTime`; nothing else is such an answer. Hard: both are stepped at once: up to the first late
+-- step they go alike. Assumes nothing.
 use mathlib.Core.Path.{_≡_, refl, sym, ap, _∙_, subst}
-use mathlib.Core.Logic.{_⊎_, inl, inr}
+use mathlib.Core.Logic.{_⊎_, inl, inr, ⊎-elim}
 use mathlib.Core.Bool.{true≢false}
 use mathlib.Core.Option.{Option, none, some, Option·some-injective, Option·none-ne-some}
 use mathlib.Core.List.{List, [], _∷_}
@@ -16,8 +16,7 @@ use Rattle.lists.proofs.Bools.{lt-or-le}
 use Rattle.model.specs.Answer.{Answer, result, refused, then, unless}
 use Rattle.model.specs.Chart.{Transition, Chart, Nth}
 use Rattle.model.specs.Run.{Counts, State, Step, attempt, steps, begin, outcome, everyTime, playerTime, largestTime}
-use Rattle.model.specs.Player.{arrival, answerOf}
-use Rattle.model.specs.Equivalence.{IsRun}
+use Rattle.model.specs.Player.{Arrival, arrival, answerOf}
 use Rattle.model.proofs.Answers.{not-result, refused-same, number-is}
 use Rattle.model.proofs.Steps.{judgedStep, attempt-none, attempt-some}
 use Rattle.model.proofs.PlayerNumbers.{list-numbers}
@@ -118,29 +117,33 @@ module _ (c : Chart) where
 
 -- ---- the player's answer
 
-pub player-answer : (c : Chart) (v : Counts) (es : List Step) → PlayerAnswer c v es
-unfolding answerOf outcome
-player-answer c v es = record { late = λ n. (λ e. is-late n e cases, stops n); other = λ h. same h cases }
-  where
-    cases : LateOrSame c 0 (begin c v) es
-    cases = late-or-same c es 0 (begin c v)
+module _ (c : Chart) (v : Counts) (es : List Step) where
+  stops : (n : ℕ) → LateStep c v es n → answerOf playerTime c v es ≡ refused 15 n
+  unfolding answerOf outcome
+  stops n x =
+      ap (λ (y : Answer State). then y (arrival c)) (late-stops c es 0 (begin c v) n (x .too-late) (x .taken .0, x .taken .1 .ends))
+      ∙ ap (refused 15) (omega arith)
 
-    run : (n : ℕ) → Taken c 0 (begin c v) (take n es) → IsRun c v (take n es)
-    run n k = (k .0, record { ends = k .1 })
+  late-or-own : ((n : ℕ) × LateStep c v es n) ⊎ (answerOf playerTime c v es ≡ answerOf everyTime c v es)
+  unfolding answerOf outcome
+  late-or-own =
+      ⊎-elim (λ x. inl (x .0, record { too-late = x .1; taken = (x .2 .0, record { ends = x .2 .1 }) }))
+      (λ p. inr (ap (λ (y : Answer State). then y (arrival c)) p)) (late-or-same c es 0 (begin c v))
 
-    stops : (n : ℕ) → LateStep c v es n → answerOf playerTime c v es ≡ refused 15 n
-    stops n x =
-        ap (λ (y : Answer State). then y (arrival c)) (late-stops c es 0 (begin c v) n (x .too-late) (x .taken .0, x .taken .1 .ends))
-        ∙ ap (refused 15) (omega arith)
+  own-not-late : {n : ℕ} → answerOf everyTime c v es ≡ refused 15 n → ⊥
+  own-not-late e = true≢false (sym (number-is _ _ (list-numbers c v es) e) ∙ unfold memb in refl)
 
-    is-late : (n : ℕ) → answerOf playerTime c v es ≡ refused 15 n → LateOrSame c 0 (begin c v) es → LateStep c v es n
-    is-late n e (inl x) =
-        let found : LateStep c v es (x .0) = record { too-late = x .1; taken = run (x .0) (x .2) } in
-        subst (λ (m : ℕ). LateStep c v es m) (refused-same (sym (stops (x .0) found) ∙ e) .1) found
-    is-late n e (inr p) =
-        let own : answerOf everyTime c v es ≡ refused 15 n = sym (ap (λ (y : Answer State). then y (arrival c)) p) ∙ e in
-        absurd (true≢false (sym (number-is _ _ (list-numbers c v es) own) ∙ unfold memb in refl))
+  pub player-answer : PlayerAnswer c v es (answerOf playerTime c v es)
+  player-answer = record {
+    late = λ n. (
+      λ e. ⊎-elim (λ x. subst (λ (m : ℕ). LateStep c v es m) (refused-same (sym (stops (x .0) (x .1)) ∙ e) .1) (x .1))
+          (λ p. absurd (own-not-late (sym p ∙ e))) late-or-own,
+      stops n,
+    );
+    other = λ h. ⊎-elim (λ x. absurd (h (x .0) (x .1))) (λ p. p) late-or-own;
+  }
 
-    same : ((n : ℕ) → LateStep c v es n → ⊥) → LateOrSame c 0 (begin c v) es → answerOf playerTime c v es ≡ answerOf everyTime c v es
-    same h (inl x) = absurd (h (x .0) (record { too-late = x .1; taken = run (x .0) (x .2) }))
-    same h (inr p) = ap (λ (y : Answer State). then y (arrival c)) p
+  -- and it is the only such answer
+  pub player-answer-only : {a : Answer Arrival} → PlayerAnswer c v es a → a ≡ answerOf playerTime c v es
+  player-answer-only x =
+      ⊎-elim (λ y. x .late (y .0) .1 (y .1) ∙ sym (stops (y .0) (y .1))) (λ p. x .other (λ n l. own-not-late (sym p ∙ stops n l)) ∙ sym p) late-or-own

@@ -48,6 +48,11 @@ module _ (c : Chart) (counts : List ℕ) where
       → played c counts is ts ≡ unless (eqb (length is) (length ts)) 13 nowhere (answerOf playerTime c (λ j. getD counts j 0) (stepsOf is ts))
   played-steps e a is ts = played-judged c counts is ts e ∙ counts-pass _ a
 
+  -- and for lists of one length just that
+  pub played-answer : judged c ≡ result c → CountsAllowed c counts → (is ts : List ℕ) → length is ≡ length ts
+      → played c counts is ts ≡ answerOf playerTime c (λ j. getD counts j 0) (stepsOf is ts)
+  played-answer e a is ts l = played-steps e a is ts ∙ rw (eq-eqb (length is) (length ts) l) refl
+
 module _ (c c′ : Chart) (alike : Alike c c′) (judged-c : judged c ≡ result c) (judged-c′ : judged c′ ≡ result c′) where
   pub alike-played : (v w : List ℕ) → CountsAllowed c v → CountsAllowed c′ w → (is ts : List ℕ) → played c v is ts ≡ played c′ w is ts
   alike-played v w a a′ is ts =

@@ -160,10 +160,11 @@ starred =
     ∷ []
 
 -- what "goes wrong unnoticed", beside the cases above: a timer started anew begins a family of its own; a start on the same transition does not
--- come before its test; and an event is kept, which is 0 in all charts above
+-- come before its test, neither where it is judged nor where it is played; and an event is kept, which is 0 in all charts above
 unfoldable pub unnoticed : List Case
 unnoticed =
     case (numbers restart) (given ((64, 0) ∷ (128, 0) ∷ []) 1 1)
     ∷ case (rewrite ownStart 64) (rewriting-is (refused 10 0))
+    ∷ case (play B′ (0 ∷ []) (0 ∷ 1 ∷ []) (5 ∷ 8 ∷ [])) (played-is (refused 24 1))
     ∷ case (rewrite twoEvents 1) (rewriting-is (result (record { used = 1; chart = twoEvents′ })))
     ∷ []

@@ -20,3 +20,4 @@ pub mod Placing
 pub mod SharingRule
 pub mod PlayerTerms
 pub mod Comes
+pub mod Examples

@@ -5,10 +5,10 @@ use mathlib.Core.Option.{some}
 use mathlib.Core.List.{List}
 use Prim.Native.Nat.{ℕ, _≤_, _<_}
 use lib.ListN.{length, getD, getElem?, take}
-use Rattle.model.specs.Answer.{refused}
+use Rattle.model.specs.Answer.{Answer, refused}
 use Rattle.model.specs.Chart.{Transition, Chart, Nth}
-use Rattle.model.specs.Run.{Counts, Step, largestTime, everyTime, playerTime}
-use Rattle.model.specs.Player.{answerOf}
+use Rattle.model.specs.Run.{Counts, Step, largestTime, everyTime}
+use Rattle.model.specs.Player.{Arrival, answerOf}
 use Rattle.model.specs.Equivalence.{IsRun}
 
 -- one count for each timer, none over 16,777,215
@@ -30,9 +30,9 @@ pub record LateStep (c : Chart) (v : Counts) (es : List Step) (n : ℕ) : Type 0
   pub too-late : TooLate c es n
   pub taken : IsRun c v (take n es)
 
--- what the player answers to a step list
-pub record PlayerAnswer (c : Chart) (v : Counts) (es : List Step) : Type 0 where
+-- a is what the player has to answer to the step list
+pub record PlayerAnswer (c : Chart) (v : Counts) (es : List Step) (a : Answer Arrival) : Type 0 where
   -- 15 at step n exactly where step n is late
-  pub late : (n : ℕ) → (answerOf playerTime c v es ≡ refused 15 n) ↔ LateStep c v es n
+  pub late : (n : ℕ) → (a ≡ refused 15 n) ↔ LateStep c v es n
   -- in every other case the list's own answer
-  pub other : ((n : ℕ) → LateStep c v es n → ⊥) → answerOf playerTime c v es ≡ answerOf everyTime c v es
+  pub other : ((n : ℕ) → LateStep c v es n → ⊥) → a ≡ answerOf everyTime c v es
