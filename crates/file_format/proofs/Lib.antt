@@ -11,3 +11,4 @@ pub mod Lengths
 pub mod File
 pub mod Bytes
 pub mod Refusals
+pub mod Cases
