@@ -14,7 +14,7 @@ use Rattle.file_format.proofs.Lengths.{length-digits, length-numbers}
 use Rattle.chart_lists.specs.Lists.{Lists}
 use Rattle.chart_lists.specs.declared.Header.{Header}
 use Rattle.list_judging.specs.Typed.{Typed, TypedHeader}
-use Rattle.list_judging.specs.FileFrom.{Field, fieldBytes, entryField, startsField, testFields, lengthAt, transitionFields, testsBefore}
+use Rattle.list_judging.specs.FileFrom.{FieldBytes, bytesOf, entryField, startsField, testFields, lengthAt, transitionFields, testsBefore}
 use Rattle.list_judging.specs.FileFrom.{recordFields, headerFields, bodyFrom}
 use Rattle.list_judging.proofs.Turns.{members-few}
 
@@ -25,39 +25,39 @@ getD-below n (x ∷ l) zero z h = h .0
 getD-below n (x ∷ l) (suc i) z h = getD-below n l i z (h .1)
 
 -- the fields have at most n bytes
-record Most (fs : List Field) (n : ℕ) : Type 0 where
-  is : length (fieldBytes fs) ≤ n
+record Most (fs : List FieldBytes) (n : ℕ) : Type 0 where
+  is : length (bytesOf fs) ≤ n
 
 most-end : Most [] 0
-unfolding fieldBytes
+unfolding bytesOf
 most-end = record { is = omega arith }
 
 -- a field that comes from an entry, and those that follow it
-most-first : (f : ℕ → List ℕ) (w : ℕ) → ((v : ℕ) → length (f v) ≤ w) → (o : Option ℕ) {gs : List Field} {n : ℕ} → Most gs n
+most-first : (f : ℕ → List ℕ) (w : ℕ) → ((v : ℕ) → length (f v) ≤ w) → (o : Option ℕ) {gs : List FieldBytes} {n : ℕ} → Most gs n
     → Most (Option·map f o ∷ gs) (w + n)
-unfolding fieldBytes
+unfolding bytesOf
 most-first f w h none g = record { is = omega arith }
 most-first f w h (some v) g = record { is = rw length-append (omega (arith, h v, g .is)) }
 
-most-number : (w : ℕ) (o : Option ℕ) {gs : List Field} {n : ℕ} → Most gs n → Most (Option·map (digits w) o ∷ gs) (w + n)
+most-number : (w : ℕ) (o : Option ℕ) {gs : List FieldBytes} {n : ℕ} → Most gs n → Most (Option·map (digits w) o ∷ gs) (w + n)
 most-number w o g = most-first (digits w) w (λ v. le-of-eq (length-digits w v)) o g
 
-parts : (fs gs : List Field) → length (fieldBytes (fs ++ gs)) ≤ length (fieldBytes fs) + length (fieldBytes gs)
-unfolding fieldBytes
+parts : (fs gs : List FieldBytes) → length (bytesOf (fs ++ gs)) ≤ length (bytesOf fs) + length (bytesOf gs)
+unfolding bytesOf
 parts [] gs = omega arith
 parts (none ∷ fs) gs = omega arith
 parts (some bs ∷ fs) gs = simp length-append (omega (arith, parts fs gs))
 
-most-append : (fs gs : List Field) {m n : ℕ} → Most fs m → Most gs n → Most (fs ++ gs) (m + n)
+most-append : (fs gs : List FieldBytes) {m n : ℕ} → Most fs m → Most gs n → Most (fs ++ gs) (m + n)
 most-append fs gs a b = record { is = omega (arith, parts fs gs, a .is, b .is) }
 
-most-gather : (f : ℕ → List Field) (w : ℕ) → ((i : ℕ) → Most (f i) w) → (n : ℕ) → Most (gather f n) (w * n)
+most-gather : (f : ℕ → List FieldBytes) (w : ℕ) → ((i : ℕ) → Most (f i) w) → (n : ℕ) → Most (gather f n) (w * n)
 unfolding gather
 most-gather f w h zero = record { is = omega (arith, most-end .is) }
 most-gather f w h (suc n) = rw (mul-suc) (most-append (gather f n) (f n) (most-gather f w h n) (h n))
 
 module _ (l : Lists) (typed : Typed l) where
-  most-starts : (i : ℕ) {gs : List Field} {n : ℕ} → Most gs n → Most (startsField (l .starts) i ∷ gs) (65 + n)
+  most-starts : (i : ℕ) {gs : List FieldBytes} {n : ℕ} → Most gs n → Most (startsField (l .starts) i ∷ gs) (65 + n)
   unfolding startsField
   most-starts i g = most-first _ 65 few (getElem? (l .starts) i) g
     where

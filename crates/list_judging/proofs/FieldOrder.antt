@@ -20,40 +20,39 @@ use Rattle.timer_set.specs.Members.{members, allBelow}
 use Rattle.timer_set.proofs.Members.{members-rising}
 use Rattle.comparison.specs.Comparison.{comparisonOf}
 use Rattle.model.specs.Answer.{Answer, result, refused, then, unless, nowhere}
-use Rattle.model.specs.Chart.{Test, Transition, Chart}
-use Rattle.model.proofs.Answers.{result-same}
+use Rattle.model.specs.Chart.{Test, Chart}
 use Rattle.file_format.specs.Parse.{Parsed, value, bind, guard, below, many, entry, rising, digits, writeAll}
 use Rattle.file_format.specs.Body.{known, readComparison, readTest, readTests, recordLength, readTransition, readTransitions}
-use Rattle.file_format.specs.Body.{FileHeader, readHeader, chartOf, isEnd, readBody}
+use Rattle.file_format.specs.Body.{readHeader, chartOf, isEnd, readBody}
 use Rattle.file_format.specs.File.{readFrame, judgeFrame, answered, readFile, chartIn}
 use Rattle.file_format.proofs.Reading.{one-cut, below-refused}
 use Rattle.file_format.proofs.Fields.{number-trip, below-trip}
+use Rattle.file_format.proofs.Body.{readChart, bind-assoc, body-is}
 use Rattle.chart_lists.specs.Lists.{Lists}
 use Rattle.chart_lists.specs.declared.Header.{Header}
 use Rattle.list_judging.specs.FromLists.{orRefused, entryAt, acceptingFrom, testFrom, testsFrom, transitionFrom, transitionsFrom, chartFrom}
 use Rattle.list_judging.specs.Typed.{Typed, TypedHeader}
-use Rattle.list_judging.specs.FileFrom.{Field, fieldBytes, entryField, startsField, testFields, lengthAt, transitionFields, testsBefore}
+use Rattle.list_judging.specs.FileFrom.{FieldBytes, bytesOf, entryField, startsField, testFields, lengthAt, transitionFields, testsBefore}
 use Rattle.list_judging.specs.FileFrom.{recordFields, headerFields, bodyFrom, fileFrom}
-use Rattle.list_judging.proofs.Answers.{then-then, then-unless}
 use Rattle.list_judging.proofs.ListEntries.{entry-some}
 use Rattle.list_judging.proofs.Parts.{acceptingItem, nextLowest, accepting-items, testItem, noState, tests-items, nextTests, transitions-items}
 use Rattle.list_judging.proofs.TransitionOf.{transition-of}
 use Rattle.list_judging.proofs.Turns.{members-few}
 use Rattle.list_judging.proofs.FieldLengths.{getD-below, body-most}
-use Rattle.list_judging.proofs.ReadsAs.{parsed, ReadsAs, reads-end, bind-parsed, bind-unless, reads-then, reads-regrouped, reads-last}
-use Rattle.list_judging.proofs.ReadsAs.{reads-unless, reads-true, number-read, limit-read, entry-read, below-read, many-read}
+use Rattle.list_judging.proofs.FieldsGive.{parsed, FieldsGive, reads-end, bind-unless, reads-then, reads-regrouped, reads-last}
+use Rattle.list_judging.proofs.FieldsGive.{reads-unless, reads-true, bind-guard, number-read, limit-read, entry-read, below-read, many-read}
 
 -- ---- accepting locations
 
 accepting-read : (locations : ℕ) (l : List ℕ) (n : ℕ) → All (λ x. x < 65536) l
-    → ReadsAs (upTo (entryField 2 l) n) (rising 2 locations 5 nowhere n) (acceptingFrom locations l 0 0 n)
+    → FieldsGive (upTo (entryField 2 l) n) (rising 2 locations 5 nowhere n) (acceptingFrom locations l 0 0 n)
 unfolding upTo rising entry acceptingItem
 accepting-read locations l n fits =
     rw (accepting-items locations l 0 0 n)
     (many-read (λ lo x. suc x) (entry 2 locations 5 nowhere) (acceptingItem locations l) nextLowest (λ k. entryField 2 l k ∷ []) (λ k lo z. z ≡ lo)
     each (λ k lo z x e q. refl) _ 0 0 0 n (λ j. rw (zero-add j)) refl)
   where
-    each : (k lo z : ℕ) → z ≡ lo → ReadsAs (entryField 2 l k ∷ []) (entry 2 locations 5 nowhere z) (acceptingItem locations l k lo)
+    each : (k lo z : ℕ) → z ≡ lo → FieldsGive (entryField 2 l k ∷ []) (entry 2 locations 5 nowhere z) (acceptingItem locations l k lo)
     each k lo z e =
         rw e
         (reads-then (entryField 2 l k ∷ []) (below-read 1 l k locations 5 nowhere fits)
@@ -63,15 +62,15 @@ accepting-read locations l n fits =
 
 module _ (l : Lists) (typed : Typed l) (timers : ℕ) where
   code-read : (i k : ℕ)
-      → ReadsAs (entryField 1 (l .codes) k ∷ []) (readComparison i) (then (entryAt (l .codes) k) (λ code. orRefused 8 i (comparisonOf code)))
+      → FieldsGive (entryField 1 (l .codes) k ∷ []) (readComparison i) (then (entryAt (l .codes) k) (λ code. orRefused 8 i (comparisonOf code)))
   unfolding readComparison
   code-read i k = reads-then (entryField 1 (l .codes) k ∷ []) (entry-read 0 (l .codes) k (typed .codes)) (λ code e. there (comparisonOf code))
     where
-      there : (o : Option _) → ReadsAs [] (known i o) (orRefused 8 i o)
+      there : (o : Option _) → FieldsGive [] (known i o) (orRefused 8 i o)
       there none = record { is = λ gs. refl }
       there (some x) = record { is = λ gs. refl }
 
-  test-read : (i k : ℕ) → ReadsAs (testFields l k) (readTest 2 timers i) (testFrom l timers i k)
+  test-read : (i k : ℕ) → FieldsGive (testFields l k) (readTest 2 timers i) (testFrom l timers i k)
   unfolding testFields readTest testFrom
   test-read i k =
       reads-then (entryField 1 (l .timers) k ∷ []) (below-read 0 (l .timers) k timers 6 i (typed .timers)) (λ j e.
@@ -79,7 +78,7 @@ module _ (l : Lists) (typed : Typed l) (timers : ℕ) where
       (reads-then (entryField 1 (l .codes) k ∷ []) (code-read i k) (λ x e.
       reads-last _ (entry-read 1 (l .constants) k (typed .constants)))))
 
-  tests-read : (i k g : ℕ) → ReadsAs (gather (λ t. testFields l (k + t)) g) (readTests 2 timers i g) (testsFrom l timers i k g)
+  tests-read : (i k g : ℕ) → FieldsGive (gather (λ t. testFields l (k + t)) g) (readTests 2 timers i g) (testsFrom l timers i k g)
   unfolding readTests
   tests-read i k g =
       rw (tests-items l timers i k g)
@@ -111,20 +110,20 @@ starts-rising timers i lo (x ∷ xs) t r =
     go (inr h) ih = rw (le-ltb x timers h, le-leb timers x h)
 
 -- the count and the timers come from one entry, then the fields that follow
-module _ {B : Type 0} (timers i : ℕ) {gs : List Field} (k : (s : ℕ) → List ℕ → List ℕ → Parsed B) (f : ℕ → Answer B) where
-  starts-read : (o : Option ℕ) → ((w : ℕ) → o ≡ some w → ReadsAs gs (k (length (members w)) (members w)) (f w))
-      → ReadsAs (Option·map (λ w. digits 1 (length (members w)) ++ writeAll (digits 1) (members w)) o ∷ gs)
+module _ {B : Type 0} (timers i : ℕ) {gs : List FieldBytes} (k : (s : ℕ) → List ℕ → List ℕ → Parsed B) (f : ℕ → Answer B) where
+  starts-read : (o : Option ℕ) → ((w : ℕ) → o ≡ some w → FieldsGive gs (k (length (members w)) (members w)) (f w))
+      → FieldsGive (Option·map (λ w. digits 1 (length (members w)) ++ writeAll (digits 1) (members w)) o ∷ gs)
       (λ bs. bind (below 1 65 4 i bs) (λ s b₁. bind (rising 1 timers 6 i s b₁) (k s)))
       (then (orRefused 3 nowhere o) (λ w. unless (allBelow timers w) 6 i (f w)))
-  unfolding fieldBytes rising allBelow
+  unfolding bytesOf rising allBelow
   starts-read none h = record { is = λ hs. rw (below-refused 1 65 4 i [] (one-cut [] 0 (omega arith))) }
   starts-read (some w) h = record {
     is = λ hs.
-        let rest = fieldBytes (gs ++ hs) in
+        let rest = bytesOf (gs ++ hs) in
         let few : length (members w) < 65 = omega (arith, members-few w) in
         let count = below-trip 1 65 4 i (omega arith) .reads (length (members w)) (writeAll (digits 1) (members w) ++ rest) few in
         rw (append-assoc, count, starts-rising timers i 0 (members w) rest (members-rising w))
-        (bind-unless (not (anyOf (λ j. leb timers j) (members w))) 6 i (members w) rest (fieldBytes hs) _ (f w) (h w refl .is hs));
+        (bind-unless (not (anyOf (λ j. leb timers j) (members w))) 6 i (members w) rest (bytesOf hs) _ (f w) (h w refl .is hs));
   }
 
 -- ---- transitions
@@ -140,7 +139,7 @@ module _ (l : Lists) (typed : Typed l) (locations timers : ℕ) where
   unfolding lengthAt recordLength
   length-fits i = omega (arith, members-few (getD (l .starts) i 0), getD-below 256 (l .test-counts) i (omega arith) (typed .test-counts))
 
-  transition-read : (i k : ℕ) → ReadsAs (transitionFields l i k) (readTransition 2 locations timers i) (transitionFrom l locations timers i k)
+  transition-read : (i k : ℕ) → FieldsGive (transitionFields l i k) (readTransition 2 locations timers i) (transitionFrom l locations timers i k)
   unfolding transitionFields startsField lengthAt readTransition transitionFrom entryAt
   transition-read i k =
       number-read 2 (lengthAt l i) (length-fits i) _
@@ -161,10 +160,10 @@ module _ (l : Lists) (typed : Typed l) (locations timers : ℕ) where
       same w g e f = rw (f, getD-nth (l .starts) i 0 e) (eqb-self (recordLength 2 (length (members w)) g))
 
       tests : (g : ℕ) → getD (l .test-counts) i 0 ≡ g
-          → ReadsAs (gather (λ t. testFields l (k + t)) (getD (l .test-counts) i 0)) (readTests 2 timers i g) (testsFrom l timers i k g)
+          → FieldsGive (gather (λ t. testFields l (k + t)) (getD (l .test-counts) i 0)) (readTests 2 timers i g) (testsFrom l timers i k g)
       tests g f = rw f (tests-read l typed timers i k g)
 
-  transitions-read : (n : ℕ) → ReadsAs (recordFields l n) (readTransitions 2 locations timers n) (transitionsFrom l locations timers 0 0 n)
+  transitions-read : (n : ℕ) → FieldsGive (recordFields l n) (readTransitions 2 locations timers n) (transitionsFrom l locations timers 0 0 n)
   unfolding recordFields readTransitions testsBefore sumOf
   transitions-read n =
       rw (transitions-items l locations timers 0 0 n)
@@ -176,79 +175,39 @@ module _ (l : Lists) (typed : Typed l) (locations timers : ℕ) where
 
 -- ---- the header and the body
 
--- what stands before the transitions, or its refusal
-unfoldable headerFrom : Header → Lists → Answer FileHeader
-headerFrom m l =
-    unless (ltb (m .locations) 257) 4 nowhere (
-    unless (leb 1 (m .locations)) 4 nowhere (
-    unless (ltb (m .initial) (m .locations)) 5 nowhere (
-    unless (ltb (m .timers) 65) 4 nowhere (
-    then (acceptingFrom (m .locations) (l .accepting) 0 0 (m .accepting)) (λ accepting.
-    unless (ltb (m .transitions) 513) 4 nowhere (
-    result (record {
-      locations = m .locations;
-      initial = m .initial;
-      timers = m .timers;
-      accepting = accepting;
-      count = m .transitions;
-    })))))))
+module _ (m : Header) (l : Lists) (fits : TypedHeader m) (typed : Typed l) where
+  chart-read : FieldsGive (headerFields m l ++ recordFields l (m .transitions)) (λ bs. readChart 2 bs) (chartFrom m l)
+  unfolding headerFields readHeader chartFrom chartOf
+  chart-read =
+      simp (append-assoc, bind-assoc, bind-guard)
+      (limit-read 2 (m .locations) (fits .locations) 257 4 nowhere _
+      (reads-unless (leb 1 (m .locations)) 4 nowhere
+      (limit-read 2 (m .initial) (fits .initial) (m .locations) 5 nowhere _
+      (limit-read 1 (m .timers) (fits .timers) 65 4 nowhere _
+      (number-read 2 (m .accepting) (fits .accepting) _
+      (reads-then (upTo (entryField 2 (l .accepting)) (m .accepting))
+      (accepting-read (m .locations) (l .accepting) (m .accepting) (typed .accepting)) (λ accepting e.
+      limit-read 2 (m .transitions) (fits .transitions) 513 4 nowhere _
+      (reads-last _ (transitions-read l typed (m .locations) (m .timers) (m .transitions))))))))))
 
-module _ (m : Header) (l : Lists) where
-  chart-header : chartFrom m l
-      ≡ then (headerFrom m l) (λ h. then (transitionsFrom l (h .locations) (h .timers) 0 0 (h .count)) (λ rs. result (chartOf h rs)))
-  unfolding chartFrom headerFrom chartOf
-  chart-header = simp (then-then, then-unless)
+  pub body-order : answered (readBody 2 (bodyFrom m l)) ≡ chartFrom m l
+  unfolding bodyFrom bytesOf
+  body-order =
+      rw (← body-is 2 (bodyFrom m l), ← append-nil (headerFields m l ++ recordFields l (m .transitions)), chart-read .is [])
+      (ended (chartFrom m l))
+    where
+      ended : (x : Answer Chart) → answered (bind (parsed x []) (λ c t. guard (isEnd t) 3 nowhere (value c t))) ≡ x
+      ended (result c) = refl
+      ended (refused n p) = refl
 
-  counted : then (headerFrom m l) (λ h. result (h .count)) ≡ then (headerFrom m l) (λ h. result (m .transitions))
-  unfolding headerFrom
-  counted = simp (then-then, then-unless)
+  length-body : length (bodyFrom m l) < 256 ^ 4
+  length-body = omega (arith, body-most m l fits typed)
 
-  header-count : (h : FileHeader) → headerFrom m l ≡ result h → h .count ≡ m .transitions
-  header-count h e = result-same (rw e at counted)
-
-  module _ (fits : TypedHeader m) (typed : Typed l) where
-    header-read : ReadsAs (headerFields m l) readHeader (headerFrom m l)
-    unfolding headerFields readHeader headerFrom
-    header-read =
-        limit-read 2 (m .locations) (fits .locations) _
-        (reads-unless (leb 1 (m .locations)) 4 nowhere
-        (limit-read 2 (m .initial) (fits .initial) _
-        (limit-read 1 (m .timers) (fits .timers) _
-        (number-read 2 (m .accepting) (fits .accepting) _
-        (reads-then (upTo (entryField 2 (l .accepting)) (m .accepting))
-        (accepting-read (m .locations) (l .accepting) (m .accepting) (typed .accepting))
-        (λ accepting e. limit-read 2 (m .transitions) (fits .transitions) _ (reads-end _) 513 4 nowhere)))
-        65 4 nowhere) (m .locations) 5 nowhere)) 257 4 nowhere
-
-    pub body-order : readBody 2 (bodyFrom m l) ≡ parsed (chartFrom m l) []
-    unfolding readBody bodyFrom fieldBytes
-    body-order =
-        rw (chart-header, header-read .is (recordFields l (m .transitions)))
-        (bind-parsed (headerFrom m l) _ _ _ _ (λ h e. ended h (transitionsFrom l (h .locations) (h .timers) 0 0 (h .count)) (whole h e)))
-      where
-        whole : (h : FileHeader) → headerFrom m l ≡ result h
-            → readTransitions 2 (h .locations) (h .timers) (h .count) (fieldBytes (recordFields l (m .transitions)))
-            ≡ parsed (transitionsFrom l (h .locations) (h .timers) 0 0 (h .count)) []
-        whole h e = rw (← header-count h e) (rw append-nil at (transitions-read l typed (h .locations) (h .timers) (h .count) .is []))
-
-        ended : (h : FileHeader) (x : Answer (List Transition)) {y : Parsed (List Transition)} → y ≡ parsed x []
-            → bind y (λ rs b. guard (isEnd b) 3 nowhere (value (chartOf h rs) b)) ≡ parsed (then x (λ rs. result (chartOf h rs))) []
-        ended h (result rs) e = rw e
-        ended h (refused n p) e = rw e
-
-    length-body : length (bodyFrom m l) < 256 ^ 4
-    length-body = omega (arith, body-most m l fits typed)
-
-    pub writer-as-reader : chartIn (fileFrom m l) ≡ chartFrom m l
-    unfolding chartIn readFile fileFrom readFrame judgeFrame
-    writer-as-reader =
-        rw (
-          number-trip 1 .reads 1 (digits 4 (length (bodyFrom m l)) ++ bodyFrom m l) (omega arith),
-          number-trip 4 .reads (length (bodyFrom m l)) (bodyFrom m l) length-body,
-          eqb-self (length (bodyFrom m l)),
-          body-order,
-        ) (answered-parsed (chartFrom m l))
-      where
-        answered-parsed : (x : Answer Chart) → answered (parsed x []) ≡ x
-        answered-parsed (result c) = refl
-        answered-parsed (refused n p) = refl
+  pub writer-as-reader : chartIn (fileFrom m l) ≡ chartFrom m l
+  unfolding chartIn readFile fileFrom readFrame judgeFrame
+  writer-as-reader =
+      rw (
+        number-trip 1 .reads 1 (digits 4 (length (bodyFrom m l)) ++ bodyFrom m l) (omega arith),
+        number-trip 4 .reads (length (bodyFrom m l)) (bodyFrom m l) length-body,
+        eqb-self (length (bodyFrom m l)),
+      ) body-order

@@ -11,6 +11,6 @@ pub mod Starts
 pub mod FromValid
 pub mod FromHolds
 pub mod ValidFrom
-pub mod ReadsAs
+pub mod FieldsGive
 pub mod FieldLengths
 pub mod FieldOrder
