@@ -100,7 +100,7 @@ header-trip =
 -- ---- the body
 
 -- the body without the condition that nothing follows it
-abbrev readChart : (W : ℕ) → List ℕ → Parsed Chart
+abbrev pub readChart : (W : ℕ) → List ℕ → Parsed Chart
 readChart W bs = bind (readHeader bs) (λ h b₁. bind (readTransitions W (h .locations) (h .timers) (h .count) b₁) (λ rs b₂. value (chartOf h rs) b₂))
 
 -- the chart's transitions are valid after that header
@@ -150,12 +150,12 @@ chart-trip W narrow =
       transitions = q .1 j;
     }))))
 
-bind-assoc : {A B C : Type 0} (x : Parsed A) (k : A → List ℕ → Parsed B) (g : B → List ℕ → Parsed C)
+pub bind-assoc : {A B C : Type 0} (x : Parsed A) (k : A → List ℕ → Parsed B) (g : B → List ℕ → Parsed C)
     → bind (bind x k) g ≡ bind x (λ a t. bind (k a t) g)
 bind-assoc (value a t) k g = refl
 bind-assoc (refusal n p) k g = refl
 
-body-is : (W : ℕ) (bs : List ℕ) → bind (readChart W bs) (λ c t. guard (isEnd t) 3 nowhere (value c t)) ≡ readBody W bs
+pub body-is : (W : ℕ) (bs : List ℕ) → bind (readChart W bs) (λ c t. guard (isEnd t) 3 nowhere (value c t)) ≡ readBody W bs
 unfolding readBody
 body-is W bs = simp bind-assoc
 

@@ -12,3 +12,4 @@ pub mod File
 pub mod LargestFile
 pub mod Bytes
 pub mod Refusals
+pub mod Cases

@@ -3,3 +3,4 @@ pub mod Body
 pub mod File
 pub mod Lengths
 pub mod Refusals
+pub mod Cases

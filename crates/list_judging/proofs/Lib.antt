@@ -11,3 +11,6 @@ pub mod Starts
 pub mod FromValid
 pub mod FromHolds
 pub mod ValidFrom
+pub mod FieldsGive
+pub mod FieldLengths
+pub mod FieldOrder

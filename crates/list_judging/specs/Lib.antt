@@ -3,3 +3,4 @@ pub mod Parts
 pub mod Meaning
 pub mod Lent
 pub mod Typed
+pub mod FileFrom

@@ -1,7 +1,8 @@
--- Lists whose entries have the widths that the code gives them. Assumes nothing.
+-- A header and lists whose entries have the widths that the code gives them. Assumes nothing.
 use Prim.Native.Nat.{_<_, _^_}
 use Rattle.lists.specs.Rising.{All}
 use Rattle.chart_lists.specs.Lists.{Lists}
+use Rattle.chart_lists.specs.declared.Header.{Header}
 
 -- bytes, pairs of bytes and words
 pub record Typed (l : Lists) : Type 0 where
@@ -14,3 +15,11 @@ pub record Typed (l : Lists) : Type 0 where
   pub timers : All (λ x. x < 256) (l .timers)
   pub codes : All (λ x. x < 256) (l .codes)
   pub constants : All (λ x. x < 65536) (l .constants)
+
+-- the number of timers is a byte, the others are pairs of bytes
+pub record TypedHeader (m : Header) : Type 0 where
+  pub locations : m .locations < 65536
+  pub initial : m .initial < 65536
+  pub timers : m .timers < 256
+  pub accepting : m .accepting < 65536
+  pub transitions : m .transitions < 65536

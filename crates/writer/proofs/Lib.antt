@@ -4,5 +4,4 @@ pub mod RecordBytes
 pub mod FileBytes
 pub mod TimersLeft
 pub mod Writing
-pub mod RoundTrip
 pub mod Refusals
