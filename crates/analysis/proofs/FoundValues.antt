@@ -9,8 +9,9 @@ use lib.Seq.{getD-append-add, getD-drop}
 use Rattle.model.specs.Answer.{result}
 use Rattle.model.specs.Chart.{Chart}
 use Rattle.model.specs.Live.{liveSets}
-use Rattle.model.specs.FirstFit.{used}
-use Rattle.model.proofs.UsedNumbers.{used-above, used-reached}
+use Rattle.model.specs.FirstFit.{board, used}
+use Rattle.model.proofs.NumberAt.{number-below}
+use Rattle.model.proofs.UsedNumbers.{used-reached}
 use Rattle.file_format.specs.Parse.{Bytes}
 use Rattle.file_format.proofs.File.{reads-valid}
 use Rattle.chart_lists.specs.Lists.{put, overwritten}
@@ -58,7 +59,7 @@ module _ (bs before : List ℕ) (bytes : Bytes bs) where
         floor-most = λ q h. rw (front q h) (floor-most valid q);
         floor-reached = (x .0, x .1, rw (front (x .0) (x .1)) (x .2));
         floor-used = floor-used valid;
-        used-above = used-above c;
+        used-above = number-below (board c);
         used-reached = used-reached valid;
         used-none = used-none valid;
       }

@@ -22,7 +22,8 @@ use Rattle.model.specs.Family.{livePairs}
 use Rattle.model.specs.FirstFit.{numberAt, fullest, floor, board, used}
 use Rattle.model.proofs.Settled.{settled-words}
 use Rattle.model.proofs.UsedNumbers.{used-reached}
-use Rattle.model.proofs.PairNumbers.{apart, below}
+use Rattle.model.proofs.NumberAt.{number-below}
+use Rattle.model.proofs.PairNumbers.{apart}
 use Rattle.model.proofs.BoardPlan.{number-live, live-number}
 use Rattle.model.proofs.LivePaths.{live-shaped, live-iff}
 use Rattle.analysis.proofs.DifferentNumbers.{few-numbers}
@@ -82,7 +83,7 @@ module _ {W : ℕ} {c : Chart} (valid : Valid W c) where
     pub live-few : ones word ≤ used c
     unfolding used board
     live-few = rw (ones-members word (words q)) (few-numbers number (used c) 64 0 (members word) (members-rising word)
-        (λ j m. below (livePairs c) q j (number j) (numbered j m))
+        (λ j m. number-below (board c) q j (number j) (numbered j m))
         (λ i j m n e. apart (livePairs c) q i (number i) j (numbered i m) (numbered j n ∙ ap some (sym e))))
 
   pub floor-used : floor c ≤ used c
@@ -102,7 +103,10 @@ module _ {W : ℕ} {c : Chart} (valid : Valid W c) where
 
   pub used-none : (used c ≡ 0) ↔ ((q j : ℕ) → Live c q j → ⊥)
   unfolding used board
-  used-none = (λ e q j l. let n = live-number valid q j l in omega (arith, below (livePairs c) q j (n .0) (n .1), e), λ f. none-used f (used c) refl)
+  used-none = (
+    λ e q j l. let n = live-number valid q j l in omega (arith, number-below (board c) q j (n .0) (n .1), e),
+    λ f. none-used f (used c) refl,
+  )
     where
       none-used : ((q j : ℕ) → Live c q j → ⊥) → (n : ℕ) → used c ≡ n → used c ≡ 0
       none-used f zero e = e

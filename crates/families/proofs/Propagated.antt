@@ -11,6 +11,7 @@ use lib.Seq.{getD-set-same, getD-set-other}
 use Rattle.lists.proofs.Bools.{not-both, or-cases, or-left}
 use Rattle.timer_set.specs.Members.{member, joined}
 use Rattle.timer_set.proofs.Members.{member-empty, member-joined}
+use Rattle.model.specs.Chain.{Between}
 use Rattle.model.specs.Family.{Link, Pairs, Linked, Joined}
 use Rattle.model.proofs.Joined.{linked-sym, joined-refl, joined-one, joined-trans, joined-carries}
 use Rattle.families.specs.Propagation.{linkOn, LinkLists, Ends, Propagated, EndsAgree, Joins}
@@ -82,7 +83,7 @@ module _ (l : List ℕ) (q roots : ℕ) (inside : q < length l) (empty : (s : �
       over j s t x b = go (links .all (x .number) (x .link) (x .is-nth))
         where
           ends′ : member (getD m (x .link .one) 0) j ≡ member (getD m (x .link .other) 0) j
-              → ((x .link .one ≡ s) × (x .link .other ≡ t)) ⊎ ((x .link .one ≡ t) × (x .link .other ≡ s)) → member (getD m t 0) j ≡ true
+              → Between (x .link .one) (x .link .other) s t → member (getD m t 0) j ≡ true
           ends′ e (inl y) = sym (rw (y .0, y .1) at e) ∙ b
           ends′ e (inr y) = (rw (y .0, y .1) at e) ∙ b
 

@@ -67,7 +67,7 @@ module _ (N : Numbering) (few : (q j k : ℕ) → N .number q j ≡ some k → k
 -- no number of the board is above 63 if at most 64 are used
 pub board-few : (c : Chart) → used c ≤ 64 → (q j k : ℕ) → numbering (board c) .number q j ≡ some k → k < 64
 unfolding used numbering
-board-few c few q j k e = omega (arith, number-below q j (board c) k e)
+board-few c few q j k e = omega (arith, number-below (board c) q j k e)
 
 pub chart-fits : {W : ℕ} {c : Chart} → Valid W c → used c ≤ 64 → (K : ℕ) → length (chartText K c) ≤ largestText
 unfolding chartText

@@ -21,7 +21,7 @@ pub use Rattle.model.proofs.LivePairs.{pair-live, live-pairs-formed}
 use Rattle.model.proofs.LivePairs.{linked-iff}
 use Rattle.model.proofs.FirstFit.{blocked-iff}
 use Rattle.model.proofs.NumberAt.{number-below}
-use Rattle.model.proofs.PairNumbers.{number-of-pair, number-pair, linked-same, apart, below}
+use Rattle.model.proofs.PairNumbers.{number-of-pair, number-pair, linked-same, apart}
 
 module _ {W : ℕ} {c : Chart} (valid : Valid W c) where
   -- exactly the live timers have a number
@@ -44,7 +44,7 @@ module _ {W : ℕ} {c : Chart} (valid : Valid W c) where
         (record { number = i; transition = r; is-nth = n; not-started = f; ends = inl (refl, refl); live-one = live-back n f l; live-other = l }))
         ∙ e;
     apart = λ q j j′ k x e e′ i r n y. ap (λ (t : ℕ). memb t (r .starts)) (apart (livePairs c) q j k j′ e e′);
-    below = λ q j k e. below (livePairs c) q j k e;
+    below = number-below (board c);
   }
 
   -- a transition of the rewritten chart starts exactly the numbers that the timers born on it have at its target
@@ -56,7 +56,7 @@ module _ {W : ℕ} {c : Chart} (valid : Valid W c) where
         let x = filter-out (numberAt (board c) (r .target)) (r .starts) k (pick-out _ (usedBy (board c)) k m .1) in
         (x .0, record { started = x .1; active = number-live (r .target) (x .0) k (x .2) }, x .2),
     λ x.
-        let below = number-below (r .target) (x .0) (board c) k (x .2) in
+        let below = number-below (board c) (r .target) (x .0) k (x .2) in
         pick-in _ (usedBy (board c)) k below (filter-in (numberAt (board c) (r .target)) (r .starts) (x .0) k (x .1 .started) (x .2)),
   )
 

@@ -10,17 +10,14 @@ use lib.ListN.{getElem?}
 use Rattle.lists.proofs.Bools.{not-both}
 use Rattle.model.specs.Family.{familyNumber, meets}
 use Rattle.model.specs.FirstFit.{Placed, held, free}
-use Rattle.model.proofs.FirstFit.{Fitted, free-not-held, free-least, held-in, held-out}
+use Rattle.model.specs.Placing.{HeldBy}
+use Rattle.model.proofs.FirstFit.{Fitted, free-not-held, free-least, held-in, held-out, later}
 use Rattle.model.proofs.PlacedOnce.{Falling, falling-below}
 
 -- a family of the list with a lower number than g, which g meets, holds k
 pub record HeldLower (ps : List Placed) (g : Placed) (k : ℕ) : Type 0 where
-  pub place : ℕ
-  pub holder : Placed
-  pub is-nth : getElem? ps place ≡ some holder
-  pub lower : familyNumber (holder .family) < familyNumber (g .family)
-  pub met : meets (g .family) (holder .family) ≡ true
-  pub number : holder .number ≡ k
+  pub by : HeldBy (g .family) k ps
+  pub lower : familyNumber (by .holder .family) < familyNumber (g .family)
 
 same-number : {x g : Placed} → some x ≡ some g → familyNumber (x .family) ≡ familyNumber (g .family)
 same-number e = ap (λ (y : Placed). familyNumber (y .family)) (Option·some-injective _ _ e)
@@ -42,14 +39,7 @@ pub lower-holds : (limit : ℕ) (ps : List Placed) → Falling limit ps → Fitt
 lower-holds limit [] a fit n e k l = absurd (Option·none-ne-some _ e)
 lower-holds limit (x ∷ ps) a fit zero {g} e k l =
     let b = held-out (g .family) k ps (free-least (held (g .family) ps) k (rw (first-number ps fit e) at l)) in
-    record {
-      place = suc (b .place);
-      holder = b .holder;
-      is-nth = b .is-nth;
-      lower = omega (arith, falling-below _ ps (b .place) (a .1) (b .is-nth), same-number e);
-      met = b .met;
-      number = b .number;
-    }
+    record { by = later (g .family) b; lower = omega (arith, falling-below _ ps (b .place) (a .1) (b .is-nth), same-number e) }
 lower-holds limit (x ∷ ps) a fit (suc n) {g} e k l =
     let b = lower-holds (familyNumber (x .family)) ps (a .1) (fit .1) n e k l in
-    record { place = suc (b .place); holder = b .holder; is-nth = b .is-nth; lower = b .lower; met = b .met; number = b .number }
+    record { by = later (g .family) (b .by); lower = b .lower }

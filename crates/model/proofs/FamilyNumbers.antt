@@ -19,6 +19,10 @@ use Rattle.model.proofs.LivePairs.{pair-live, live-pairs-formed, joined
 pub number-unique : {c : Chart} {q j m n : ℕ} → FamilyNumber c q j m → FamilyNumber c q j n → m ≡ n
 number-unique a b = omega (arith, a .smallest (b .location) (b .same), b .smallest (a .location) (a .same))
 
+-- meeting goes both ways
+pub meet-sym : {c : Chart} {q j s i : ℕ} → FamiliesMeet c q j s i → FamiliesMeet c s i q j
+meet-sym m = record { location = m .location; of-one = m .of-other; of-other = m .of-one }
+
 module _ {W : ℕ} {c : Chart} (valid : Valid W c) where
   -- the family that is computed of a pair
   abbrev family : ℕ → ℕ → Family
@@ -40,16 +44,16 @@ module _ {W : ℕ} {c : Chart} (valid : Valid W c) where
   }
 
   module _ (q j s i : ℕ) (l : Live c q j) (l′ : Live c s i) where
-    pub earlier-iff : (familyNumber (family s i) < familyNumber (family q j)) ↔ Earlier c s i q j
+    pub earlier-iff : (familyNumber (family q j) < familyNumber (family s i)) ↔ Earlier c q j s i
     earlier-iff = (
       λ h. record {
-        lower = familyNumber (family s i);
-        higher = familyNumber (family q j);
-        is-lower = family-number s i l′;
-        is-higher = family-number q j l;
+        lower = familyNumber (family q j);
+        higher = familyNumber (family s i);
+        is-lower = family-number q j l;
+        is-higher = family-number s i l′;
         rises = h;
       },
-      λ e. omega (arith, number-unique (e .is-lower) (family-number s i l′), number-unique (e .is-higher) (family-number q j l), e .rises),
+      λ e. omega (arith, number-unique (e .is-lower) (family-number q j l), number-unique (e .is-higher) (family-number s i l′), e .rises),
     )
 
     pub meets-iff : (meets (family q j) (family s i) ≡ true) ↔ FamiliesMeet c q j s i

@@ -48,7 +48,8 @@ module _ (f : Family) where
       go true t ih = rw (t, held) (memb-tail (g .number) (h .number) (held f ps) ih)
       go false t ih = rw (t, held) ih
 
-  later : {k : ℕ} {h : Placed} {ps : List Placed} → HeldBy f k ps → HeldBy f k (h ∷ ps)
+  -- the same holder, one place further on
+  abbrev pub later : {k : ℕ} {h : Placed} {ps : List Placed} → HeldBy f k ps → HeldBy f k (h ∷ ps)
   later b = record { place = suc (b .place); holder = b .holder; is-nth = b .is-nth; met = b .met; number = b .number }
 
   pub held-out : (k : ℕ) (ps : List Placed) → memb k (held f ps) ≡ true → HeldBy f k ps

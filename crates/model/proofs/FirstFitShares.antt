@@ -15,13 +15,14 @@ use Rattle.model.specs.FirstFit.{firstFit, numberAt, blocked, board, use
 use Rattle.model.specs.Placing.{PairNumber}
 use Rattle.model.specs.Rewrite.{numbering}
 use Rattle.model.specs.SharingRule.{HeldEarlier, SharingRule, AllNumbersHeld}
+use Rattle.model.proofs.NumberAt.{number-below}
 use Rattle.model.proofs.PairNumbers.{first-fit-fitted, placed-family, has-first, number-pair, joined-same}
 use Rattle.model.proofs.PlacedOnce.{first-fit-falling, placed-number}
 use Rattle.model.proofs.EarlierFamilies.{HeldLower, lower-free, lower-holds}
 use Rattle.model.proofs.LivePairs.{pair-live, live-pairs-formed, joined-iff}
-use Rattle.model.proofs.FamilyNumbers.{earlier-iff, meets-iff}
+use Rattle.model.proofs.FamilyNumbers.{meet-sym, earlier-iff, meets-iff}
 use Rattle.model.proofs.BoardPlan.{number-live, live-number, board-blocked}
-use Rattle.model.proofs.UsedNumbers.{used-above, used-reached}
+use Rattle.model.proofs.UsedNumbers.{used-reached}
 
 module _ {W : ℕ} {c : Chart} (valid : Valid W c) where
   abbrev pairs : Pairs
@@ -38,8 +39,8 @@ module _ {W : ℕ} {c : Chart} (valid : Valid W c) where
       let l = pair-live valid q j .0 (a .pair) in
       let l′ = pair-live valid (h .location) (h .timer) .0 (b .pair) in
       lower-free _ (firstFit pairs) (first-fit-falling formed) (first-fit-fitted pairs) (a .place) (b .place) (a .is-nth) (b .is-nth)
-      (rw (a .family, b .family) (earlier-iff valid q j (h .location) (h .timer) l l′ .1 (h .earlier)))
-      (rw (a .family, b .family) (meets-iff valid q j (h .location) (h .timer) l l′ .1 (h .meet)))
+      (rw (a .family, b .family) (earlier-iff valid (h .location) (h .timer) q j l′ l .1 (h .earlier)))
+      (rw (a .family, b .family) (meets-iff valid q j (h .location) (h .timer) l l′ .1 (meet-sym (h .meet))))
       (b .number ∙ sym (a .number))
 
   smaller-held : (q j k m : ℕ) → numberAt (firstFit pairs) q j ≡ some k → m < k → HeldEarlier c (numbering (firstFit pairs)) q j m
@@ -48,7 +49,8 @@ module _ {W : ℕ} {c : Chart} (valid : Valid W c) where
       (first-fit-fitted pairs) (a .place) (a .is-nth) m (rw (sym (a .number)) at l))
     where
       go : (a : PairNumber pairs q j k) → HeldLower (firstFit pairs) (a .placed) m → HeldEarlier c (numbering (firstFit pairs)) q j m
-      go a b =
+      go a x =
+          let b = x .by in
           let f = b .holder .family in
           let o = placed-family formed (b .place) (b .holder) (b .is-nth) in
           let l = pair-live valid q j .0 (a .pair) in
@@ -56,8 +58,8 @@ module _ {W : ℕ} {c : Chart} (valid : Valid W c) where
           record {
             location = f .first;
             timer = f .timer;
-            earlier = earlier-iff valid q j (f .first) (f .timer) l l′ .0 (rw (← o .whole, ← a .family) (b .lower));
-            meet = meets-iff valid q j (f .first) (f .timer) l l′ .0 (rw (← o .whole, ← a .family) (b .met));
+            earlier = earlier-iff valid (f .first) (f .timer) q j l′ l .0 (rw (← o .whole, ← a .family) (x .lower));
+            meet = meet-sym (meets-iff valid q j (f .first) (f .timer) l l′ .0 (rw (← o .whole, ← a .family) (b .met)));
             number =
                 placed-number formed (f .first) (f .timer) (b .place) (b .holder) (b .is-nth) (has-first formed f o)
                 ∙ ap (λ (n : ℕ). some n) (b .number);
@@ -70,8 +72,8 @@ module _ {W : ℕ} {c : Chart} (valid : Valid W c) where
     live = number-live valid;
     one-number = λ q s j k a e. sym (joined-same formed (pair-live valid q j .1 (a .pair)) (joined-iff valid j q s (a .pair) .1 a)) ∙ e;
     free = not-held;
-    smallest = smaller-held;
-    used-above = used-above c;
+    smaller-held = smaller-held;
+    used-above = number-below (board c);
     used-reached = used-reached valid;
   }
 
@@ -88,7 +90,7 @@ module _ {W : ℕ} {c : Chart} (valid : Valid W c) where
             location = x .0;
             timer = x .1;
             pair = first-fit-shares .live (x .0) (x .1) u (x .2);
-            held = λ k l. first-fit-shares .smallest (x .0) (x .1) u k (x .2) (omega arith);
+            held = λ k l. first-fit-shares .smaller-held (x .0) (x .1) u k (x .2) (omega arith);
           }
 
       over : AllNumbersHeld K c (numbering (board c)) → K < used c

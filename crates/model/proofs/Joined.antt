@@ -1,11 +1,11 @@
 -- Pairs that are well formed, and chains of links between them: of one family is an equivalence, and stays among the pairs. Hard: a chain read
 -- backwards, by induction along it. Assumes nothing.
 use mathlib.Core.Path.{_≡_, refl, sym, subst}
-use mathlib.Core.Logic.{_⊎_, inl, inr}
+use mathlib.Core.Logic.{inl, inr}
 use mathlib.Core.Bool.{true}
 use mathlib.Core.List.{List, [], _∷_, _++_}
 use Prim.Native.Nat.{ℕ}
-use Rattle.model.specs.Chain.{Chain}
+use Rattle.model.specs.Chain.{Chain, Between}
 use Rattle.model.specs.Family.{Pairs, isPair, Linked, Joined, WellFormed, WellFormedLink}
 
 module _ (R : ℕ → ℕ → Type 0) where
@@ -22,8 +22,7 @@ module _ {p : Pairs} {j : ℕ} where
   pub linked-sym : {q s : ℕ} → Linked p j q s → Linked p j s q
   linked-sym {q} {s} l = record { number = l .number; link = l .link; is-nth = l .is-nth; holds = l .holds; ends = turn (l .ends) }
     where
-      turn : ((l .link .one ≡ q) × (l .link .other ≡ s)) ⊎ ((l .link .one ≡ s) × (l .link .other ≡ q))
-          → ((l .link .one ≡ s) × (l .link .other ≡ q)) ⊎ ((l .link .one ≡ q) × (l .link .other ≡ s))
+      turn : Between (l .link .one) (l .link .other) q s → Between (l .link .one) (l .link .other) s q
       turn (inl e) = inr e
       turn (inr e) = inl e
 
@@ -58,7 +57,7 @@ module _ {p : Pairs} (formed : WellFormed p) {j : ℕ} where
       w : WellFormedLink p (l .link)
       w = formed .link (l .number) (l .link) (l .is-nth)
 
-      go : ((l .link .one ≡ q) × (l .link .other ≡ s)) ⊎ ((l .link .one ≡ s) × (l .link .other ≡ q)) → isPair p s j ≡ true
+      go : Between (l .link .one) (l .link .other) q s → isPair p s j ≡ true
       go (inl e) = subst (λ (x : ℕ). isPair p x j ≡ true) (e .1) (w .pair-other j (l .holds))
       go (inr e) = subst (λ (x : ℕ). isPair p x j ≡ true) (e .0) (w .pair-one j (l .holds))
 

@@ -17,6 +17,7 @@ use lib.Pow.{pow-lt, pow-pos}
 use Rattle.lists.proofs.Bools.{not-both, not-false, eqb-self, same-number}
 use Rattle.lists.proofs.Membership.{nth-map, nth-unmap}
 use Rattle.lists.proofs.Elements.{element-left, element-right, element-cases}
+use Rattle.model.specs.Chain.{Between}
 use Rattle.model.specs.Flow.{Edge, settled}
 use Rattle.model.specs.Family.{Link, Pairs, isPair, Linked, Joined, linkFlow, WellFormed, WellFormedLink}
 use Rattle.model.specs.Comes.Comes.{owned, gained, along}
@@ -40,7 +41,7 @@ record EdgeOfLink (p : Pairs) (e : Edge) : Type 0 where
   pub is-nth : getElem? (p .links) number ≡ some link
   pub cut : e .cut ≡ minus everyTimer (link .timers)
   pub gain : e .gain ≡ 0
-  pub ends : ((link .one ≡ e .from) × (link .other ≡ e .into)) ⊎ ((link .one ≡ e .into) × (link .other ≡ e .from))
+  pub ends : Between (link .one) (link .other) (e .from) (e .into)
 
 module _ (p : Pairs) (j q : ℕ) where
   edge-out : (i : ℕ) {e : Edge} → getElem? (linkFlow p j q .edges) i ≡ some e → EdgeOfLink p e
@@ -70,7 +71,7 @@ module _ (p : Pairs) (j q : ℕ) where
   unfolding linkFlow
   edge-in {x} {y} l = go (l .ends)
     where
-      go : ((l .link .one ≡ x) × (l .link .other ≡ y)) ⊎ ((l .link .one ≡ y) × (l .link .other ≡ x))
+      go : Between (l .link .one) (l .link .other) x y
           → Element (map fro (p .links) ++ map to (p .links)) (edge y x (l .link .timers))
       go (inl e) =
           let there = nth-map to (p .links) (l .number) (l .is-nth) in
@@ -114,7 +115,7 @@ module _ {p : Pairs} (formed : WellFormed p) (q j : ℕ) (pair : isPair p q j �
       w : WellFormedLink p (x .link)
       w = formed .link (x .number) (x .link) (x .is-nth)
 
-      go : ((x .link .one ≡ e .from) × (x .link .other ≡ e .into)) ⊎ ((x .link .one ≡ e .into) × (x .link .other ≡ e .from))
+      go : Between (x .link .one) (x .link .other) (e .from) (e .into)
           → (e .into < p .locations) × (e .from < p .locations)
       go (inl e) = (omega (arith, e .1, w .other), omega (arith, e .0, w .one))
       go (inr e) = (omega (arith, e .0, w .one), omega (arith, e .1, w .other))

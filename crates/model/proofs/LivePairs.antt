@@ -2,7 +2,7 @@
 -- not start the timer runs between their locations. Nothing is hard: the laws of members take the words apart in which links are kept. Assumes
 -- nothing.
 use mathlib.Core.Path.{_≡_, sym, ap, _∙_, subst}
-use mathlib.Core.Logic.{_⊎_, inl, inr, _↔_}
+use mathlib.Core.Logic.{inl, inr, _↔_}
 use mathlib.Core.Bool.{Bool, true, false, not, _&&_}
 use mathlib.Core.Option.{some}
 use Prim.Native.Nat.{ℕ}
@@ -16,6 +16,7 @@ use Rattle.model.specs.Chart.{Transition, Chart}
 use Rattle.model.specs.Valid.{Valid}
 use Rattle.model.specs.Path.{Live}
 use Rattle.model.specs.Live.{startsSet, liveSets, live}
+use Rattle.model.specs.Chain.{Between}
 use Rattle.model.specs.Family.{Link, isPair, linkOf, livePairs, Linked, Joined, WellFormed, WellFormedLink}
 use Rattle.model.specs.SharingRule.{LiveLink, SameFamily}
 use Rattle.model.proofs.Transitions.{nth-valid}
@@ -107,7 +108,7 @@ module _ {W : ℕ} {c : Chart} (valid : Valid W c) where
   )
     where
       Ends : Link → Type 0
-      Ends y = ((y .one ≡ q) × (y .other ≡ s)) ⊎ ((y .one ≡ s) × (y .other ≡ q))
+      Ends y = Between (y .one) (y .other) q s
 
       at-ends : (y : Link) → Ends y → (Live c (y .one) j × Live c (y .other) j) ↔ (Live c q j × Live c s j)
       at-ends y (inl e) = rw (e .0, e .1) (λ x. x, λ x. x)

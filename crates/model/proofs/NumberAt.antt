@@ -63,8 +63,9 @@ module _ (q j : ℕ) where
       go true t ih = (x .number, rw (t, numberAt))
       go false t ih = (ih .0, rw (t, numberAt) (ih .1))
 
-  pub number-below : (ps : List Placed) (k : ℕ) → numberAt ps q j ≡ some k → k < usedBy ps
-  number-below ps k e = let n = number-out ps k e in rw (n .number) at (used-above ps (n .place) (n .placed) (n .is-nth))
+-- every number given is below the number of numbers used
+pub number-below : (ps : List Placed) (q j k : ℕ) → numberAt ps q j ≡ some k → k < usedBy ps
+number-below ps q j k e = let n = number-out q j ps k e in rw (n .number) at (used-above ps (n .place) (n .placed) (n .is-nth))
 
 -- pairs that are of the same families have the same number
 pub number-same : (ps : List Placed) (q s j : ℕ) → ((i : ℕ) (g : Placed) → getElem? ps i ≡ some g → has (g .family) q j ≡ has (g .family) s j)

@@ -5,16 +5,16 @@ use mathlib.Core.Logic.{_⊎_, inl, inr}
 use mathlib.Core.Bool.{true}
 use mathlib.Core.Option.{some, Option·none-ne-some}
 use mathlib.Core.List.{[]}
-use Prim.Native.Nat.{ℕ, _<_}
+use Prim.Native.Nat.{ℕ}
 use lib.ListN.{getElem?}
 use Rattle.lists.specs.Lists.{memb}
 use Rattle.model.specs.Placing.{FamilyOfPair, PairNumber}
 use Rattle.lists.proofs.Bools.{same-bool}
 use Rattle.model.specs.Family.{Pairs, isPair, Linked, Joined, Family, has, familyOf, families, WellFormed}
-use Rattle.model.specs.FirstFit.{Placed, place, firstFit, usedBy, numberAt}
+use Rattle.model.specs.FirstFit.{Placed, place, firstFit, numberAt}
 use Rattle.model.proofs.FirstFit.{Fitted, place-fitted}
 use Rattle.model.proofs.NumberAt.{has-timer, has-location, has-pair, place-in, place-out}
-use Rattle.model.proofs.NumberAt.{number-in, number-out, number-same, number-apart, number-below}
+use Rattle.model.proofs.NumberAt.{number-in, number-out, number-same, number-apart}
 use Rattle.model.proofs.Joined.{joined-refl, joined-one, joined-sym, joined-pair, linked-sym, linked-pair}
 use Rattle.model.proofs.Families.{family-timer, family-has, family-same}
 use Rattle.model.proofs.FamilyList.{families-have, families-are}
@@ -90,10 +90,6 @@ module _ {p : Pairs} (formed : WellFormed p) where
   pub linked-same : {q s j : ℕ} → Linked p j q s → numberAt (firstFit p) q j ≡ numberAt (firstFit p) s j
   linked-same l = joined-same (linked-pair formed (linked-sym l)) (joined-one l)
 
--- two timers of a location have two numbers, and all numbers are below the number of numbers used
-module _ (p : Pairs) (q j k : ℕ) where
-  pub apart : (j′ : ℕ) → numberAt (firstFit p) q j ≡ some k → numberAt (firstFit p) q j′ ≡ some k → j ≡ j′
-  apart j′ = number-apart q j j′ k (firstFit p) (first-fit-fitted p)
-
-  pub below : numberAt (firstFit p) q j ≡ some k → k < usedBy (firstFit p)
-  below = number-below q j (firstFit p) k
+-- two timers of a location have two numbers
+pub apart : (p : Pairs) (q j k j′ : ℕ) → numberAt (firstFit p) q j ≡ some k → numberAt (firstFit p) q j′ ≡ some k → j ≡ j′
+apart p q j k j′ = number-apart q j j′ k (firstFit p) (first-fit-fitted p)

@@ -1,9 +1,10 @@
--- What the sharing rule says of the numberings that keep it: families that meet have different numbers, and there is only one such numbering. Hard:
--- two of them are equal by induction over the family numbers. If a family had a smaller number in the one than in the other, an earlier family that
--- it meets would hold that number in the other, so, numbered alike already, in the one too. Assumes nothing.
+-- What the sharing rule says of the numberings that keep it: families that meet have different numbers, so two timers of a location have, and there
+-- is only one such numbering. Hard: two of them are equal by induction over the family numbers. If a family had a smaller number in the one than in
+-- the other, an earlier family that it meets would hold that number in the other, so, numbered alike already, in the one too. Assumes nothing.
 use mathlib.Core.Path.{_≡_, refl, sym, ap, _∙_}
 use mathlib.Core.Logic.{⊎-elim}
 use mathlib.Core.Option.{Option, none, some}
+use mathlib.Core.List.{[]}
 use Prim.Native.Nat.{ℕ, zero, suc, _≤_, _<_}
 use native.Mathlib.Nat.{le-antisymm, lt-suc-self}
 use native.Mathlib.Omega.{arith}
@@ -17,17 +18,17 @@ use Rattle.model.specs.SharingRule.{SameFamily, FamilyNumber, Earlier, F
 use Rattle.model.proofs.Paths.{live-inside}
 use Rattle.model.proofs.Joined.{joined-trans, joined-sym}
 use Rattle.model.proofs.LivePairs.{joined-iff}
-use Rattle.model.proofs.FamilyNumbers.{number-unique, family-number}
+use Rattle.model.proofs.FamilyNumbers.{number-unique, meet-sym, family-number}
 
--- a family that is met and has the same number is not an earlier one
+-- a family is not earlier than one that it meets and that has the same number
 not-earlier : {c : Chart} {N : Numbering} → SharingRule c N → {q j s i k a b : ℕ} → FamiliesMeet c q j s i → Has N q j k → Has N s i k
-    → FamilyNumber c q j a → FamilyNumber c s i b → a ≤ b
-not-earlier {c} {N} rule {q} {j} {s} {i} {k} {a} {b} m e e′ f g = ⊎-elim (λ l. absurd (rule .free q j k e (held l))) (λ l. l) (lt-or-le b a)
+    → FamilyNumber c q j a → FamilyNumber c s i b → b ≤ a
+not-earlier {c} {N} rule {q} {j} {s} {i} {k} {a} {b} m e e′ f g = ⊎-elim (λ l. absurd (rule .free s i k e′ (held l))) (λ l. l) (lt-or-le a b)
   where
-    held : b < a → HeldEarlier c N q j k
+    held : a < b → HeldEarlier c N s i k
     held l =
-        let earlier : Earlier c s i q j = record { lower = b; higher = a; is-lower = g; is-higher = f; rises = l } in
-        record { location = s; timer = i; earlier = earlier; meet = m; number = e′ }
+        let earlier : Earlier c q j s i = record { lower = a; higher = b; is-lower = f; is-higher = g; rises = l } in
+        record { location = q; timer = j; earlier = earlier; meet = m; number = e }
 
 -- pairs that have one number, of families that meet, are of one family
 pub meeting-apart : {W : ℕ} {c : Chart} → Valid W c → {N : Numbering} → SharingRule c N → (q j s i k : ℕ) → FamiliesMeet c q j s i
@@ -37,11 +38,18 @@ meeting-apart {c = c} valid rule q j s i k m e e′ =
     let l′ = m .of-other .pair in
     let f = family-number valid q j l in
     let g = family-number valid s i l′ in
-    let turned : FamiliesMeet c s i q j = record { location = m .location; of-one = m .of-other; of-other = m .of-one } in
-    let same = le-antisymm (not-earlier rule m e e′ f g) (not-earlier rule turned e′ e g f) in
+    let same = le-antisymm (not-earlier rule (meet-sym m) e′ e g f) (not-earlier rule m e e′ f g) in
     let t : j ≡ i = omega (arith, same, f .is-its, g .is-its, live-inside valid l .timer, live-inside valid l′ .timer, valid .few-timers) in
     let way = joined-iff valid i s (m .location) l′ .1 (m .of-other) in
     (t, joined-iff valid j q s l .0 (joined-trans (joined-iff valid j q (m .location) l .1 (m .of-one)) (joined-sym (rw (sym t) at way))))
+
+-- so two timers that are live at one location have different numbers there
+pub different-here : {W : ℕ} {c : Chart} → Valid W c → {N : Numbering} → SharingRule c N → (q j i k : ℕ) → Has N q j k → Has N q i k → j ≡ i
+different-here {c = c} valid {N} rule q j i k e e′ =
+    meeting-apart valid rule q j q i k (record { location = q; of-one = itself j e; of-other = itself i e′ }) e e′ .0
+  where
+    itself : (j : ℕ) → Has N q j k → SameFamily c j q q
+    itself j e = record { pair = rule .live q j k e; way = []; chain = refl }
 
 -- the two number the families below the limit alike
 abbrev AlikeBelow : Chart → ℕ → Numbering → Numbering → Type 0
@@ -50,7 +58,8 @@ AlikeBelow c limit N M = (q j n : ℕ) → FamilyNumber c q j n → n < limit �
 -- then the next one's number in M is at most that in N
 next-most : {c : Chart} {N M : Numbering} → SharingRule c N → SharingRule c M → (q j n k m : ℕ) → FamilyNumber c q j n → AlikeBelow c n N M
     → Has N q j k → Has M q j m → m ≤ k
-next-most {c} {N} {M} a b q j n k m f alike e e′ = ⊎-elim (λ l. absurd (a .free q j k e (held (b .smallest q j m k e′ l)))) (λ l. l) (lt-or-le k m)
+next-most {c} {N} {M} a b q j n k m f alike e e′ =
+    ⊎-elim (λ l. absurd (a .free q j k e (held (b .smaller-held q j m k e′ l)))) (λ l. l) (lt-or-le k m)
   where
     held : HeldEarlier c M q j k → HeldEarlier c N q j k
     held h =

@@ -1,20 +1,16 @@
--- How many board numbers a chart uses: every number that is given is below it, and the largest number below it is given to a pair. Nothing is
--- hard. Assumes nothing.
+-- How many board numbers a chart uses: the largest number below it is given to a pair. That every number given is below it is `number-below` of
+-- NumberAt. Nothing is hard. Assumes nothing.
 use mathlib.Core.Path.{_≡_, ap, _∙_}
 use mathlib.Core.Option.{some}
-use Prim.Native.Nat.{ℕ, suc, _<_}
+use Prim.Native.Nat.{ℕ, suc}
 use Rattle.model.specs.Chart.{Chart}
 use Rattle.model.specs.Valid.{Valid}
 use Rattle.model.specs.Family.{Family, livePairs, WellFormed}
 use Rattle.model.specs.FirstFit.{firstFit, usedBy, numberAt, board}
 use Rattle.model.proofs.FirstFit.{used-reached as placed-reached}
-use Rattle.model.proofs.NumberAt.{number-below}
 use Rattle.model.proofs.PairNumbers.{placed-family, has-first}
 use Rattle.model.proofs.PlacedOnce.{placed-number}
 use Rattle.model.proofs.BoardPlan.{live-pairs-formed}
-
-pub used-above : (c : Chart) (q j k : ℕ) → numberAt (board c) q j ≡ some k → k < usedBy (board c)
-used-above c q j k e = number-below q j (board c) k e
 
 pub used-reached : {W : ℕ} {c : Chart} → Valid W c → (u : ℕ) → usedBy (board c) ≡ suc u → (q : ℕ) × (j : ℕ) × (numberAt (board c) q j ≡ some u)
 unfolding board

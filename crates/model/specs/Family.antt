@@ -1,6 +1,5 @@
 -- Families (document 01, "Live, born, family, board number"), over any pairs and links. Assumes nothing.
 use mathlib.Core.Path.{_≡_}
-use mathlib.Core.Logic.{_⊎_}
 use mathlib.Core.Bool.{Bool, true, false, _&&_}
 use mathlib.Core.List.{List, [], _∷_, _++_, map}
 use Prim.Native.Nat.{ℕ, _+_, _*_, _^_, _≤_, _<_}
@@ -10,7 +9,7 @@ use mathlib.Core.Option.{some}
 use Rattle.timer_set.specs.Members.{member, common, minus, everyTimer}
 use Rattle.lists.specs.Lists.{anyOf, memb, lowest, gather, pick}
 use Rattle.model.specs.Chart.{Transition, Chart}
-use Rattle.model.specs.Chain.{Chain}
+use Rattle.model.specs.Chain.{Chain, Between}
 use Rattle.model.specs.Flow.{Flow, settled}
 use Rattle.model.specs.Live.{startsSet, liveSets}
 
@@ -72,7 +71,7 @@ pub record Linked (p : Pairs) (j q s : ℕ) : Type 0 where
   pub link : Link
   pub is-nth : getElem? (p .links) number ≡ some link
   pub holds : member (link .timers) j ≡ true
-  pub ends : ((link .one ≡ q) × (link .other ≡ s)) ⊎ ((link .one ≡ s) × (link .other ≡ q))
+  pub ends : Between (link .one) (link .other) q s
 
 -- (s, j) is of the family of (q, j): a chain of links joins them
 pub record Joined (p : Pairs) (j q s : ℕ) : Type 0 where

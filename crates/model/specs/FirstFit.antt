@@ -1,5 +1,5 @@
 -- Board numbers by first fit, used, floor, and refusal 20 (document 01, "Live, born, family, board number"). Assumes nothing.
-use mathlib.Core.Bool.{Bool, true, false, not, _&&_, _||_}
+use mathlib.Core.Bool.{Bool, true, false, not, _||_}
 use mathlib.Core.Option.{Option, none, some}
 use mathlib.Core.List.{List, [], _∷_, map}
 use Prim.Native.Nat.{ℕ, max}
@@ -8,7 +8,7 @@ use lib.Count.{ones}
 use Rattle.lists.specs.Lists.{memb, lowest, top}
 use Rattle.model.specs.Chart.{Chart}
 use Rattle.model.specs.Live.{liveSets}
-use Rattle.model.specs.Family.{Pairs, Family, families, meets, livePairs}
+use Rattle.model.specs.Family.{Pairs, Family, has, families, meets, livePairs}
 
 -- a family with the board number that it was given
 pub record Placed : Type 0 where
@@ -40,7 +40,7 @@ usedBy ps = top (map (λ (g : Placed). g .number) ps)
 -- the number of the family that has the pair (q, j); a pair of no family has none
 unfoldable pub numberAt : List Placed → (q j : ℕ) → Option ℕ
 numberAt [] q j = none
-numberAt (g ∷ gs) q j = elim (eqb (g .family .timer) j && memb q (g .family .locations)) [ true ↦ some (g .number) | false ↦ numberAt gs q j ]
+numberAt (g ∷ gs) q j = elim (has (g .family) q j) [ true ↦ some (g .number) | false ↦ numberAt gs q j ]
 
 -- all K numbers are in the list
 unfoldable pub allHeld : (K : ℕ) → List ℕ → Bool

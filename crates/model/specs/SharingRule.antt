@@ -1,14 +1,16 @@
 -- The rule by which drawn timers share board timers (document 01, "Live, born, family, board number"), in the words of paths and transitions
--- alone. That first fit keeps it, and that no other numbering does, is shown in proofs/. Assumes nothing.
+-- alone. That first fit keeps it, and that no other numbering does, is shown in proofs/.
+--
+-- A pair is written by its location, then its timer: q j. Links and families join pairs of one timer: they relate two locations, j q s. What is said
+-- of two families takes a pair of the one, then a pair of the other, q j s i, and reads in that order. Assumes nothing.
 use mathlib.Core.Path.{_≡_}
-use mathlib.Core.Logic.{_⊎_}
 use mathlib.Core.Bool.{false}
 use mathlib.Core.List.{List}
 use Prim.Native.Nat.{ℕ, suc, _+_, _*_, _≤_, _<_}
 use Rattle.lists.specs.Lists.{memb}
 use Rattle.model.specs.Chart.{Transition, Chart, Nth}
 use Rattle.model.specs.Path.{Live}
-use Rattle.model.specs.Chain.{Chain}
+use Rattle.model.specs.Chain.{Chain, Between}
 use Rattle.model.specs.Rewrite.{Numbering}
 use Rattle.model.specs.Plan.{Has}
 
@@ -19,7 +21,7 @@ pub record LiveLink (c : Chart) (j q s : ℕ) : Type 0 where
   pub transition : Transition
   pub is-nth : Nth c number transition
   pub not-started : memb j (transition .starts) ≡ false
-  pub ends : ((transition .source ≡ q) × (transition .target ≡ s)) ⊎ ((transition .source ≡ s) × (transition .target ≡ q))
+  pub ends : Between (transition .source) (transition .target) q s
   pub live-one : Live c q j
   pub live-other : Live c s j
 
@@ -36,12 +38,12 @@ pub record FamilyNumber (c : Chart) (q j n : ℕ) : Type 0 where
   pub is-its : n ≡ 64 * location + j
   pub smallest : (s : ℕ) → SameFamily c j q s → n ≤ 64 * s + j
 
--- the family of (s, i) comes before that of (q, j): it has the lower number
-pub record Earlier (c : Chart) (s i q j : ℕ) : Type 0 where
+-- the family of (q, j) comes before that of (s, i): it has the lower number
+pub record Earlier (c : Chart) (q j s i : ℕ) : Type 0 where
   pub lower : ℕ
   pub higher : ℕ
-  pub is-lower : FamilyNumber c s i lower
-  pub is-higher : FamilyNumber c q j higher
+  pub is-lower : FamilyNumber c q j lower
+  pub is-higher : FamilyNumber c s i higher
   pub rises : lower < higher
 
 -- the families of (q, j) and (s, i) meet: they contain a common location
@@ -55,7 +57,7 @@ pub record HeldEarlier (c : Chart) (N : Numbering) (q j k : ℕ) : Type 0 where
   pub location : ℕ
   pub timer : ℕ
   pub earlier : Earlier c location timer q j
-  pub meet : FamiliesMeet c q j location timer
+  pub meet : FamiliesMeet c location timer q j
   pub number : Has N location timer k
 
 -- the rule: N numbers the pairs as document 01 says
@@ -69,7 +71,7 @@ pub record SharingRule (c : Chart) (N : Numbering) : Type 0 where
   -- no earlier family that the pair's family meets holds its number
   pub free : (q j k : ℕ) → Has N q j k → HeldEarlier c N q j k → ⊥
   -- and each smaller number is held by such a one
-  pub smallest : (q j k m : ℕ) → Has N q j k → m < k → HeldEarlier c N q j m
+  pub smaller-held : (q j k m : ℕ) → Has N q j k → m < k → HeldEarlier c N q j m
   -- used is above every number given
   pub used-above : (q j k : ℕ) → Has N q j k → k < N .used
   -- and one more than the largest; where there is no pair it is 0
