@@ -1,4 +1,5 @@
--- The example of document 01 ("What the four parts hand back"): the text for chart B with K = 16. Assumes nothing.
+-- The texts for charts A and B with K = 16: that for B is the example of document 01 ("What the four parts hand back"); A has another used than
+-- floor, and locations with two live timers. Nothing is hard: the definitions compute it. Assumes nothing.
 use mathlib.Core.Path.{_≡_, refl}
 use mathlib.Core.List.{List, [], _∷_, _++_, filterMap}
 use Prim.Native.Nat.{ℕ}
@@ -17,27 +18,38 @@ use Rattle.file_format.specs.Parse.{number, below, many, entry, rising}
 use Rattle.file_format.specs.Body.{readComparison, readTest, readTests, recordLength, readTransition, readTransitions}
 use Rattle.file_format.specs.Body.{readHeader, chartOf, readBody}
 use Rattle.file_format.specs.File.{readFrame, judgeFrame, readFile, chartIn}
+use Rattle.file_format.specs.Cases.{bytesOfA, bytesOfB}
 use Rattle.listing.specs.Text.{decimalIn, decimal, refusedWord, usedWord, floorWord, limitWord, atWord}
 use Rattle.listing.specs.Listing.{refusedText, firstLine, lineOf, chartText, accepted, textOf}
 
--- one byte K, then the file of chart B
-pub input : List ℕ
-input = 16
-    ∷ 1 ∷ 0 ∷ 0 ∷ 0 ∷ 48 ∷ 0 ∷ 4 ∷ 0 ∷ 0 ∷ 2 ∷ 0 ∷ 1 ∷ 0 ∷ 3 ∷ 0 ∷ 3 ∷ 0 ∷ 8 ∷ 0 ∷ 0 ∷ 0 ∷ 1 ∷ 0 ∷ 1
-    ∷ 0 ∷ 0 ∷ 0 ∷ 12 ∷ 0 ∷ 1 ∷ 0 ∷ 2 ∷ 0 ∷ 1 ∷ 1 ∷ 1 ∷ 0 ∷ 0 ∷ 0 ∷ 2 ∷ 0 ∷ 11 ∷ 0 ∷ 2 ∷ 0 ∷ 3 ∷ 0 ∷ 0
-    ∷ 1 ∷ 1 ∷ 2 ∷ 0 ∷ 1 ∷ []
+-- used 3 floor 2 limit 16; at 0; at 1 0>0; at 2 0>0 1>1; at 3 1>1 2>2; at 4 0>0 2>2; at 5 2>2; at 6
+pub linesOfA : List ℕ
+linesOfA =
+    (117 ∷ 115 ∷ 101 ∷ 100 ∷ 32 ∷ 51 ∷ 32 ∷ 102 ∷ 108 ∷ 111 ∷ 111 ∷ 114 ∷ 32 ∷ 50 ∷ 32 ∷ 108 ∷ 105 ∷ 109 ∷ 105 ∷ 116 ∷ 32 ∷ 49 ∷ 54 ∷ 10 ∷ [])
+    ++ (97 ∷ 116 ∷ 32 ∷ 48 ∷ 10 ∷ [])
+    ++ (97 ∷ 116 ∷ 32 ∷ 49 ∷ 32 ∷ 48 ∷ 62 ∷ 48 ∷ 10 ∷ [])
+    ++ (97 ∷ 116 ∷ 32 ∷ 50 ∷ 32 ∷ 48 ∷ 62 ∷ 48 ∷ 32 ∷ 49 ∷ 62 ∷ 49 ∷ 10 ∷ [])
+    ++ (97 ∷ 116 ∷ 32 ∷ 51 ∷ 32 ∷ 49 ∷ 62 ∷ 49 ∷ 32 ∷ 50 ∷ 62 ∷ 50 ∷ 10 ∷ [])
+    ++ (97 ∷ 116 ∷ 32 ∷ 52 ∷ 32 ∷ 48 ∷ 62 ∷ 48 ∷ 32 ∷ 50 ∷ 62 ∷ 50 ∷ 10 ∷ [])
+    ++ (97 ∷ 116 ∷ 32 ∷ 53 ∷ 32 ∷ 50 ∷ 62 ∷ 50 ∷ 10 ∷ [])
+    ++ (97 ∷ 116 ∷ 32 ∷ 54 ∷ 10 ∷ [])
 
 -- used 1 floor 1 limit 16; at 0; at 1 0>0; at 2 1>0; at 3
-pub lines : List ℕ
-lines =
+pub linesOfB : List ℕ
+linesOfB =
     (117 ∷ 115 ∷ 101 ∷ 100 ∷ 32 ∷ 49 ∷ 32 ∷ 102 ∷ 108 ∷ 111 ∷ 111 ∷ 114 ∷ 32 ∷ 49 ∷ 32 ∷ 108 ∷ 105 ∷ 109 ∷ 105 ∷ 116 ∷ 32 ∷ 49 ∷ 54 ∷ 10 ∷ [])
     ++ (97 ∷ 116 ∷ 32 ∷ 48 ∷ 10 ∷ [])
     ++ (97 ∷ 116 ∷ 32 ∷ 49 ∷ 32 ∷ 48 ∷ 62 ∷ 48 ∷ 10 ∷ [])
     ++ (97 ∷ 116 ∷ 32 ∷ 50 ∷ 32 ∷ 49 ∷ 62 ∷ 48 ∷ 10 ∷ [])
     ++ (97 ∷ 116 ∷ 32 ∷ 51 ∷ 10 ∷ [])
 
-pub text-of-B : textOf input ≡ lines
-unfolding input lines
+-- one byte K, then the file of the chart
+pub record Texts : Type 0 where
+  pub text-of-A : textOf (16 ∷ bytesOfA) ≡ linesOfA
+  pub text-of-B : textOf (16 ∷ bytesOfB) ≡ linesOfB
+
+pub texts : Texts
+unfolding bytesOfA bytesOfB linesOfA linesOfB
     member joined common minus added everyTimer setOf ones onesIn filterMap
     memb anyOf firstOf lowest gather upTo pick top comparisonOf met
     brings made round roundsOf sameSets changing settled
@@ -48,4 +60,4 @@ unfolding input lines
     number below many entry rising readComparison readTest readTests recordLength readTransition readTransitions readHeader chartOf readBody
     readFrame judgeFrame readFile chartIn
     decimalIn decimal refusedWord usedWord floorWord limitWord atWord refusedText firstLine lineOf chartText accepted textOf
-text-of-B = refl
+texts = record { text-of-A = refl; text-of-B = refl }
