@@ -1,5 +1,5 @@
--- The relations of demand 3 by examples: of each one that holds and one that is shown not to. Nothing is hard: what the definitions compute is put
--- to the laws of `Meanings`. Assumes nothing.
+-- Runs, their acceptance, their points and plans by examples: of each one that holds and one that is shown not to. Nothing is hard: what the
+-- definitions compute is put to the laws of `Meanings`. Assumes nothing.
 use mathlib.Core.Path.{_≡_, refl, sym, ap, _∙_}
 use mathlib.Core.Bool.{true, false, true≢false}
 use mathlib.Core.List.{List, [], _∷_}
@@ -20,7 +20,7 @@ use Rattle.model.specs.Plan.{Plan}
 use Rattle.model.specs.Equivalence.{IsRun}
 use Rattle.model.specs.Cases.{arrow, test, drawn, A, B, Reply, ask, case, starred, unnoticed}
 use Rattle.model.specs.Cases.Reply.{sets}
-use Rattle.model.specs.Examples.{oneStep, twoSteps, stricter, otherEnd, oneNumber}
+use Rattle.model.specs.Examples.{oneStep, twoSteps, stricter, otherEnd, liveNumbers, oneNumber}
 use Rattle.model.proofs.Starred.{starred-hold}
 use Rattle.model.proofs.Answers.{result-refused, result-same}
 use Rattle.model.proofs.Meanings.{is-run-iff, ends-accepting-iff, point-iff}
@@ -76,10 +76,10 @@ A-live =
 
 -- at location 2 timers 0 and 1 would share number 0, but transition 0 starts only timer 0
 pub one-number-no-plan : Plan A oneNumber → ⊥
-unfolding A drawn arrow test oneNumber live member memb
+unfolding A drawn arrow test oneNumber liveNumbers live member memb
 one-number-no-plan P =
     true≢false
-    (P .apart 2 0 1 0 two (rw (A-live, oneNumber) refl) (rw (A-live, oneNumber) refl) 0 _ (record { there = refl })
+    (P .apart 2 0 1 0 two (rw (A-live, liveNumbers) refl) (rw (A-live, liveNumbers) refl) 0 _ (record { there = refl })
     (record { path = []; leads = refl }))
   where
     two : Reached A 2
