@@ -4,40 +4,23 @@
 use mathlib.Core.Path.{_≡_, refl, sym, ap, _∙_}
 use mathlib.Core.Logic.{⊎-elim}
 use mathlib.Core.Bool.{Bool, true, true≢false}
-use mathlib.Core.List.{List, []}
+use mathlib.Core.List.{[]}
 use Prim.Native.Nat.{ℕ}
 use native.Mathlib.Omega.{arith}
-use lib.ListN.{getD}
 use Rattle.comparison.specs.Comparison.{met}
 use Rattle.lists.specs.Lists.{memb}
 use Rattle.model.specs.Answer.{result, refused}
 use Rattle.model.specs.Chart.{Chart}
-use Rattle.model.specs.Valid.{Valid}
 use Rattle.model.specs.Run.{State, EndsAccepting, accepts, waited}
 use Rattle.model.specs.Run.{grown, restarted, allMet, after, enabled, attempt, steps, begin, outcome, everyTime, playerTime}
-use Rattle.model.specs.Judge.{rewriting}
 use Rattle.model.specs.Player.{stepsOf, arrival, answerOf}
 use Rattle.model.specs.Equivalence.{IsRun, StartedIn, SamePoints, SameAnswers, SameRuns, SameAccepting, SameAtPoints, Alike}
-use Rattle.model.specs.Cases.{arrow, test, drawn, B, B′, Reply, ask, case, starred, unnoticed}
-use Rattle.model.specs.Cases.Reply.{sets, rewriting-is}
+use Rattle.model.specs.Cases.{arrow, test, drawn, B, B′}
 use Rattle.model.specs.Examples.{oneStep, twoSteps, stricter, otherEnd, started, notStarted, oneTestMore, countDecides}
-use Rattle.model.proofs.Starred.{starred-hold}
 use Rattle.model.proofs.Answers.{result-refused, result-same}
 use Rattle.model.proofs.EqualAnswers.{equal-behaviour}
 use Rattle.model.proofs.Meanings.{is-run-iff, ends-accepting-iff, starts-iff, reads-none, reads-started}
-use Rattle.model.proofs.Examples.{B-run, stricter-no-run, other-end-accepting, B-not-accepting}
-
--- a case marked ★
-B-rewritten : rewriting 16 B ≡ result (record { used = 1; chart = B′ })
-unfolding case starred unnoticed ask
-B-rewritten =
-    let reply : rewriting-is (rewriting 16 B) ≡ rewriting-is (result (record { used = 1; chart = B′ }))
-    = ap (λ (l : List Reply). getD l 4 (sets [])) starred-hold in
-    cc
-
-B-valid : Valid 2 B
-unfolding B drawn arrow test
-B-valid = omega arith
+use Rattle.model.proofs.Examples.{B-valid, B-rewritten, B-run, stricter-no-run, other-end-accepting, B-not-accepting}
 
 pub B-alike : Alike B B′
 B-alike = equal-behaviour 2 16 B B-valid _ B-rewritten .alike
@@ -46,7 +29,7 @@ B-alike = equal-behaviour 2 16 B B-valid _ B-rewritten .alike
 pub stricter-other-runs : SameRuns B stricter → ⊥
 stricter-other-runs a = stricter-no-run (λ j. 0) (a (λ j. 0) (λ j. 0) twoSteps .0 (B-run (λ j. 0)))
 
--- the same runs, but others end accepting
+-- others end accepting
 pub other-end-other-accepting : SameAccepting B otherEnd → ⊥
 other-end-other-accepting a = B-not-accepting (λ j. 0) (a (λ j. 0) (λ j. 0) twoSteps .1 (other-end-accepting (λ j. 0)))
 
