@@ -6,7 +6,7 @@ use mathlib.Core.Bool.{Bool}
 use mathlib.Core.Option.{some}
 use mathlib.Core.List.{List, [], _∷_, _++_}
 use Prim.Native.Nat.{ℕ, suc, _+_}
-use lib.ListN.{getElem?}
+use lib.ListN.{length, getElem?}
 use Rattle.lists.specs.Lists.{memb}
 use Rattle.model.specs.Answer.{Answer, result}
 use Rattle.model.specs.Chart.{Test, Transition, Chart, Nth}
@@ -18,7 +18,8 @@ use Rattle.model.specs.Player.{Arrival, arrival, answerOf}
 use Rattle.model.specs.Equivalence.{Starts, StartedIn, Reads, SamePoint, SamePoints, IsRun, Alike}
 use Rattle.model.proofs.Answers.{Matching, match-then, match-weaken, match-result, match-result′, match-same}
 use Rattle.model.proofs.Steps.{run-front}
-use Rattle.model.proofs.Rewritten.{tested-nth, onTimer, new-nth, new-test}
+use Rattle.model.proofs.Transitions.{nth-same}
+use Rattle.model.proofs.Rewritten.{tested-nth, onTimer, new-nth, new-test, tests-as-many}
 use Rattle.model.proofs.Agree.{Agree, agree-weaken, agree-begin, tests-numbered, shows-at, started-at, attempt-alike}
 
 module _ (c : Chart) (N : Numbering) (P : Plan c N) where
@@ -44,12 +45,17 @@ module _ (c : Chart) (N : Numbering) (P : Plan c N) where
       regroup k (inl (inr y)) = inr (inl y)
       regroup k (inr z) = inr (inr z)
 
-  -- a test that leaves the present location, after a wait of d
+  -- the tests on transitions that leave the present location, after a wait of d
   point : (d : ℕ) {taken : List Step} {s s′ : State} → Agree c N (λ k. StartedIn (rewrittenBy N c) k taken) s s′
       → SamePoint c (rewrittenBy N c) taken (waited d s) (waited d s′)
   unfolding waited grown newTransition
-  point d {taken} {s} {s′} a = record { location = a .location; time = ap (λ (x : ℕ). x + d) (a .time); reads = reads }
+  point d {taken} {s} {s′} a = record { location = a .location; time = ap (λ (x : ℕ). x + d) (a .time); as-many = as-many; reads = reads }
     where
+      as-many : (i : ℕ) (r r′ : Transition) → Nth c i r → Nth c′ i r′ → r .source ≡ s .location → length (r .tests) ≡ length (r′ .tests)
+      as-many i r r′ n n′ from =
+          sym (tests-as-many N (r .source) (r .tests) (tests-numbered c N P n (rw from (a .reached))))
+          ∙ ap (λ (x : Transition). length (x .tests)) (nth-same (new-nth N c i n) n′)
+
       reads : (i : ℕ) (r : Transition) → Nth c i r → r .source ≡ s .location → (k : ℕ) (t : Test) → getElem? (r .tests) k ≡ some t
           → Reads c′ taken (waited d s) (waited d s′) i k t
       reads i r n from k t e =

@@ -1,7 +1,9 @@
--- The relations of demand 3 by examples: of each one that holds and one that is shown not to. Nothing is hard: what the definitions compute is put
--- to the laws of `Meanings`. Assumes nothing.
+-- Runs, their acceptance, their points and plans by examples: of each one that holds and one that is shown not to. Nothing is hard: what the
+-- definitions compute is put to the laws of `Meanings`. Assumes nothing.
 use mathlib.Core.Path.{_≡_, refl, sym, ap, _∙_}
-use mathlib.Core.Bool.{true, false, true≢false}
+use mathlib.Core.Logic.{_↔_}
+use mathlib.Core.Bool.{Bool, true, false, true≢false}
+use mathlib.Core.Option.{some, Option·some-injective, Option·none-ne-some}
 use mathlib.Core.List.{List, [], _∷_}
 use Prim.Native.Nat.{ℕ, zero, suc, _+_}
 use native.Mathlib.Omega.{arith}
@@ -11,18 +13,28 @@ use Rattle.timer_set.specs.Members.{member}
 use Rattle.comparison.specs.Comparison.{met}
 use Rattle.lists.specs.Lists.{memb}
 use Rattle.model.specs.Answer.{result, refused, then}
-use Rattle.model.specs.Path.{Reached}
+use Rattle.model.specs.Chart.{Chart}
+use Rattle.model.specs.Valid.{Valid}
+use Rattle.model.specs.Path.{Live, Reached}
+use Rattle.model.specs.Places.{Accepted}
 use Rattle.model.specs.Live.{liveSets, live}
 use Rattle.model.specs.Run.{Counts, State, EndsAccepting, Point, accepts, waited}
 use Rattle.model.specs.Run.{grown, restarted, allMet, after, enabled, attempt, steps, begin, outcome, everyTime}
 use Rattle.model.specs.Player.{Arrival, stepsOf, arrival, answerOf}
-use Rattle.model.specs.Plan.{Plan}
+use Rattle.model.specs.FirstFit.{board}
+use Rattle.model.specs.Rewrite.{Numbering, numbering}
+use Rattle.model.specs.Plan.{Has, Plan}
+use Rattle.model.specs.Judge.{rewriting}
 use Rattle.model.specs.Equivalence.{IsRun}
-use Rattle.model.specs.Cases.{arrow, test, drawn, A, B, Reply, ask, case, starred, unnoticed}
-use Rattle.model.specs.Cases.Reply.{sets}
-use Rattle.model.specs.Examples.{oneStep, twoSteps, stricter, otherEnd, oneNumber}
+use Rattle.model.specs.Cases.{arrow, test, drawn, A, B, B′, Reply, ask, case, starred, unnoticed}
+use Rattle.model.specs.Cases.Reply.{sets, rewriting-is as rewriting-reply}
+use Rattle.model.specs.Examples.{oneStep, twoSteps, stricter, otherEnd, liveNumbers, oneNumber, drawnNumbers}
 use Rattle.model.proofs.Starred.{starred-hold}
 use Rattle.model.proofs.Answers.{result-refused, result-same}
+use Rattle.model.proofs.Paths.{live-here, live-back, live-inside, live-unstarted}
+use Rattle.model.proofs.LivePaths.{live-iff}
+use Rattle.model.proofs.Judgement.{accepted}
+use Rattle.model.proofs.RewritingAlike.{rewriting-is}
 use Rattle.model.proofs.Meanings.{is-run-iff, ends-accepting-iff, point-iff}
 
 -- ---- runs and their acceptance
@@ -65,7 +77,50 @@ module _ (v : Counts) where
       go zero d e = let z : _≡_ {A = ℕ} 0 1 = ap (λ (y : State). y .location) (result-same e) ∙ here in omega arith
       go (suc n) d e = let z : 5 + d ≡ 4 = ap (λ (y : State). y .time) (result-same (rw (take-nil n) at e)) ∙ early in omega arith
 
--- ---- a numbering that is no plan (one that is: `board-plan`)
+-- ---- plans: first fit's (`board-plan`), another one, and a numbering that is none
+
+-- the live timers of an accepted chart with the numbers that they have in it
+module _ {W : ℕ} {c : Chart} (valid : Valid W c) where
+  drawn-number-iff : (q j k : ℕ) → Has (drawnNumbers c) q j k ↔ (Live c q j × (j ≡ k))
+  unfolding drawnNumbers liveNumbers
+  drawn-number-iff q j k = (λ e. out (live c q j) refl e, λ x. rw (live-iff valid q j .1 (x .0), liveNumbers) (ap some (x .1)))
+    where
+      out : (b : Bool) → live c q j ≡ b → Has (drawnNumbers c) q j k → Live c q j × (j ≡ k)
+      out true h e = (live-iff valid q j .0 h, Option·some-injective _ _ (rw (h, liveNumbers) at e))
+      out false h e = absurd (Option·none-ne-some _ (rw (h, liveNumbers) at e))
+
+  pub drawn-numbers-plan : Accepted c → Plan c (drawnNumbers c)
+  drawn-numbers-plan accepted = record {
+    begins = λ j k e. accepted .no-unstarted-test _ (live-unstarted (drawn-number-iff (c .initial) j k .0 e .0));
+    reads = λ q j x r. (j, drawn-number-iff q j j .1 (live-here r, refl));
+    keeps = λ i r j k n x f e.
+        let y = drawn-number-iff (r .target) j k .0 e in
+        drawn-number-iff (r .source) j k .1 (live-back n f (y .0), y .1);
+    apart = λ q j j′ k x e e′ i r n y.
+        ap (λ (t : ℕ). memb t (r .starts)) (drawn-number-iff q j k .0 e .1 ∙ sym (drawn-number-iff q j′ k .0 e′ .1));
+    below = λ q j k e. let y = drawn-number-iff q j k .0 e in unfold drawnNumbers liveNumbers in (rw (← y .1) (live-inside valid (y .0) .timer));
+  }
+
+-- a case marked ★
+pub B-rewritten : rewriting 16 B ≡ result (record { used = 1; chart = B′ })
+unfolding case starred unnoticed ask
+B-rewritten =
+    let reply : rewriting-reply (rewriting 16 B) ≡ rewriting-reply (result (record { used = 1; chart = B′ }))
+    = ap (λ (l : List Reply). getD l 4 (sets [])) starred-hold in
+    cc
+
+pub B-valid : Valid 2 B
+unfolding B drawn arrow test
+B-valid = omega arith
+
+-- of B they are another plan than first fit's, which uses one number
+pub B-other-plan : Plan B (drawnNumbers B) × (drawnNumbers B ≡ numbering (board B) → ⊥)
+unfolding B drawn drawnNumbers liveNumbers numbering
+B-other-plan =
+    let made = rewriting-is 16 B _ B-rewritten in (
+      drawn-numbers-plan B-valid (accepted B-valid .0 (made .accepted)),
+      λ e. let z : _≡_ {A = ℕ} 2 1 = ap (λ (N : Numbering). N .used) e ∙ sym (made .used) in omega arith,
+    )
 
 -- a case marked ★
 A-live : liveSets A ≡ 0 ∷ 1 ∷ 3 ∷ 6 ∷ 5 ∷ 4 ∷ 0 ∷ []
@@ -76,10 +131,10 @@ A-live =
 
 -- at location 2 timers 0 and 1 would share number 0, but transition 0 starts only timer 0
 pub one-number-no-plan : Plan A oneNumber → ⊥
-unfolding A drawn arrow test oneNumber live member memb
+unfolding A drawn arrow test oneNumber liveNumbers live member memb
 one-number-no-plan P =
     true≢false
-    (P .apart 2 0 1 0 two (rw (A-live, oneNumber) refl) (rw (A-live, oneNumber) refl) 0 _ (record { there = refl })
+    (P .apart 2 0 1 0 two (rw (A-live, liveNumbers) refl) (rw (A-live, liveNumbers) refl) 0 _ (record { there = refl })
     (record { path = []; leads = refl }))
   where
     two : Reached A 2

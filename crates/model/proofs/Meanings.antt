@@ -1,8 +1,8 @@
 -- What the relations of runs and of demand 3 say, each held to something that the definitions compute: `Alike` sets two charts side by side, and a
 -- relation that is wrong for both would go unnoticed there. Nothing is hard. Assumes nothing.
-use mathlib.Core.Path.{_≡_, refl, sym, ap, _∙_, subst}
+use mathlib.Core.Path.{_≡_, refl, sym, ap, ap₂, _∙_, subst}
 use mathlib.Core.Logic.{inl, inr, _↔_}
-use mathlib.Core.Bool.{true}
+use mathlib.Core.Bool.{true, _&&_}
 use mathlib.Core.Option.{some, Option·some-injective, Option·none-ne-some}
 use mathlib.Core.List.{List, [], _∷_}
 use Prim.Native.Nat.{ℕ, zero, suc, _+_}
@@ -14,9 +14,9 @@ use Rattle.comparison.specs.Comparison.{met}
 use Rattle.lists.specs.Lists.{memb}
 use Rattle.model.specs.Answer.{Answer, result, then}
 use Rattle.model.specs.Chart.{Test, Transition, Chart, Nth}
-use Rattle.model.specs.Run.{Counts, State, Step, Run, EndsAccepting, Point, grown, begin, steps, outcome, everyTime, waited}
+use Rattle.model.specs.Run.{Counts, State, Step, Run, EndsAccepting, Point, grown, allMet, begin, steps, outcome, everyTime, waited}
 use Rattle.model.specs.Player.{Arrival, arrival, answerOf}
-use Rattle.model.specs.Equivalence.{Starts, StartedIn, Reads, SamePoints, IsRun}
+use Rattle.model.specs.Equivalence.{Starts, StartedIn, Reads, SamePoint, SamePoints, IsRun}
 use Rattle.model.proofs.Answers.{result-same, then-result}
 use Rattle.model.proofs.Transitions.{nth-same}
 
@@ -104,7 +104,7 @@ module _ (c : Chart) (k : ℕ) where
 
 -- ---- what a test reads
 
--- before the first step nothing does: no timer has been started
+-- before the first step no test reads a started timer
 pub reads-none : {c′ : Chart} {s s′ : State} {i k : ℕ} {t : Test} → Reads c′ [] s s′ i k t → ⊥
 reads-none x = x .started
 
@@ -128,6 +128,23 @@ module _ {c′ : Chart} {taken : List Step} {s s′ : State} {i k : ℕ} {t : Te
   -- and it is met exactly where t is
   pub reads-met : met (t′ .comparison) (s′ .counts (t′ .timer)) (t′ .constant) ≡ met (t .comparison) (s .counts (t .timer)) (t .constant)
   reads-met = rw (← same-test, x .comparison, x .shows, x .constant) refl
+
+-- as many tests, each met exactly where the other is
+all-met-alike : (v w : Counts) (ts ts′ : List Test) → length ts ≡ length ts′
+    → ((k : ℕ) (t t′ : Test) → getElem? ts k ≡ some t → getElem? ts′ k ≡ some t′
+    → met (t′ .comparison) (w (t′ .timer)) (t′ .constant) ≡ met (t .comparison) (v (t .timer)) (t .constant)) → allMet ts v ≡ allMet ts′ w
+unfolding allMet
+all-met-alike v w [] [] n h = refl
+all-met-alike v w [] (t ∷ ts) n h = absurd (omega (arith, n))
+all-met-alike v w (t ∷ ts) [] n h = absurd (omega (arith, n))
+all-met-alike v w (t ∷ ts) (t′ ∷ ts′) n h =
+    ap₂ _&&_ (sym (h 0 t t′ refl refl)) (all-met-alike v w ts ts′ (omega (arith, n)) (λ k. h (suc k)))
+
+-- at such a point a transition that leaves it is enabled in both charts or in neither
+pub same-point-met : {c c′ : Chart} {taken : List Step} {s s′ : State} → SamePoint c c′ taken s s′ → (i : ℕ) {r r′ : Transition}
+    → Nth c i r → Nth c′ i r′ → r .source ≡ s .location → allMet (r .tests) (s .counts) ≡ allMet (r′ .tests) (s′ .counts)
+same-point-met p i n n′ from =
+    all-met-alike _ _ _ _ (p .as-many i _ _ n n′ from) (λ k t t′ e e′. reads-met (p .reads i _ n from k t e) n′ e′)
 
 -- points after the same steps: both charts have arrived at one location at one time
 pub same-points-arrive : {c c′ : Chart} {v w : Counts} {es : List Step} → SamePoints c c′ v w es → {a a′ : Arrival}

@@ -7,7 +7,7 @@ use mathlib.Core.Option.{Option, none, some, Option·some-injective, Option·non
 use mathlib.Core.List.{List, [], _∷_, filterMap, filterMap-cons-none, filterMap-cons-some}
 use Prim.Native.Nat.{ℕ, zero, suc, _<_}
 use lib.Dec.{eqb}
-use lib.ListN.{getElem?}
+use lib.ListN.{length, getElem?}
 use Rattle.comparison.specs.Comparison.{met}
 use Rattle.lists.specs.Lists.{memb, anyOf}
 use Rattle.lists.proofs.Bools.{not-both, or-cases, or-right, eqb-self, same-number}
@@ -80,6 +80,10 @@ module _ (N : Numbering) (q : ℕ) where
       rw (tests-some x ts (ap (λ (y : Test). N .number q (y .timer)) p ∙ a)) (ap (λ (y : Test). some (onTimer y k)) p)
   new-test (x ∷ ts) h (suc n) e a =
       rw (tests-some x ts (h (x .timer) (tested-head x ts) .1)) (new-test ts (numbered-tail x ts h) n e a)
+
+  pub tests-as-many : (ts : List Test) → Numbered N q ts → length (newTests N q ts) ≡ length ts
+  tests-as-many [] h = unfold newTests filterMap in refl
+  tests-as-many (t ∷ ts) h = rw (tests-some t ts (h (t .timer) (tested-head t ts) .1)) (ap suc (tests-as-many ts (numbered-tail t ts h)))
 
   -- counts that agree where the tests read them meet the same tests
   pub all-met : (v w : Counts) (ts : List Test) → Numbered N q ts → ((j k : ℕ) → Has N q j k → v j ≡ w k)

@@ -1,17 +1,17 @@
 -- Demand 3 on charts: two charts behave alike. Assumes nothing.
 use mathlib.Core.Path.{_≡_}
 use mathlib.Core.Logic.{_⊎_, _↔_}
-use mathlib.Core.Bool.{true}
+use mathlib.Core.Bool.{Bool, true}
 use mathlib.Core.Option.{some}
 use mathlib.Core.List.{List, [], _∷_, _++_}
 use Prim.Native.Nat.{ℕ}
-use lib.ListN.{getElem?}
+use lib.ListN.{length, getElem?}
 use Rattle.lists.specs.Lists.{memb}
 use Rattle.model.specs.Chart.{Test, Transition, Chart, Nth}
 use Rattle.model.specs.Run.{Counts, State, Step, Run, EndsAccepting, waited, everyTime, playerTime}
 use Rattle.model.specs.Player.{answerOf}
 
--- a step of the list starts timer k
+-- the step e starts timer k
 pub record Starts (c : Chart) (k : ℕ) (e : Step) : Type 0 where
   pub transition : Transition
   pub is-nth : Nth c (e .transition) transition
@@ -35,10 +35,11 @@ pub record Reads (c′ : Chart) (taken : List Step) (s s′ : State) (i k : ℕ)
   pub started : StartedIn c′ (test .timer) taken
   pub shows : s′ .counts (test .timer) ≡ s .counts (t .timer)
 
--- two points after the same steps: the same location and time, and every test on a transition that leaves it reads the same
+-- two points after the same steps: the same location and time; a transition that leaves it has as many tests in both charts, and each reads the same
 pub record SamePoint (c c′ : Chart) (taken : List Step) (s s′ : State) : Type 0 where
   pub location : s .location ≡ s′ .location
   pub time : s .time ≡ s′ .time
+  pub as-many : (i : ℕ) (r r′ : Transition) → Nth c i r → Nth c′ i r′ → r .source ≡ s .location → length (r .tests) ≡ length (r′ .tests)
   pub reads : (i : ℕ) (r : Transition) → Nth c i r → r .source ≡ s .location
       → (k : ℕ) (t : Test) → getElem? (r .tests) k ≡ some t → Reads c′ taken s s′ i k t
 
@@ -54,14 +55,29 @@ pub record SamePoints (c c′ : Chart) (v w : Counts) (taken : List Step) : Type
 abbrev pub IsRun : Chart → Counts → List Step → Type 0
 IsRun c v es = (s : State) × Run c v es s
 
--- whatever the counts at the start of either, for every step list
+-- The clauses of demand 3, whatever the counts at the start of either, for every step list.
+
+-- the same steps are taken, and the same one is refused for the same reason; or both arrive at the same location, time and acceptance
+abbrev pub SameAnswers : (allowed : ℕ → Bool) → Chart → Chart → Type 0
+SameAnswers allowed c c′ = (v w : Counts) (es : List Step) → answerOf allowed c v es ≡ answerOf allowed c′ w es
+
+-- a run of one exactly when a run of the other
+abbrev pub SameRuns : Chart → Chart → Type 0
+SameRuns c c′ = (v w : Counts) (es : List Step) → IsRun c v es ↔ IsRun c′ w es
+
+-- the same ones end accepting
+abbrev pub SameAccepting : Chart → Chart → Type 0
+SameAccepting c c′ = (v w : Counts) (es : List Step) → EndsAccepting c v es ↔ EndsAccepting c′ w es
+
+-- at every point of a run the tests read the same
+abbrev pub SameAtPoints : Chart → Chart → Type 0
+SameAtPoints c c′ = (v w : Counts) (taken rest : List Step) → IsRun c v (taken ++ rest) → SamePoints c c′ v w taken
+
+-- two charts behave alike
 pub record Alike (c c′ : Chart) : Type 0 where
-  -- the same steps are taken, and the same one is refused for the same reason; or both arrive at the same location, time and acceptance
-  pub answers : (v w : Counts) (es : List Step) → answerOf everyTime c v es ≡ answerOf everyTime c′ w es
-  -- a run of one exactly when a run of the other, and the same ones end accepting
-  pub runs : (v w : Counts) (es : List Step) → IsRun c v es ↔ IsRun c′ w es
-  pub accepting : (v w : Counts) (es : List Step) → EndsAccepting c v es ↔ EndsAccepting c′ w es
-  -- at every point of a run
-  pub points : (v w : Counts) (taken rest : List Step) → IsRun c v (taken ++ rest) → SamePoints c c′ v w taken
-  -- and with the player's limit on times
-  pub plays : (v w : Counts) (es : List Step) → answerOf playerTime c v es ≡ answerOf playerTime c′ w es
+  pub answers : SameAnswers everyTime c c′
+  pub runs : SameRuns c c′
+  pub accepting : SameAccepting c c′
+  pub points : SameAtPoints c c′
+  -- the answers with the player's limit on times
+  pub plays : SameAnswers playerTime c c′
