@@ -24,7 +24,6 @@ def framed(body, version=1, length=None):
 
 
 LARGEST = [256, 512, 512, 512, 512, 512, 4096, 4096, 4096]
-NOWHERE = 'refused %d 65535 changed 0'
 READ = []
 WRITE = []
 COUNT = []

@@ -101,8 +101,7 @@ fn show_changed(lists: Lists, positions: &[u8]) {
     let a = count(positions, 0, MOST_LOCATIONS);
     let n = count(positions, 1, MOST_TRANSITIONS);
     let g = count(positions, 2, MOST_TESTS);
-    item(b"changed ", changed(lists, a, n, g) as u64);
-    end();
+    changes(changed(lists, a, n, g));
 }
 
 // How many entries are not as they were: from the a-th on in the list of accepting locations, from the n-th on in those of the transitions, and from

@@ -19,7 +19,13 @@ pub fn item(label: &[u8], n: u64) {
 pub fn refusal(r: Refusal, changed: usize) {
     item(b"refused ", r.number as u64);
     item(b" ", r.place);
-    item(b" changed ", changed as u64);
+    text(b" ");
+    changes(changed);
+}
+
+// How many entries of lent memory are not as they were, at the end of a line.
+pub fn changes(n: usize) {
+    item(b"changed ", n as u64);
     end();
 }
 
