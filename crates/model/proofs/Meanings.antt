@@ -12,6 +12,7 @@ use lib.ListN.{length, getElem?, take, drop, take-append-drop}
 use lib.Seq.{take-append-seam, take-nil}
 use Rattle.comparison.specs.Comparison.{met}
 use Rattle.lists.specs.Lists.{memb}
+use Rattle.lists.proofs.Nth.{nth-below, below-nth}
 use Rattle.model.specs.Answer.{Answer, result, then}
 use Rattle.model.specs.Chart.{Test, Transition, Chart, Nth}
 use Rattle.model.specs.Run.{Counts, State, Step, Run, EndsAccepting, Point, grown, allMet, begin, steps, outcome, everyTime, waited}
@@ -140,11 +141,18 @@ all-met-alike v w (t ∷ ts) [] n h = absurd (omega (arith, n))
 all-met-alike v w (t ∷ ts) (t′ ∷ ts′) n h =
     ap₂ _&&_ (sym (h 0 t t′ refl refl)) (all-met-alike v w ts ts′ (omega (arith, n)) (λ k. h (suc k)))
 
--- at such a point a transition that leaves it is enabled in both charts or in neither
-pub same-point-met : {c c′ : Chart} {taken : List Step} {s s′ : State} → SamePoint c c′ taken s s′ → (i : ℕ) {r r′ : Transition}
-    → Nth c i r → Nth c′ i r′ → r .source ≡ s .location → allMet (r .tests) (s .counts) ≡ allMet (r′ .tests) (s′ .counts)
-same-point-met p i n n′ from =
-    all-met-alike _ _ _ _ (p .as-many i _ _ n n′ from) (λ k t t′ e e′. reads-met (p .reads i _ n from k t e) n′ e′)
+-- a transition that leaves such a point, in both charts
+module _ {c c′ : Chart} {taken : List Step} {s s′ : State} (p : SamePoint c c′ taken s s′) (i : ℕ) {r r′ : Transition}
+    (n : Nth c i r) (n′ : Nth c′ i r′) (from : r .source ≡ s .location) where
+  -- is enabled in both or in neither
+  pub same-point-met : allMet (r .tests) (s .counts) ≡ allMet (r′ .tests) (s′ .counts)
+  same-point-met = all-met-alike _ _ _ _ (p .as-many i r r′ n n′ from) (λ k t t′ e e′. reads-met (p .reads i r n from k t e) n′ e′)
+
+  -- and each test in the other chart reads a timer that was started
+  pub same-point-started : (k : ℕ) {t′ : Test} → getElem? (r′ .tests) k ≡ some t′ → StartedIn c′ (t′ .timer) taken
+  same-point-started k e =
+      let t = nth-below (r .tests) k (omega (arith, below-nth (r′ .tests) k e, p .as-many i r r′ n n′ from)) in
+      reads-started (p .reads i r n from k (t .0) (t .1)) n′ e
 
 -- points after the same steps: both charts have arrived at one location at one time
 pub same-points-arrive : {c c′ : Chart} {v w : Counts} {es : List Step} → SamePoints c c′ v w es → {a a′ : Arrival}
