@@ -115,7 +115,9 @@ module _ {bs before after : List ℕ} {f : AnalysisValues} (bytes : Bytes bs) (v
   floor-only =
       let x = v .floor-reached in
       let y = floor-reached valid in
-      omega (arith, x .2, ap ones (word-only (x .0) (x .1)), floor-most valid (x .0), y .2, ap ones (word-only (y .0) (y .1)), v .floor-most (y .0) (y .1))
+      let above : f .floor ≤ floor c = omega (arith, x .2, ap ones (word-only (x .0) (x .1)), floor-most valid (x .0)) in
+      let below : floor c ≤ f .floor = omega (arith, y .2, ap ones (word-only (y .0) (y .1)), v .floor-most (y .0) (y .1)) in
+      omega arith
 
   pub found-only : f ≡ valuesOf c
   unfolding valuesOf
