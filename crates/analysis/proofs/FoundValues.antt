@@ -1,15 +1,22 @@
--- A call of the analysis that finds a chart leaves what `FoundValues` says. What is hard is only to read the list's front as the live sets, and what
--- is behind as it was. Assumes nothing.
-use mathlib.Core.Path.{_≡_, sym, ap, _∙_}
+-- A call of the analysis that finds a chart leaves what `FoundValues` says, and that leaves no other values. What is hard is only to read the list's
+-- front as the live sets, and what is behind as it was. Assumes nothing.
+use mathlib.Core.Path.{_≡_, refl, sym, ap, _∙_}
+use mathlib.Core.Logic.{_↔_, Iff·trans, Iff·symm}
+use mathlib.Core.Bool.{true}
 use mathlib.Core.List.{List, _++_}
-use Prim.Native.Nat.{ℕ, _+_, _-_, _≤_, _<_}
+use Prim.Native.Nat.{ℕ, zero, suc, _+_, _-_, _^_, _≤_, _<_}
 use native.Mathlib.Omega.{arith}
+use lib.Count.{ones}
 use lib.ListN.{length, getD, drop, List·getD-append}
 use lib.Seq.{getD-append-add, getD-drop}
+use Rattle.lists.proofs.Bools.{same-bool}
+use Rattle.timer_set.specs.Members.{member}
+use Rattle.timer_set.proofs.Members.{member-ext}
 use Rattle.model.specs.Answer.{result}
 use Rattle.model.specs.Chart.{Chart}
+use Rattle.model.specs.Valid.{Valid}
 use Rattle.model.specs.Live.{liveSets}
-use Rattle.model.specs.FirstFit.{board, used}
+use Rattle.model.specs.FirstFit.{board, used, floor}
 use Rattle.model.proofs.NumberAt.{number-below}
 use Rattle.model.proofs.UsedNumbers.{used-reached}
 use Rattle.file_format.specs.Parse.{Bytes}
@@ -69,3 +76,50 @@ module _ (bs before : List ℕ) (bytes : Bytes bs) where
   found-values {f} e =
       let a = analysis-result (length before) bs bytes f .0 e in
       of-chart (a .chart) (a .accepts) (a .room-for) (a .values-are)
+
+-- ---- no other values
+
+-- a number is below its power of 2
+below-power : (n : ℕ) → n < 2 ^ n
+below-power zero = omega arith
+below-power (suc n) = omega (arith, below-power n)
+
+-- words with the same members are equal
+members-equal : (a b : ℕ) → ((j : ℕ) → (member a j ≡ true) ↔ (member b j ≡ true)) → a ≡ b
+members-equal a b same =
+    let h : a + b < 2 ^ (a + b) = below-power (a + b) in
+    member-ext (a + b) a b (omega arith) (omega arith) (λ j l. same-bool _ _ (same j .0) (same j .1))
+
+-- a number is at most n if the one before it is below n
+at-most : (m n : ℕ) → ((u : ℕ) → m ≡ suc u → u < n) → m ≤ n
+at-most zero n h = omega arith
+at-most (suc u) n h = omega (arith, h u refl)
+
+module _ {bs before after : List ℕ} {f : AnalysisValues} (bytes : Bytes bs) (v : FoundValues bs before after f) where
+  abbrev c : Chart
+  c = v .chart
+
+  valid : Valid 2 c
+  valid = reads-valid bs c bytes (v .accepts .reads)
+
+  word-only : (q : ℕ) → q < c .locations → getD after q 0 ≡ getD (liveSets c) q 0
+  word-only q h = members-equal _ _ (λ j. Iff·trans (v .words-are q j h) (Iff·symm (word-live valid q j)))
+
+  used-only : f .used ≡ used c
+  unfolding used
+  used-only =
+      let above : f .used ≤ used c = at-most (f .used) (used c) (λ u e. let x = v .used-reached u e in number-below (board c) (x .0) (x .1) u (x .2)) in
+      let below : used c ≤ f .used = at-most (used c) (f .used) (λ u e. let x = used-reached valid u e in v .used-above (x .0) (x .1) u (x .2)) in
+      omega arith
+
+  floor-only : f .floor ≡ floor c
+  floor-only =
+      let x = v .floor-reached in
+      let y = floor-reached valid in
+      let above : f .floor ≤ floor c = omega (arith, x .2, ap ones (word-only (x .0) (x .1)), floor-most valid (x .0)) in
+      let below : floor c ≤ f .floor = omega (arith, y .2, ap ones (word-only (y .0) (y .1)), v .floor-most (y .0) (y .1)) in
+      omega arith
+
+  pub found-only : f ≡ valuesOf c
+  unfolding valuesOf
+  found-only i = record { used = used-only i; floor = floor-only i }

@@ -1,6 +1,7 @@
--- Elements by their places, in lists by numbers and in mapped lists, and a list that a loop writes from the front. Hard: that a list by numbers
--- is a mapped one, since the one grows at its end and the other at its front: they are compared place by place. Assumes nothing.
-use mathlib.Core.Path.{_≡_, refl, sym, _∙_}
+-- Elements by their places, in lists by numbers and in mapped lists; lists related place by place, and which lists these determine; and a list that
+-- a loop writes from the front. Hard: that a list by numbers is a mapped one, since the one grows at its end and the other at its front: they are
+-- compared place by place. Assumes nothing.
+use mathlib.Core.Path.{_≡_, refl, sym, ap, ap₂, subst, subst₂, _∙_}
 use mathlib.Core.Option.{some, Option·some-injective, Option·none-ne-some}
 use mathlib.Core.List.{List, [], _∷_, map}
 use Prim.Native.Nat.{ℕ, zero, suc, _+_, _<_}
@@ -9,7 +10,7 @@ use native.Mathlib.Omega.{arith}
 use lib.ListN.{length, getD, getElem?, set, length-map}
 use lib.Seq.{ext-getD, getD-set-same, getD-set-other}
 use Rattle.lists.specs.Lists.{upTo}
-use Rattle.lists.specs.Elements.{Each}
+use Rattle.lists.specs.Elements.{PlaceByPlace}
 use Rattle.lists.proofs.Gather.{length-upTo, getD-upTo}
 use Rattle.lists.proofs.Membership.{nth-map}
 
@@ -41,11 +42,39 @@ module _ {A : Type 0} where
       let x = nth-below l i (omega arith) in
       getD-upTo f n i d b ∙ each i (x .0) (x .1) ∙ sym (getD-nth (map g l) i d (nth-map g l i (x .1))))
 
--- a list and what each of its elements is mapped to
-pub each-map : {A B : Type 0} (R : A → B → Type 0) (f : A → B) (l : List A) → ((i : ℕ) (a : A) → getElem? l i ≡ some a → R a (f a))
-    → Each R l (map f l)
-each-map R f [] h = tt
-each-map R f (x ∷ l) h = (h 0 x refl, each-map R f l (λ i. h (suc i)))
+module _ {A B : Type 0} {R : A → B → Type 0} where
+  pub place-by-place-cons : {x : A} {y : B} {xs : List A} {ys : List B} → R x y → PlaceByPlace R xs ys → PlaceByPlace R (x ∷ xs) (y ∷ ys)
+  place-by-place-cons {x} {y} {xs} {ys} r p = record { same-length = ap suc (p .same-length); related = go }
+    where
+      go : (k : ℕ) (a : A) (b : B) → getElem? (x ∷ xs) k ≡ some a → getElem? (y ∷ ys) k ≡ some b → R a b
+      go zero a b e f = subst₂ R (Option·some-injective _ _ e) (Option·some-injective _ _ f) r
+      go (suc k) a b e f = p .related k a b e f
+
+  -- a list and what each of its elements is mapped to
+  pub place-by-place-map : (f : A → B) (l : List A) → ((i : ℕ) (a : A) → getElem? l i ≡ some a → R a (f a)) → PlaceByPlace R l (map f l)
+  place-by-place-map f l h = record {
+    same-length = sym (length-map l f);
+    related = λ k x y e g. subst (R x) (Option·some-injective _ _ (sym (nth-map f l k e) ∙ g)) (h k x e);
+  }
+
+-- lists that have the same elements in the same places are equal
+pub place-by-place-equal : {A : Type 0} (xs ys : List A) → PlaceByPlace (λ (x y : A). x ≡ y) xs ys → xs ≡ ys
+place-by-place-equal [] [] p = refl
+place-by-place-equal [] (y ∷ ys) p = absurd (omega (arith, p .same-length))
+place-by-place-equal (x ∷ xs) [] p = absurd (omega (arith, p .same-length))
+place-by-place-equal (x ∷ xs) (y ∷ ys) p =
+    ap₂ _∷_ (p .related 0 x y refl refl)
+    (place-by-place-equal xs ys (record { same-length = omega (arith, p .same-length); related = λ k. p .related (suc k) }))
+
+-- two lists that are related to one list are equal, if the elements of each place are
+pub place-by-place-only : {A B : Type 0} {R : A → B → Type 0} (xs : List A) (ys zs : List B) → PlaceByPlace R xs ys → PlaceByPlace R xs zs
+    → ((k : ℕ) (x : A) (y z : B) → getElem? ys k ≡ some y → getElem? zs k ≡ some z → R x y → R x z → y ≡ z) → ys ≡ zs
+place-by-place-only xs ys zs p q h = place-by-place-equal ys zs (record {
+  same-length = sym (p .same-length) ∙ q .same-length;
+  related = λ k y z e f.
+      let x = nth-below xs k (omega (arith, below-nth ys k e, p .same-length)) in
+      h k (x .0) y z e f (p .related k (x .0) y (x .1) e) (q .related k (x .0) z (x .1) f);
+})
 
 -- an entry more
 pub filled-more : (f : ℕ → ℕ) (l : List ℕ) (x : ℕ) → x < length l → ((k : ℕ) → k < x → getD l k 0 ≡ f k)

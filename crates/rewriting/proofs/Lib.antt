@@ -5,5 +5,6 @@ pub mod Board
 pub mod Written
 pub mod Fits
 pub mod ReturnedChart
+pub mod NotFitting
 pub mod Outcomes
 pub mod Refusals

@@ -1,19 +1,28 @@
--- What the rewriting returns, part by part: every transition and every test in its place. Nothing is hard: a tested timer is live where it is
--- tested, so it has a number there and no test is left out. Assumes nothing.
+-- What the rewriting returns, part by part: every transition and every test in its place; and only the rewritten chart has these parts. Nothing is
+-- hard: a tested timer is live where it is tested, so it has a number there and no test is left out; and starts that rise are equal if they have the
+-- same members. Assumes nothing.
 use mathlib.Core.Path.{_≡_, refl, sym, ap, subst, _∙_}
-use mathlib.Core.List.{List, [], _∷_, filterMap}
+use mathlib.Core.Option.{some, Option·some-injective, Option·none-ne-some}
+use mathlib.Core.List.{List, [], _∷_, map, filterMap}
 use Prim.Native.Nat.{ℕ}
-use Rattle.lists.specs.Elements.{Each}
-use Rattle.lists.proofs.Nth.{each-map}
+use lib.ListN.{getElem?}
+use Rattle.lists.specs.Rising.{Rising}
+use Rattle.lists.specs.Elements.{PlaceByPlace}
+use Rattle.lists.proofs.Bools.{same-bool}
+use Rattle.lists.proofs.Gather.{pick-rising}
+use Rattle.lists.proofs.Membership.{nth-unmap}
+use Rattle.lists.proofs.Rising.{rising-same}
+use Rattle.lists.proofs.Nth.{place-by-place-cons, place-by-place-map, place-by-place-only}
 use Rattle.model.specs.Answer.{result}
 use Rattle.model.specs.Chart.{Test, Transition, Chart, Nth}
 use Rattle.model.specs.Valid.{Valid}
 use Rattle.model.specs.FirstFit.{board, used}
-use Rattle.model.specs.Rewrite.{numbering, newTests, newTransition, rewrittenBy}
+use Rattle.model.specs.Rewrite.{numbering, newTests, newStarts, newTransition, rewrittenBy, rewritten}
 use Rattle.model.specs.Plan.{Numbered}
 use Rattle.model.specs.Returned.{NotRefused}
 use Rattle.model.specs.Judge.{Rewriting, rewriting}
 use Rattle.model.proofs.Answers.{result-same}
+use Rattle.model.proofs.Transitions.{nth-valid}
 use Rattle.model.proofs.Rewritten.{tested-head, tested-tail, tests-some}
 use Rattle.model.proofs.BoardPlan.{born-starts}
 use Rattle.model.proofs.RewritingAlike.{rewriting-is}
@@ -27,15 +36,15 @@ use Rattle.rewriting.proofs.Fits.{rewriting-of}
 
 module _ (c : Chart) where
   tests-rewritten : (q : ℕ) (ts : List Test) → Numbered (numbering (board c)) q ts
-      → Each (RewrittenTest c q) ts (newTests (numbering (board c)) q ts)
+      → PlaceByPlace (RewrittenTest c q) ts (newTests (numbering (board c)) q ts)
   unfolding newTests filterMap numbering
-  tests-rewritten q [] h = tt
+  tests-rewritten q [] h = record { same-length = refl; related = λ k x y e f. absurd (Option·none-ne-some _ e) }
   tests-rewritten q (t ∷ ts) h =
       let a = h (t .timer) (tested-head t ts) in
       rw (tests-some (numbering (board c)) q t ts (a .1))
-      (record { timer = a .1; comparison = refl; constant = refl }, tests-rewritten q ts (λ j m. h j (tested-tail j t ts m)))
+      (place-by-place-cons (record { timer = a .1; comparison = refl; constant = refl }) (tests-rewritten q ts (λ j m. h j (tested-tail j t ts m))))
 
-  transition-rewritten : Valid 2 c → (i : ℕ) (r : Transition) → Nth c i r → RewrittenTransition c r (newTransition (numbering (board c)) r)
+  transition-rewritten : {W : ℕ} → Valid W c → (i : ℕ) (r : Transition) → Nth c i r → RewrittenTransition c r (newTransition (numbering (board c)) r)
   unfolding newTransition
   transition-rewritten valid i r n = record {
     source = refl;
@@ -45,6 +54,10 @@ module _ (c : Chart) where
     tests = tests-rewritten (r .source) (r .tests) (tests-numbered valid i r n);
   }
 
+  transitions-rewritten : {W : ℕ} → Valid W c
+      → PlaceByPlace (RewrittenTransition c) (c .transitions) (map (newTransition (numbering (board c))) (c .transitions))
+  transitions-rewritten valid = place-by-place-map _ (c .transitions) (λ i r e. transition-rewritten valid i r (record { there = e }))
+
   chart-rewritten : {K : ℕ} {x : Rewriting} → Valid 2 c → NotRefused K c x → RewrittenChart c x
   unfolding rewrittenBy numbering used
   chart-rewritten valid y = record {
@@ -53,9 +66,51 @@ module _ (c : Chart) where
     accepting = ap (λ (d : Chart). d .accepting) (y .chart);
     timers = ap (λ (d : Chart). d .timers) (y .chart) ∙ sym (y .used);
     used = y .used;
-    transitions = rw (y .chart)
-        (each-map (RewrittenTransition c) _ (c .transitions) (λ i r e. transition-rewritten valid i r (record { there = e })));
+    transitions = rw (y .chart) (transitions-rewritten valid);
   }
+
+  -- ---- nothing else has these parts
+
+  test-only : {q : ℕ} {t u v : Test} → RewrittenTest c q t u → RewrittenTest c q t v → u ≡ v
+  test-only a b i = record {
+    timer = Option·some-injective _ _ (sym (a .timer) ∙ b .timer) i;
+    comparison = (a .comparison ∙ sym (b .comparison)) i;
+    constant = (a .constant ∙ sym (b .constant)) i;
+  }
+
+  transition-only : (m n : ℕ) {r u v : Transition} → RewrittenTransition c r u → RewrittenTransition c r v
+      → Rising m 0 (u .starts) → Rising n 0 (v .starts) → u ≡ v
+  transition-only m n {r} {u} {v} a b rises rises′ i = record {
+    source = (a .source ∙ sym (b .source)) i;
+    target = (a .target ∙ sym (b .target)) i;
+    event = (a .event ∙ sym (b .event)) i;
+    starts = rising-same m n 0 (u .starts) (v .starts) rises rises′
+        (λ k. same-bool _ _ (λ h. b .starts k .1 (a .starts k .0 h)) (λ h. a .starts k .1 (b .starts k .0 h))) i;
+    tests = place-by-place-only (r .tests) (u .tests) (v .tests) (a .tests) (b .tests) (λ k t x y e f. test-only) i;
+  }
+
+  new-rising : (r : Transition) → Rising (used c) 0 (newTransition (numbering (board c)) r .starts)
+  unfolding newTransition newStarts numbering used
+  new-rising r = pick-rising _ (used c)
+
+  -- a chart that a file can hold, and that has the parts of the rewritten chart, is the rewritten chart
+  pub rewritten-only : {W W′ : ℕ} {x : Rewriting} → Valid W c → Valid W′ (x .chart) → RewrittenChart c x → x .chart ≡ rewritten c
+  unfolding rewritten rewrittenBy numbering used
+  rewritten-only {x = x} valid valid′ a i = record {
+    locations = a .locations i;
+    initial = a .initial i;
+    timers = (a .timers ∙ a .used) i;
+    accepting = a .accepting i;
+    transitions = place-by-place-only (c .transitions) (x .chart .transitions) _ (a .transitions) (transitions-rewritten valid) same i;
+  }
+    where
+      same : (k : ℕ) (r u v : Transition) → getElem? (x .chart .transitions) k ≡ some u
+          → getElem? (map (newTransition (numbering (board c))) (c .transitions)) k ≡ some v
+          → RewrittenTransition c r u → RewrittenTransition c r v → u ≡ v
+      same k r u v e f a b =
+          let o = nth-unmap (newTransition (numbering (board c))) (c .transitions) k f in
+          transition-only (x .chart .timers) (used c) a b (nth-valid valid′ (record { there = e }) .starts)
+          (subst (λ (y : Transition). Rising (used c) 0 (y .starts)) (o .2) (new-rising (o .0)))
 
 -- the call: what it returns is the rewriting of the chart that the file holds
 pub answer-rewritten : (K room : ℕ) (bs : List ℕ) (c : Chart) (x : Rewriting) → Bytes bs → chartIn bs ≡ result c → rewriteInto K room bs ≡ result x

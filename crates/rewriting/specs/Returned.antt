@@ -7,7 +7,7 @@ use mathlib.Core.Option.{some}
 use mathlib.Core.List.{List}
 use Prim.Native.Nat.{ℕ, _≤_}
 use Rattle.lists.specs.Lists.{memb}
-use Rattle.lists.specs.Elements.{Each}
+use Rattle.lists.specs.Elements.{PlaceByPlace}
 use Rattle.model.specs.Answer.{result}
 use Rattle.model.specs.Chart.{Test, Transition, Chart, Nth}
 use Rattle.model.specs.Valid.{Valid}
@@ -38,7 +38,7 @@ pub record RewrittenTransition (c : Chart) (r r′ : Transition) : Type 0 where
   -- r′ starts k exactly where k is the number, at the target, of a timer born on r
   pub starts : (k : ℕ) → (memb k (r′ .starts) ≡ true) ↔ ((j : ℕ) × Born c r j × (numberAt (board c) (r .target) j ≡ some k))
   -- every test is kept, in its place, and reads the number at the source
-  pub tests : Each (RewrittenTest c (r .source)) (r .tests) (r′ .tests)
+  pub tests : PlaceByPlace (RewrittenTest c (r .source)) (r .tests) (r′ .tests)
 
 -- x is the chart rewritten: all is kept but the number of timers and the timers that tests and starts name
 pub record RewrittenChart (c : Chart) (x : Rewriting) : Type 0 where
@@ -47,7 +47,7 @@ pub record RewrittenChart (c : Chart) (x : Rewriting) : Type 0 where
   pub accepting : x .chart .accepting ≡ c .accepting
   pub timers : x .chart .timers ≡ x .used
   pub used : x .used ≡ used c
-  pub transitions : Each (RewrittenTransition c) (c .transitions) (x .chart .transitions)
+  pub transitions : PlaceByPlace (RewrittenTransition c) (c .transitions) (x .chart .transitions)
 
 -- what is returned fits the board and a file
 pub record FitsBoard (K : ℕ) (x : Rewriting) : Type 0 where
