@@ -1,7 +1,7 @@
--- A call of the analysis that finds a chart leaves what `FoundValues` says, and that leaves no other values. What is hard is only to read the list's
--- front as the live sets, and what is behind as it was. Assumes nothing.
+-- A call of the analysis that finds a chart leaves what `FoundValues` says, and this determines the values and the list. What is hard is only to
+-- read the list's front as the live sets, and what is behind as it was. Assumes nothing.
 use mathlib.Core.Path.{_≡_, refl, sym, ap, _∙_}
-use mathlib.Core.Logic.{_↔_, Iff·trans, Iff·symm}
+use mathlib.Core.Logic.{_⊎_, inl, inr, _↔_, Iff·trans, Iff·symm}
 use mathlib.Core.Bool.{true}
 use mathlib.Core.List.{List, _++_}
 use Prim.Native.Nat.{ℕ, zero, suc, _+_, _-_, _^_, _≤_, _<_}
@@ -9,7 +9,7 @@ use native.Mathlib.Omega.{arith}
 use lib.Count.{ones}
 use lib.ListN.{length, getD, drop, List·getD-append}
 use lib.Seq.{getD-append-add, getD-drop}
-use Rattle.lists.proofs.Bools.{same-bool}
+use Rattle.lists.proofs.Bools.{lt-or-le, same-bool}
 use Rattle.timer_set.specs.Members.{member}
 use Rattle.timer_set.proofs.Members.{member-ext}
 use Rattle.model.specs.Answer.{result}
@@ -77,7 +77,7 @@ module _ (bs before : List ℕ) (bytes : Bytes bs) where
       let a = analysis-result (length before) bs bytes f .0 e in
       of-chart (a .chart) (a .accepts) (a .room-for) (a .values-are)
 
--- ---- no other values
+-- ---- nothing else is found
 
 -- a number is below its power of 2
 below-power : (n : ℕ) → n < 2 ^ n
@@ -120,6 +120,15 @@ module _ {bs before after : List ℕ} {f : AnalysisValues} (bytes : Bytes bs) (v
       let below : floor c ≤ f .floor = omega (arith, y .2, ap ones (word-only (y .0) (y .1)), v .floor-most (y .0) (y .1)) in
       omega arith
 
+  -- what is found is what the chart gives
   pub found-only : f ≡ valuesOf c
   unfolding valuesOf
   found-only i = record { used = used-only i; floor = floor-only i }
+
+  -- and no other list: the live sets over the front of what was lent
+  pub found-list : (q : ℕ) → getD after q 0 ≡ getD (put (liveSets c) before) q 0
+  found-list q = go (lt-or-le q (c .locations))
+    where
+      go : (q < c .locations) ⊎ (c .locations ≤ q) → getD after q 0 ≡ getD (put (liveSets c) before) q 0
+      go (inl h) = word-only q h ∙ sym (in-front (liveSets c) before q (omega (arith, live-each c)))
+      go (inr h) = v .beyond q h ∙ sym (behind (liveSets c) before q (omega (arith, live-each c)))
