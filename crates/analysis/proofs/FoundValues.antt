@@ -108,7 +108,8 @@ module _ {bs before after : List ℕ} {f : AnalysisValues} (bytes : Bytes bs) (v
   used-only : f .used ≡ used c
   unfolding used
   used-only =
-      let above : f .used ≤ used c = at-most (f .used) (used c) (λ u e. let x = v .used-reached u e in number-below (board c) (x .0) (x .1) u (x .2)) in
+      let given : (u : ℕ) → f .used ≡ suc u → u < used c = λ u e. let x = v .used-reached u e in number-below (board c) (x .0) (x .1) u (x .2) in
+      let above : f .used ≤ used c = at-most (f .used) (used c) given in
       let below : used c ≤ f .used = at-most (used c) (f .used) (λ u e. let x = used-reached valid u e in v .used-above (x .0) (x .1) u (x .2)) in
       omega arith
 
