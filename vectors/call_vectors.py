@@ -123,7 +123,7 @@ rewrite('event 255 of a transition that loses its start', chart(1, 1, [(0, 0, [0
         rewritten(0, bytes.fromhex('01 00000014 0001 0000 00 0001 0000 0001 0007 0000 0000 ff 00 00'), 65536))
 
 
-# counts, then steps (transition, time); the transitions and times of `extra` are appended to one list only
+# counts, then steps (transition, time); or a list of transitions and one of times of its own; `repeat` steps of transition 0 at time 0 come first
 def play(comment, file, counts, steps, line, transitions=None, times=None, repeat=0):
     PLAY.append((comment, file, counts, [s[0] for s in steps] if transitions is None else transitions,
                  [s[1] for s in steps] if times is None else times, repeat, [line]))
