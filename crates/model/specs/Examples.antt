@@ -1,4 +1,4 @@
--- Charts and a numbering that differ from document 01's where a relation of demand 3 has to tell them apart. Assumes nothing.
+-- Charts and numberings that differ from document 01's where a relation of demand 3 or of plans has to tell them apart. Assumes nothing.
 use mathlib.Core.Bool.{true, false}
 use mathlib.Core.Option.{none, some}
 use mathlib.Core.List.{List, [], _∷_}
