@@ -11,15 +11,17 @@ use Rattle.model.specs.Flow.{brings, made, round, roundsOf, sameSets, ch
 use Rattle.model.specs.Live.{startsSet, testsSet, atInitial, liveFlow, unstartedFlow, reachedFlow}
 use Rattle.model.specs.Live.{liveSets, unstartedSets, reachedSets, isEmpty, firstUnreached, firstUnstarted}
 use Rattle.model.specs.Family.{isPair, livePairs, familyNumber, linkFlow, familyOf, familyFrom, families, meets}
-use Rattle.model.specs.FirstFit.{held, free, place, firstFit, usedBy, numberAt, allHeld, blocked, fullest, floor, board}
+use Rattle.model.specs.FirstFit.{held, free, place, firstFit, usedBy, numberAt, allHeld, blocked, board}
+use Rattle.model.specs.SmallestPlan.{placings, meetingDiffer, planned, fewest}
+use Rattle.model.specs.Floor.{searched, fullest, floor}
 use Rattle.model.specs.Rewrite.{numbering, renamed, newTests, newStarts, newTransition, rewrittenBy}
 use Rattle.model.specs.Judge.{judged, fitted, rewriting}
 use Rattle.model.specs.Player.{arrival, answerOf, tooLarge, countsJudged, stepsOf, played}
-use Rattle.model.specs.Cases.{arrow, onEvent, test, drawn, A, B, C, selfLoop, neverStarted, restart, ownStart, twoEvents}
+use Rattle.model.specs.Cases.{arrow, onEvent, test, drawn, A, B, C, selfLoop, neverStarted, restart, ownStart, twoEvents, aboveFloor}
 use Rattle.model.specs.Cases.{B′, C′, selfLoop′, twoEvents′, boardNumbers, ask, Case, case, starred, unnoticed}
 
 pub starred-hold : map (λ (x : Case). ask (x .question)) (starred ++ unnoticed) ≡ map (λ (x : Case). x .reply) (starred ++ unnoticed)
-unfolding arrow onEvent test drawn A B C selfLoop neverStarted restart ownStart twoEvents B′ C′ selfLoop′ twoEvents′
+unfolding arrow onEvent test drawn A B C selfLoop neverStarted restart ownStart twoEvents aboveFloor B′ C′ selfLoop′ twoEvents′
     boardNumbers ask case starred unnoticed
     member joined common minus added everyTimer met ones onesIn filterMap
     memb anyOf firstOf lowest gather upTo pick top
@@ -27,7 +29,8 @@ unfolding arrow onEvent test drawn A B C selfLoop neverStarted restart ownStart 
     brings made round roundsOf sameSets changing settled
     setOf startsSet testsSet atInitial liveFlow unstartedFlow reachedFlow liveSets unstartedSets reachedSets isEmpty firstUnreached firstUnstarted
     isPair livePairs familyNumber linkFlow familyOf familyFrom families meets
-    held free place firstFit usedBy numberAt allHeld blocked fullest floor board
+    held free place firstFit usedBy numberAt allHeld blocked board
+    placings meetingDiffer planned fewest searched fullest floor
     numbering renamed newTests newStarts newTransition rewrittenBy
     judged fitted rewriting arrival answerOf tooLarge countsJudged stepsOf played
 starred-hold = refl

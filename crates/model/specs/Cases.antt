@@ -9,7 +9,8 @@ use Rattle.model.specs.Answer.{Answer, result, refused, nowhere}
 use Rattle.model.specs.Chart.{Test, Transition, Chart}
 use Rattle.model.specs.Live.{liveSets}
 use Rattle.model.specs.Family.{familyNumber}
-use Rattle.model.specs.FirstFit.{Placed, board, usedBy, floor}
+use Rattle.model.specs.FirstFit.{Placed, board, usedBy}
+use Rattle.model.specs.Floor.{floor}
 use Rattle.model.specs.Judge.{Rewriting, rewriting}
 use Rattle.model.specs.Player.{Arrival, played}
 
@@ -83,6 +84,16 @@ ownStart = drawn 2 1 1 (arrow 0 1 (0 ∷ []) (test 0 AtLeast 0 ∷ []) ∷ [])
 unfoldable pub twoEvents : Chart
 twoEvents = drawn 3 2 2 (onEvent 7 (arrow 0 1 (1 ∷ []) []) ∷ onEvent 255 (arrow 1 2 [] (test 1 AtLeast 3 ∷ [])) ∷ [])
 
+-- first fit uses a timer more than the fewest: it gives the last of four families 2, where 0 and 1 are enough
+unfoldable pub aboveFloor : Chart
+aboveFloor = drawn 5 4 3 (
+    arrow 0 3 (0 ∷ 1 ∷ []) []
+    ∷ arrow 3 1 [] (test 0 AtMost 3 ∷ [])
+    ∷ arrow 3 4 (2 ∷ []) []
+    ∷ arrow 4 2 (0 ∷ []) (test 1 AtMost 5 ∷ [])
+    ∷ arrow 2 1 [] (test 0 AtMost 3 ∷ test 2 AtMost 9 ∷ [])
+    ∷ [])
+
 -- B rewritten: transition 1 tests board timer 0 and then starts it
 unfoldable pub B′ : Chart
 B′ = drawn 4 3 1 (
@@ -147,7 +158,7 @@ case q r = record { question = q; reply = r }
 unfoldable pub starred : List Case
 starred =
     case (live-sets A) (sets (0 ∷ 1 ∷ 3 ∷ 6 ∷ 5 ∷ 4 ∷ 0 ∷ []))
-    ∷ case (numbers A) (given ((64, 0) ∷ (129, 1) ∷ (194, 2) ∷ []) 3 2)
+    ∷ case (numbers A) (given ((64, 0) ∷ (129, 1) ∷ (194, 2) ∷ []) 3 3)
     ∷ case (rewrite A 3) (rewriting-is (result (record { used = 3; chart = A })))
     ∷ case (rewrite A 2) (rewriting-is (refused 20 nowhere))
     ∷ case (rewrite B 16) (rewriting-is (result (record { used = 1; chart = B′ })))
@@ -164,6 +175,7 @@ starred =
 unfoldable pub unnoticed : List Case
 unnoticed =
     case (numbers restart) (given ((64, 0) ∷ (128, 0) ∷ []) 1 1)
+    ∷ case (numbers aboveFloor) (given ((128, 0) ∷ (130, 1) ∷ (192, 0) ∷ (193, 2) ∷ []) 3 2)
     ∷ case (rewrite ownStart 64) (rewriting-is (refused 10 0))
     ∷ case (play B′ (0 ∷ []) (0 ∷ 1 ∷ []) (5 ∷ 8 ∷ [])) (played-is (refused 24 1))
     ∷ case (rewrite twoEvents 1) (rewriting-is (result (record { used = 1; chart = twoEvents′ })))

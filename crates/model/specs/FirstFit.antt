@@ -1,13 +1,11 @@
--- Board numbers by first fit, used, floor, and refusal 20 (document 01, "Live, born, family, board number"). Assumes nothing.
+-- Board numbers by first fit, used, and refusal 20 (document 01, "Live, born, family, board number"). Assumes nothing.
 use mathlib.Core.Bool.{Bool, true, false, not, _||_}
 use mathlib.Core.Option.{Option, none, some}
 use mathlib.Core.List.{List, [], _∷_, map}
-use Prim.Native.Nat.{ℕ, max}
+use Prim.Native.Nat.{ℕ}
 use lib.Dec.{eqb}
-use lib.Count.{ones}
 use Rattle.lists.specs.Lists.{memb, lowest, top}
 use Rattle.model.specs.Chart.{Chart}
-use Rattle.model.specs.Live.{liveSets}
 use Rattle.model.specs.Family.{Pairs, Family, has, families, meets, livePairs}
 
 -- a family with the board number that it was given
@@ -50,15 +48,6 @@ allHeld K l = eqb (lowest (λ k. not (memb k l)) K) K
 unfoldable pub blocked : (K : ℕ) → List Placed → Bool
 blocked K [] = false
 blocked K (g ∷ earlier) = allHeld K (held (g .family) earlier) || blocked K earlier
-
--- floor: the count of ones in the fullest of the sets
-unfoldable pub fullest : List ℕ → ℕ
-fullest [] = 0
-fullest (w ∷ ws) = max (ones w) (fullest ws)
-
--- of a chart: its fullest live set
-unfoldable pub floor : Chart → ℕ
-floor c = fullest (liveSets c)
 
 -- the board numbers of a chart
 unfoldable pub board : Chart → List Placed

@@ -7,6 +7,8 @@ pub mod Flow
 pub mod Live
 pub mod Family
 pub mod FirstFit
+pub mod SmallestPlan
+pub mod Floor
 pub mod Rewrite
 pub mod Judge
 pub mod Player
@@ -18,6 +20,7 @@ pub mod Places
 pub mod Chain
 pub mod Placing
 pub mod SharingRule
+pub mod SharingPlan
 pub mod PlayerTerms
 pub mod Comes
 pub mod Examples
