@@ -1,10 +1,10 @@
 -- The fewest timers of the families of a list: a plan has so many, and none has fewer. Hard: the search lists what the families are given, a plan
 -- gives a number to each place; `given` turns the one into the other. Assumes nothing.
-use mathlib.Core.Path.{_≡_, refl, sym, ap, _∙_, subst}
+use mathlib.Core.Path.{_≡_, refl, sym, ap, _∙_}
 use mathlib.Core.Logic.{_⊎_, inl, inr, _↔_}
 use mathlib.Core.Bool.{true, false, not}
 use mathlib.Core.Option.{some, Option·none-ne-some, Option·some-injective}
-use mathlib.Core.List.{List, [], _∷_, map}
+use mathlib.Core.List.{List, [], _∷_}
 use Prim.Native.Nat.{ℕ, zero, suc, _≤_, _<_}
 use native.Mathlib.Nat.{suc-inj}
 use native.Mathlib.Omega.{arith}
@@ -29,20 +29,20 @@ meets-sym g h m =
     any-memb-in (λ q. memb q (g .locations)) (x .0) (h .locations) (x .2) (x .1)
 
 -- f with the number n
-abbrev with : Family → ℕ → Placed
+abbrev pub with : Family → ℕ → Placed
 with f n = record { family = f; number = n }
 
 -- the families with their numbers
-abbrev given : (ℕ → ℕ) → List Family → List Placed
+abbrev pub given : (ℕ → ℕ) → List Family → List Placed
 given f [] = []
 given f (g ∷ fs) = with g (f 0) ∷ given (λ i. f (suc i)) fs
 
-given-nth : (f : ℕ → ℕ) (fs : List Family) (i : ℕ) {g : Family} → getElem? fs i ≡ some g → getElem? (given f fs) i ≡ some (with g (f i))
+pub given-nth : (f : ℕ → ℕ) (fs : List Family) (i : ℕ) {g : Family} → getElem? fs i ≡ some g → getElem? (given f fs) i ≡ some (with g (f i))
 given-nth f [] i e = absurd (Option·none-ne-some _ e)
 given-nth f (x ∷ fs) zero e = ap (λ (g : Family). some (with g (f 0))) (Option·some-injective _ _ e)
 given-nth f (x ∷ fs) (suc i) e = given-nth (λ i. f (suc i)) fs i e
 
-nth-given : (f : ℕ → ℕ) (fs : List Family) (i : ℕ) {p : Placed} → getElem? (given f fs) i ≡ some p
+pub nth-given : (f : ℕ → ℕ) (fs : List Family) (i : ℕ) {p : Placed} → getElem? (given f fs) i ≡ some p
     → (getElem? fs i ≡ some (p .family)) × (p .number ≡ f i)
 nth-given f [] i e = absurd (Option·none-ne-some _ e)
 nth-given f (x ∷ fs) zero e =
