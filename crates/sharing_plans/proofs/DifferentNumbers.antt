@@ -1,16 +1,20 @@
--- A rising list whose entries have different numbers below n is no longer than n. What is hard: the set of the numbers grows with each entry, and it
--- has at most n. Assumes nothing.
+-- A rising list whose entries have different numbers below n is no longer than n, nor than a list that has all of them; and an element stands in it
+-- once. What is hard: the set of the numbers grows with each entry, and it has at most n. Assumes nothing.
 use mathlib.Core.Path.{_≡_, refl, sym, ap, _∙_, subst}
 use mathlib.Core.Logic.{_⊎_, inl, inr}
 use mathlib.Core.Bool.{true}
+use mathlib.Core.Option.{some, Option·none-ne-some, Option·some-injective}
 use mathlib.Core.List.{List, [], _∷_, map}
-use Prim.Native.Nat.{ℕ, suc, _^_, _≤_, _<_}
+use Prim.Native.Nat.{ℕ, zero, suc, _^_, _≤_, _<_}
 use native.Mathlib.Omega.{arith}
 use lib.Count.{ones, ones-le}
-use lib.ListN.{length}
-use Rattle.lists.specs.Lists.{memb}
+use lib.Dec.{eqb}
+use lib.ListN.{length, getElem?}
+use Rattle.lists.specs.Lists.{memb, firstOf}
 use Rattle.lists.specs.Rising.{Rising}
-use Rattle.lists.proofs.Membership.{memb-head, memb-tail, memb-nth, nth-memb, nth-unmap}
+use Rattle.lists.proofs.Bools.{not-both, eqb-self, same-number, lt-or-le}
+use Rattle.lists.proofs.Nth.{below-nth}
+use Rattle.lists.proofs.Membership.{first-passes, first-before, memb-head, memb-tail, memb-nth, nth-memb, nth-unmap}
 use Rattle.lists.proofs.Gather.{rising-below}
 use Rattle.timer_set.specs.Members.{member, setOf}
 use Rattle.timer_set.proofs.Members.{member-setOf, setOf-lt}
@@ -55,3 +59,33 @@ module _ (g : ℕ → ℕ) where
     pub few-numbers : (limit lo : ℕ) (l : List ℕ) → Rising limit lo l → ((j : ℕ) → memb j l ≡ true → g j < n)
         → ((i j : ℕ) → memb i l ≡ true → memb j l ≡ true → g i ≡ g j → i ≡ j) → length l ≤ n
     few-numbers limit lo l r b a = omega (arith, enough limit lo l r b a, ones-le n (setOf (map g l)) (small l b))
+
+-- a rising list whose entries are all in another is no longer
+pub few-members : (limit lo : ℕ) (l m : List ℕ) → Rising limit lo l → ((x : ℕ) → memb x l ≡ true → memb x m ≡ true) → length l ≤ length m
+few-members limit lo l m r within = few-numbers place (length m) limit lo l r (λ x h. inside x (within x h))
+    (λ x y h h′ e. Option·some-injective _ _ (sym (there x (within x h)) ∙ ap (getElem? m) e ∙ there y (within y h′)))
+  where
+    -- the place of x in the other list
+    place : ℕ → ℕ
+    place x = firstOf (eqb x) m
+
+    inside : (x : ℕ) → memb x m ≡ true → place x < length m
+    inside x h = go (memb-nth m x h) (lt-or-le (place x) (length m))
+      where
+        go : (i : ℕ) × (getElem? m i ≡ some x) → (place x < length m) ⊎ (length m ≤ place x) → place x < length m
+        go n (inl b) = b
+        go n (inr b) = absurd (not-both (eqb-self x) (first-before (eqb x) m (n .0) x (omega (arith, below-nth m (n .0) (n .1))) (n .1)))
+
+    there : (x : ℕ) → memb x m ≡ true → getElem? m (place x) ≡ some x
+    there x h = let a = first-passes (eqb x) m (inside x h) in a .1 ∙ ap some (sym (same-number (a .2)))
+
+later : (limit : ℕ) (l : List ℕ) {x y : ℕ} → Rising limit (suc y) l → (i : ℕ) → y ≡ x → getElem? l i ≡ some x → ⊥
+later limit l {x} {y} r i e e′ = omega (arith, rising-below limit (suc y) l r x (nth-memb l i e′) .0)
+
+-- an element stands at one place
+pub rising-once : (limit lo : ℕ) (l : List ℕ) → Rising limit lo l → (i j : ℕ) {x : ℕ} → getElem? l i ≡ some x → getElem? l j ≡ some x → i ≡ j
+rising-once limit lo [] r i j e e′ = absurd (Option·none-ne-some _ e)
+rising-once limit lo (y ∷ l) r zero zero e e′ = refl
+rising-once limit lo (y ∷ l) r zero (suc j) {x} e e′ = absurd (later limit l (r .1) j (Option·some-injective _ _ e) e′)
+rising-once limit lo (y ∷ l) r (suc i) zero {x} e e′ = absurd (later limit l (r .1) i (Option·some-injective _ _ e′) e)
+rising-once limit lo (y ∷ l) r (suc i) (suc j) e e′ = ap suc (rising-once limit (suc y) l (r .1) i j e e′)
