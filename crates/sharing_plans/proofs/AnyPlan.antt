@@ -15,8 +15,8 @@ use Rattle.model.specs.SharingPlan.{SharingPlan}
 use Rattle.model.proofs.Paths.{live-here, live-back, live-unstarted}
 use Rattle.sharing_plans.proofs.Fullest.{plan-different-here}
 
-pub plan-plan : {c : Chart} {N : Numbering} → ((i : ℕ) (r : Transition) → Nth c i r → UnstartedTest c r → ⊥) → SharingPlan c N → Plan c N
-plan-plan {c} {N} started plan = record {
+pub sharing-plan-is-plan : {c : Chart} {N : Numbering} → ((i : ℕ) (r : Transition) → Nth c i r → UnstartedTest c r → ⊥) → SharingPlan c N → Plan c N
+sharing-plan-is-plan {c} {N} started plan = record {
   begins = λ j k e. let u = live-unstarted (plan .live (c .initial) j k e) in started _ (u .transition) (u .is-nth) (u .test);
   reads = λ q j x r. plan .numbered q j (live-here r);
   keeps = λ i r j k n x f e.
