@@ -9,11 +9,11 @@ use Rattle.lists.specs.Lists.{memb, anyOf, firstOf, lowest, gather, upTo, pick,
 use Rattle.model.specs.Run.{grown, restarted, allMet, after, enabled, attempt, steps, begin, outcome, playerTime, accepts}
 use Rattle.model.specs.Flow.{brings, made, round, roundsOf, sameSets, changing, settled}
 use Rattle.model.specs.Live.{startsSet, testsSet, atInitial, liveFlow, unstartedFlow, reachedFlow}
-use Rattle.model.specs.Live.{liveSets, unstartedSets, reachedSets, isEmpty, firstUnreached, firstUnstarted}
+use Rattle.model.specs.Live.{liveSets, fullest, unstartedSets, reachedSets, isEmpty, firstUnreached, firstUnstarted}
 use Rattle.model.specs.Family.{isPair, livePairs, familyNumber, linkFlow, familyOf, familyFrom, families, meets}
 use Rattle.model.specs.FirstFit.{held, free, place, firstFit, usedBy, numberAt, allHeld, blocked, board}
 use Rattle.model.specs.SmallestPlan.{placings, meetingDiffer, planned, fewest}
-use Rattle.model.specs.Floor.{searched, fullest, floor}
+use Rattle.model.specs.Floor.{searched, floor}
 use Rattle.model.specs.Rewrite.{numbering, renamed, newTests, newStarts, newTransition, rewrittenBy}
 use Rattle.model.specs.Judge.{judged, fitted, rewriting}
 use Rattle.model.specs.Player.{arrival, answerOf, tooLarge, countsJudged, stepsOf, played}

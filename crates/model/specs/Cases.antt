@@ -154,7 +154,7 @@ pub record Case : Type 0 where
 unfoldable pub case : Question → Reply → Case
 case q r = record { question = q; reply = r }
 
--- the cases, in the document's order. A set is a word: {0} is 1, {0,1} is 3, {1,2} is 6, {0,2} is 5, {2} is 4
+-- the cases, in the document's order; A's floor is 3 by document 02. A set is a word: {0} is 1, {0,1} is 3, {1,2} is 6, {0,2} is 5, {2} is 4
 unfoldable pub starred : List Case
 starred =
     case (live-sets A) (sets (0 ∷ 1 ∷ 3 ∷ 6 ∷ 5 ∷ 4 ∷ 0 ∷ []))
@@ -170,8 +170,9 @@ starred =
     ∷ case (play B (0 ∷ 0 ∷ []) (0 ∷ 1 ∷ []) (5 ∷ 8 ∷ [])) (played-is (refused 24 1))
     ∷ []
 
--- what "goes wrong unnoticed", beside the cases above: a timer started anew begins a family of its own; a start on the same transition does not
--- come before its test, neither where it is judged nor where it is played; and an event is kept, which is 0 in all charts above
+-- what "goes wrong unnoticed", beside the cases above: a timer started anew begins a family of its own; first fit's used is not the floor; a start
+-- on the same transition does not come before its test, neither where it is judged nor where it is played; and an event is kept, which is 0 in all
+-- charts above
 unfoldable pub unnoticed : List Case
 unnoticed =
     case (numbers restart) (given ((64, 0) ∷ (128, 0) ∷ []) 1 1)

@@ -1,12 +1,10 @@
 -- The floor of a chart (document 01, "Live, born, family, board number"; document 02, P1). Assumes nothing.
 use mathlib.Core.Bool.{Bool, true, false}
-use mathlib.Core.List.{List, [], _∷_}
-use Prim.Native.Nat.{ℕ, max}
-use lib.Count.{ones}
+use Prim.Native.Nat.{ℕ}
 use lib.Dec.{leb}
 use lib.ListN.{length}
 use Rattle.model.specs.Chart.{Chart}
-use Rattle.model.specs.Live.{liveSets}
+use Rattle.model.specs.Live.{liveSets, fullest}
 use Rattle.model.specs.Family.{families, livePairs}
 use Rattle.model.specs.SmallestPlan.{fewest}
 
@@ -14,14 +12,9 @@ use Rattle.model.specs.SmallestPlan.{fewest}
 abbrev pub mostFamilies : ℕ
 mostFamilies = 20
 
--- the chart has no more
+-- whether the chart has no more
 unfoldable pub searched : Chart → Bool
 searched c = leb (length (families (livePairs c))) mostFamilies
-
--- the count of ones in the fullest of the sets
-unfoldable pub fullest : List ℕ → ℕ
-fullest [] = 0
-fullest (w ∷ ws) = max (ones w) (fullest ws)
 
 -- floor: the fewest timers of any plan; with more families the fullest live set, which the program calls `seen`
 unfoldable pub floor : Chart → ℕ

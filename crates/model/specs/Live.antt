@@ -1,8 +1,9 @@
 -- Live timers, reached locations and unstarted tests, computed by rounds of sets. What they mean by paths is in `Path`; that both agree is
 -- shown in proofs/. Assumes nothing.
 use mathlib.Core.Bool.{Bool, true, false, not}
-use mathlib.Core.List.{List, map}
-use Prim.Native.Nat.{ℕ}
+use mathlib.Core.List.{List, [], _∷_, map}
+use Prim.Native.Nat.{ℕ, max}
+use lib.Count.{ones}
 use lib.Dec.{eqb}
 use lib.ListN.{getD}
 use Rattle.timer_set.specs.Members.{member, common, everyTimer, setOf}
@@ -53,6 +54,11 @@ reachedFlow c = record {
 -- the live set of each location
 unfoldable pub liveSets : Chart → List ℕ
 liveSets c = settled (liveFlow c)
+
+-- the count of ones in the fullest of the sets
+unfoldable pub fullest : List ℕ → ℕ
+fullest [] = 0
+fullest (w ∷ ws) = max (ones w) (fullest ws)
 
 -- of each location the timers that some path to it starts nowhere
 unfoldable pub unstartedSets : Chart → List ℕ

@@ -10,12 +10,12 @@ use lib.ListN.{length, getD}
 use Rattle.lists.proofs.Bools.{yes-or-no}
 use Rattle.model.specs.Chart.{Chart}
 use Rattle.model.specs.Valid.{Valid}
-use Rattle.model.specs.Live.{liveFlow, liveSets}
+use Rattle.model.specs.Live.{liveFlow, liveSets, fullest}
 use Rattle.model.specs.Family.{families, livePairs}
 use Rattle.model.specs.FirstFit.{board, used}
 use Rattle.model.specs.Rewrite.{numbering}
 use Rattle.model.specs.SmallestPlan.{fewest}
-use Rattle.model.specs.Floor.{searched, fullest, floor}
+use Rattle.model.specs.Floor.{searched, floor}
 use Rattle.model.specs.SharingPlan.{FewestTimers}
 use Rattle.model.proofs.Settled.{length-settled}
 use Rattle.sharing_plans.proofs.ChartPlans.{fewest-timers, first-fit-plan}

@@ -16,8 +16,7 @@ use Rattle.timer_set.proofs.Members.{memb-members, members-rising}
 use Rattle.timer_set.proofs.Counts.{ones-members}
 use Rattle.model.specs.Chart.{Chart}
 use Rattle.model.specs.Valid.{Valid}
-use Rattle.model.specs.Live.{live, liveFlow, liveSets}
-use Rattle.model.specs.Floor.{fullest}
+use Rattle.model.specs.Live.{live, liveFlow, liveSets, fullest}
 use Rattle.model.specs.Rewrite.{Numbering}
 use Rattle.model.specs.Plan.{Has}
 use Rattle.model.specs.SharingRule.{SameFamily}
