@@ -11,7 +11,7 @@ use Rattle.model.specs.FirstFit.{place, firstFit}
 use Rattle.allocation.specs.Turns.{familiesTo}
 
 module _ {p : Pairs} (formed : WellFormed p) where
-  all-families : familiesTo p (64 * p .locations) ≡ families p
+  pub all-families : familiesTo p (64 * p .locations) ≡ families p
   unfolding familiesTo families familyFrom
   all-families =
       gather-rows (familyFrom p) (p .locations)

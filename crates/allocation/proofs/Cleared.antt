@@ -14,15 +14,17 @@ use Rattle.chart_lists.specs.Limits.{mostLocations}
 pub front-length : (m : ℕ) → m ≤ mostLocations → length {A = ℕ} (take m (replicate mostLocations 0)) ≡ m
 front-length m h = length-take-le m (replicate {A = ℕ} mostLocations 0) (omega (arith, length-replicate {A = ℕ} mostLocations 0))
 
-pub fresh : (live cells : List ℕ) → length live ≤ mostLocations → length cells ≡ 64 * length live
-    → ((x : ℕ) → x < 64 * length live → getD cells x 0 ≡ noNumber)
-    → Fresh live (take (length live) (replicate mostLocations 0)) (take (length live) (replicate mostLocations 0)) cells (replicate heldLength 0)
-fresh live cells few long unnumbered = record {
+pub fresh : (live cells at : List ℕ) → length live ≤ mostLocations → length cells ≡ 64 * length live
+    → ((x : ℕ) → x < 64 * length live → getD cells x 0 ≡ noNumber) → length at ≡ length live → ((s : ℕ) → getD at s 0 ≡ 0)
+    → Fresh live (take (length live) (replicate mostLocations 0)) (take (length live) (replicate mostLocations 0)) cells (replicate heldLength 0) at
+fresh live cells at few long unnumbered at-long none-at = record {
   sets-long = front-length (length live) few;
   placed-long = front-length (length live) few;
   cells-long = long;
   held-long = length-replicate {A = ℕ} heldLength 0;
+  at-long = at-long;
   none-placed = λ s. rw (take-zeros (length live) mostLocations few) (getD-zeros (length live) s);
   none-held = getD-zeros heldLength;
+  none-at = none-at;
   none-numbered = unnumbered;
 }

@@ -3,6 +3,7 @@ pub mod CellList
 pub mod Rows
 pub mod Filling
 pub mod Words
+pub mod FamiliesAt
 pub mod Placing
 pub mod AllFamilies
 pub mod InTurn

@@ -85,13 +85,17 @@ module _ {p : Pairs} {live ones others linked : List ℕ} (d : Described p live 
     no-root : (j : ℕ) → member roots j ≡ false
     no-root j = ap (λ (w : ℕ). member w j) empty ∙ member-empty j
 
-    pub numbered-skip : (cells : List ℕ) (used : ℕ) → NumberedTo p (64 * q) cells used → NumberedTo p (64 * (q + 1)) cells used
-    numbered-skip cells used n = subst (λ (x : ℕ). NumberedTo p x cells used) (omega arith) (go 64 (omega arith))
+    pub numbered-skip : (cells at : List ℕ) (used count : ℕ) → NumberedTo p (64 * q) cells at used count
+        → NumberedTo p (64 * (q + 1)) cells at used count
+    numbered-skip cells at used count n = subst To (omega arith) (go 64 (omega arith))
       where
-        go : (i : ℕ) → i ≤ 64 → NumberedTo p (64 * q + i) cells used
-        go zero h = subst (λ (x : ℕ). NumberedTo p x cells used) (omega arith) n
-        go (suc i) h = subst (λ (x : ℕ). NumberedTo p x cells used) (omega arith)
-            (numbered-no formed (64 * q + i) cells used (go i (omega arith)) (sym (root-same i (omega arith)) ∙ no-root i))
+        To : ℕ → Type 0
+        To x = NumberedTo p x cells at used count
+
+        go : (i : ℕ) → i ≤ 64 → To (64 * q + i)
+        go zero h = subst To (omega arith) n
+        go (suc i) h = subst To (omega arith)
+            (numbered-no formed (64 * q + i) cells at used count (go i (omega arith)) (sym (root-same i (omega arith)) ∙ no-root i))
 
     pub placed-skip : PlacedTo p (q + 1) placed
     placed-skip = record {
@@ -132,9 +136,10 @@ module _ {p : Pairs} {live ones others linked : List ℕ} (d : Described p live 
             go (inl l) = l
             go (inr l) = absurd (not-both t (ap (λ (w : ℕ). member w j) (rest s l) ∙ member-empty j))
 
-    root-unnumbered : (cells : List ℕ) (used : ℕ) → NumberedTo p (64 * q) cells used → (j : ℕ) → member roots j ≡ true → Unnumbered sets j cells
+    root-unnumbered : {cells at : List ℕ} {used count : ℕ} → NumberedTo p (64 * q) cells at used count → (j : ℕ) → member roots j ≡ true
+        → Unnumbered sets j cells
     unfolding Unnumbered numbering
-    root-unnumbered cells used n j m s h t =
+    root-unnumbered n j m s h t =
         let few = root-few j m in
         let b = root-first j m in
         let r : (64 * q + j) % 64 ≡ j = omega arith in
@@ -143,11 +148,11 @@ module _ {p : Pairs} {live ones others linked : List ℕ} (d : Described p live 
         ap (λ (l : List ℕ). getD l (64 * s + j) 0) (n .cells-are) ∙ cells-at _ (p .locations) s j (omega (arith, d .locations-are)) few
         ∙ ap cell (rw r at (not-yet formed (64 * q) (64 * q + j) (omega arith) (root-here j few (b .0) (b .1)) s (rw (v, r) in-it)))
 
-    pub roots-ready : (cells held : List ℕ) (used end : ℕ) → NumberedTo p (64 * q) cells used → Lengths sets cells held
-        → WordsAgree cells held (length sets) → EmptyFrom end sets → Ready sets roots q end cells held
-    roots-ready cells held used end n lengths words-agree e =
+    pub roots-ready : (cells held : List ℕ) (end : ℕ) {at : List ℕ} {used count : ℕ} → NumberedTo p (64 * q) cells at used count
+        → Lengths sets cells held → WordsAgree cells held (length sets) → EmptyFrom end sets → Ready sets roots q end cells held
+    roots-ready cells held end n lengths words-agree e =
         let within = root-within end (e .inside) (e .empty) in
-        record { lengths = lengths; words-agree = words-agree; within = within; unnumbered = root-unnumbered cells used n }
+        record { lengths = lengths; words-agree = words-agree; within = within; unnumbered = root-unnumbered n }
 
     pub placed-more : (after : List ℕ) → length after ≡ length live
         → ((s : ℕ) → s < length sets → getD after s 0 ≡ joined (getD placed s 0) (getD sets s 0)) → PlacedTo p (q + 1) after

@@ -3,12 +3,12 @@
 use mathlib.Core.Path.{_≡_, refl, sym, ap, ap₂, _∙_, subst}
 use mathlib.Core.Bool.{Bool, true, false, not, _&&_}
 use mathlib.Core.Option.{Option, none, some, Option·none-ne-some, Option·some-injective}
-use mathlib.Core.List.{List, [], _∷_}
+use mathlib.Core.List.{List, [], _∷_, _++_, append-nil}
 use Prim.Native.Nat.{ℕ, zero, suc, _+_, _*_, _/_, _%_, _≤_, _<_, max}
 use native.Mathlib.Numerals.{add-one}
 use native.Mathlib.Omega.{arith}
 use lib.Dec.{eqb}
-use lib.ListN.{length, getD, getElem?}
+use lib.ListN.{length, getD, getElem?, length-append}
 use borrow.Author.Tests.{eq-eqb}
 use Rattle.lists.specs.Lists.{memb, gather, lowest, top}
 use Rattle.lists.proofs.Bools.{same-bool, same-number, not-both, is-no, and-left, and-right, and-both}
@@ -22,15 +22,22 @@ use Rattle.model.proofs.Families.{family-timer, family-has, family-same}
 use Rattle.model.proofs.FirstFit.{free-not-held, free-least, held-in, held-out}
 use Rattle.model.proofs.NumberAt.{has, has-timer, has-location, has-pair, number-out}
 use Rattle.allocation.specs.Cells.{cell, cellsOf, noNumber, mostCells}
-use Rattle.allocation.specs.Rows.{inFamily, inRow, taken, changed, given}
+use Rattle.allocation.specs.Rows.{inFamily, inRow, taken, changed, given, marked}
 use Rattle.allocation.specs.Turns.{isRoot, familiesTo, NumberedTo, placedBelow}
 use Rattle.allocation.proofs.Below.{below-in, below-out, some-in, some-out}
+use Rattle.timer_set.specs.Members.{member}
+use Rattle.allocation.proofs.FamiliesAt.{at-none, at-more}
 use Rattle.allocation.proofs.CellList.{cells-at, cells-is, cells-none, cell-some, used-more, free-used, place-append}
 
-pub numbered-none : (p : Pairs) (cells : List ℕ) → length cells ≡ 64 * p .locations → ((x : ℕ) → x < 64 * p .locations → getD cells x 0 ≡ noNumber)
-    → NumberedTo p 0 cells 0
+pub numbered-none : (p : Pairs) (cells at : List ℕ) → length cells ≡ 64 * p .locations
+    → ((x : ℕ) → x < 64 * p .locations → getD cells x 0 ≡ noNumber) → ((s : ℕ) → getD at s 0 ≡ 0) → NumberedTo p 0 cells at 0 0
 unfolding familiesTo gather place usedBy top
-numbered-none p cells long clear = record { cells-are = cells-none (p .locations) cells long clear; used-is = refl }
+numbered-none p cells at long clear empty = record {
+  cells-are = cells-none (p .locations) cells long clear;
+  used-is = refl;
+  count-is = refl;
+  at-are = at-none empty;
+}
 
 module _ {p : Pairs} (formed : WellFormed p) where
   -- the families of the pairs below x, placed
@@ -60,13 +67,29 @@ module _ {p : Pairs} (formed : WellFormed p) where
       go true b = rw (is-no (eqb (familyOn x .first) (x / 64)) (λ h. not-both (and-both b h) e)) refl
       go false b = refl
 
+  families-yes : (x : ℕ) → isRoot p x ≡ true → familiesTo p (suc x) ≡ familiesTo p x ++ (familyOn x ∷ [])
+  unfolding familiesTo gather
+  families-yes x e = ap (λ (l : List Family). familiesTo p x ++ l) (family-yes x e)
+
+  families-no : (x : ℕ) → isRoot p x ≡ false → familiesTo p (suc x) ≡ familiesTo p x
+  unfolding familiesTo gather
+  families-no x e = ap (λ (l : List Family). familiesTo p x ++ l) (family-no x e) ∙ append-nil (familiesTo p x)
+
+  -- at most one at each pair
+  pub families-few : (x : ℕ) → length (familiesTo p x) ≤ x
+  families-few zero = unfold familiesTo gather in omega arith
+  families-few (suc x) = go (isRoot p x) refl (families-few x)
+    where
+      go : (b : Bool) → isRoot p x ≡ b → length (familiesTo p x) ≤ x → length (familiesTo p (suc x)) ≤ suc x
+      go true e h = rw (families-yes x e, length-append) (omega arith)
+      go false e h = rw (families-no x e) (omega arith)
+
   step-yes : (x : ℕ) → isRoot p x ≡ true → placedTo (suc x) ≡ next x ∷ placedTo x
-  unfolding familiesTo gather place
-  step-yes x e = place-append (familiesTo p x) (familyFrom p (x / 64) (x % 64)) [] ∙ rw (family-yes x e) refl
+  unfolding place
+  step-yes x e = ap (λ (fs : List Family). place fs []) (families-yes x e) ∙ place-append (familiesTo p x) (familyOn x ∷ []) []
 
   step-no : (x : ℕ) → isRoot p x ≡ false → placedTo (suc x) ≡ placedTo x
-  unfolding familiesTo gather place
-  step-no x e = place-append (familiesTo p x) (familyFrom p (x / 64) (x % 64)) [] ∙ rw (family-no x e) refl
+  step-no x e = ap (λ (fs : List Family). place fs []) (families-no x e)
 
   -- what every step keeps, all of them keep
   steps : (P : ℕ → List Placed → Type 0) → P 0 (placedTo 0) → ((x : ℕ) → isRoot p x ≡ true → P x (placedTo x) → P (suc x) (next x ∷ placedTo x))
@@ -217,7 +240,7 @@ module _ {p : Pairs} (formed : WellFormed p) where
     on : familyOn x ≡ family
     on = let d : x / 64 ≡ q = omega arith in let r : x % 64 ≡ j = omega arith in rw (d, r) refl
 
-    module _ (cells : List ℕ) (used : ℕ) (so : NumberedTo p x cells used) (few : x ≤ mostCells) where
+    module _ (cells at : List ℕ) (used count : ℕ) (so : NumberedTo p x cells at used count) (few : x ≤ mostCells) where
       number-is : lowest (λ k. not (taken sets cells j k)) mostCells ≡ next x .number
       number-is =
           let l = held family (placedTo x) in
@@ -254,11 +277,21 @@ module _ {p : Pairs} (formed : WellFormed p) where
                 pick-cell (eqb j i && inFamily sets j s) s i h k
                 ∙ ap (λ (b : Bool). cell (elim b [ true ↦ some (next x .number) | false ↦ numberAt (placedTo x) s i ])) (has-here s i)
 
-        pub numbered-yes : isRoot p x ≡ true → NumberedTo p (x + 1) after (max used (number + 1))
-        numbered-yes e = rw add-one (record {
+        pub numbered-yes : isRoot p x ≡ true → length at ≡ length sets → (words : List ℕ) → length words ≡ length sets
+            → ((s i : ℕ) → s < length sets → i < 64 → member (getD words s 0) i ≡ marked sets j count at s i)
+            → NumberedTo p (x + 1) after words (max used (number + 1)) (count + 1)
+        numbered-yes e at-long words words-long marks = rw add-one (record {
           cells-are = rw (step-yes x e) given-cells;
           used-is = rw (step-yes x e, used-more) (omega (arith, so .used-is, is ∙ number-is));
+          count-is = rw (families-yes x e, length-append) (omega (arith, so .count-is));
+          at-are = rw (families-yes x e, on) (at-more (so .at-are) sets at-long family j its (so .count-is) words words-long marks);
         })
 
-  pub numbered-no : (x : ℕ) (cells : List ℕ) (used : ℕ) → NumberedTo p x cells used → isRoot p x ≡ false → NumberedTo p (x + 1) cells used
-  numbered-no x cells used so e = rw add-one (record { cells-are = rw (step-no x e) (so .cells-are); used-is = rw (step-no x e) (so .used-is) })
+  pub numbered-no : (x : ℕ) (cells at : List ℕ) (used count : ℕ) → NumberedTo p x cells at used count → isRoot p x ≡ false
+      → NumberedTo p (x + 1) cells at used count
+  numbered-no x cells at used count so e = rw add-one (record {
+    cells-are = rw (step-no x e) (so .cells-are);
+    used-is = rw (step-no x e) (so .used-is);
+    count-is = rw (families-no x e) (so .count-is);
+    at-are = rw (families-no x e) (so .at-are);
+  })

@@ -1,3 +1,4 @@
 pub mod Cells
+pub mod FamiliesAt
 pub mod Rows
 pub mod Turns

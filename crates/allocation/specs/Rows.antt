@@ -66,6 +66,10 @@ given sets j number = changed cellPlace sets j j (λ _. number)
 unfoldable pub holding : (sets : List ℕ) → (j w x : ℕ) → (before : List ℕ) → (s v : ℕ) → ℕ
 holding sets j w x = changed wordPlace sets j w (λ word. added word x)
 
+-- i is in the word of location s once the family of timer j is marked with its place
+unfoldable pub marked : (sets : List ℕ) → (j place : ℕ) → (before : List ℕ) → (s i : ℕ) → Bool
+marked sets j place before s i = member (getD before s 0) i || (eqb i place && inFamily sets j s)
+
 -- what the code asks for its safety
 pub record Lengths (sets cells held : List ℕ) : Type 0 where
   pub few-locations : length sets ≤ mostLocations

@@ -12,6 +12,7 @@ use Rattle.model.specs.FirstFit.{Placed, place, usedBy}
 use Rattle.model.specs.Rewrite.{numbering}
 use Rattle.families.specs.Propagation.{LinkLists}
 use Rattle.allocation.specs.Cells.{noNumber, cellsOf}
+use Rattle.allocation.specs.FamiliesAt.{FamiliesAt}
 use Rattle.allocation.specs.Rows.{inFamily, heldLength}
 
 -- ---- the families in turn
@@ -28,10 +29,12 @@ familiesTo p x = gather (λ y. familyFrom p (y / 64) (y % 64)) x
 abbrev pub placedBelow : Pairs → ℕ → List Placed
 placedBelow p x = place (familiesTo p x) []
 
--- the families that begin below x have their numbers
-pub record NumberedTo (p : Pairs) (x : ℕ) (cells : List ℕ) (used : ℕ) : Type 0 where
+-- the families that begin below x have their numbers, and are counted and marked at their locations
+pub record NumberedTo (p : Pairs) (x : ℕ) (cells at : List ℕ) (used count : ℕ) : Type 0 where
   pub cells-are : cells ≡ cellsOf (numbering (placedBelow p x)) (p .locations)
   pub used-is : used ≡ usedBy (placedBelow p x)
+  pub count-is : count ≡ length (familiesTo p x)
+  pub at-are : FamiliesAt (familiesTo p x) at
 
 -- the timers whose families begin at location q, and at each location those whose family has it
 pub record Roots (p : Pairs) (q roots : ℕ) (sets : List ℕ) : Type 0 where
@@ -56,11 +59,13 @@ pub record PlacedTo (p : Pairs) (q : ℕ) (placed : List ℕ) : Type 0 where
   pub only : (s j : ℕ) → member (getD placed s 0) j ≡ true → (isPair p s j ≡ true) × (familyOf p s j .first < q)
 
 -- what the loop over the locations begins with
-pub record Fresh (live sets placed cells held : List ℕ) : Type 0 where
+pub record Fresh (live sets placed cells held at : List ℕ) : Type 0 where
   pub sets-long : length sets ≡ length live
   pub placed-long : length placed ≡ length live
   pub cells-long : length cells ≡ 64 * length live
   pub held-long : length held ≡ heldLength
+  pub at-long : length at ≡ length live
   pub none-placed : (s : ℕ) → getD placed s 0 ≡ 0
   pub none-held : (x : ℕ) → getD held x 0 ≡ 0
+  pub none-at : (s : ℕ) → getD at s 0 ≡ 0
   pub none-numbered : (x : ℕ) → x < 64 * length live → getD cells x 0 ≡ noNumber

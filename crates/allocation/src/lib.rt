@@ -1,4 +1,4 @@
-// Board numbers by first fit over families.
+// Board numbers by first fit over families, and which of the first 64 families contain each location.
 mod free;
 mod place;
 
@@ -6,12 +6,13 @@ ghost use mathlib.Core.Path.{_≡_};
 ghost use Prim.Native.Nat.{ℕ, _*_, _<_};
 ghost use lib.ListN.{length, getD};
 ghost use Rattle.timer_set.specs.Members.{joined};
-ghost use Rattle.model.specs.Family.{Pairs};
+ghost use Rattle.model.specs.Family.{Pairs, families as Family·families};
 ghost use Rattle.model.specs.FirstFit.{firstFit, usedBy};
 ghost use Rattle.model.specs.Rewrite.{numbering};
 ghost use Rattle.families.specs.Pairs.{pairsOf, SafeTransitions};
 ghost use Rattle.families.specs.Propagation.{Ends, EmptyFrom};
 ghost use Rattle.allocation.specs.Cells.{cellsOf, noNumber};
+ghost use Rattle.allocation.specs.FamiliesAt.{FamiliesAt};
 ghost use Rattle.allocation.specs.Turns.{NumberedTo, Described, Fresh};
 use place::place_roots;
 use timer_set::TimerSet;
@@ -28,6 +29,12 @@ const HELD_WORDS: u16 = 8;
 const HELD_NUMBERS: u16 = HELD_WORDS * 64;
 
 const HELD_LENGTH: usize = chart_lists::MOST_LOCATIONS * HELD_WORDS as usize;
+
+// How many numbers are used, and how many families there are.
+pub struct Allocated {
+    pub used: u32,
+    pub families: u32,
+}
 
 // Each set of `all` with the timers of the same one of `sets`, which are empty from `end` on.
 fn join_sets(sets: &[u64], end: usize, all: &mut [u64])
@@ -55,7 +62,8 @@ fn clear(cells: &mut [u16])
     }
 }
 
-// The locations in turn: the timers whose families begin there propagate at once, and then these families are placed. How many numbers are used.
+// The locations in turn: the timers whose families begin there propagate at once, and then these families are placed and marked.
+// How many numbers are used, and how many families there are.
 fn number_locations<'a>(
     ones: &'a [u16],
     others: &'a [u16],
@@ -65,14 +73,19 @@ fn number_locations<'a>(
     placed: &mut [u64],
     cells: &mut [u16],
     held: &mut [u64],
-) -> u32
+    families_at: &mut [u64],
+) -> Allocated
     requires { ⌜ ((p : Pairs) × Described p (now live) (now ones) (now others) (now linked))
-        × Ends (length (now live)) (now ones) (now others) (now linked) × Fresh (now live) (now sets) (now placed) (now cells) (now held) ⌝ }
+        × Ends (length (now live)) (now ones) (now others) (now linked)
+        × Fresh (now live) (now sets) (now placed) (now cells) (now held) (now «families_at») ⌝ }
     ensures { λ r. ⌜ ((p : Pairs) → Described p (now (live .entry)) (now (ones .entry)) (now (others .entry)) (now (linked .entry))
-        → NumberedTo p (64 * length (now (live .entry))) (now (cells .exit)) r) ⌝ }
+        → NumberedTo p (64 * length (now (live .entry))) (now (cells .exit)) (now («families_at» .exit)) (r .used) (r .families)) ⌝ }
 {
     let n = live.len();
-    let mut used: u32 = 0;
+    let mut counts = Allocated {
+        used: 0,
+        families: 0,
+    };
     let mut q: usize = 0;
     while q < n {
         let here = q;
@@ -82,14 +95,15 @@ fn number_locations<'a>(
         q += 1;
         if !roots.is_empty() {
             let end = families::propagate(ones, others, linked, here, roots, sets);
-            used = place_roots(sets, roots, here, end, cells, held, used);
+            counts = place_roots(sets, roots, here, end, cells, held, families_at, counts);
             join_sets(sets, end, placed);
         }
     }
-    used
+    counts
 }
 
-// The board number of each pair (q, j), at 64 q + j, and how many numbers are used.
+// The board number of each pair (q, j), at 64 q + j, and of each location, which of the first 64 families contain it, by their places in the order
+// of families. How many numbers are used, and how many families there are.
 pub fn allocate<'a>(
     sources: &'a [u16],
     targets: &'a [u16],
@@ -97,13 +111,20 @@ pub fn allocate<'a>(
     live: &'a [u64],
     timers: u8,
     cells: &mut [u16],
-) -> u32
-    requires { ⌜ SafeTransitions (now sources) (now targets) (now starts) (now live) timers × (length (now cells) ≡ 64 * length (now live)) ⌝ }
+    families_at: &mut [u64],
+) -> Allocated
+    requires { ⌜ SafeTransitions (now sources) (now targets) (now starts) (now live) timers × (length (now cells) ≡ 64 * length (now live))
+        × (length (now «families_at») ≡ length (now live)) ⌝ }
     ensures cells { λ _. ⌜ now (cells .exit)
         ≡ cellsOf (numbering (firstFit (pairsOf (now (sources .entry)) (now (targets .entry)) (now (starts .entry)) (now (live .entry)) timers)))
         (length (now (live .entry))) ⌝ }
-    ensures used { λ r. ⌜ r
+    ensures used { λ r. ⌜ r .used
         ≡ usedBy (firstFit (pairsOf (now (sources .entry)) (now (targets .entry)) (now (starts .entry)) (now (live .entry)) timers)) ⌝ }
+    ensures families { λ r. ⌜ r .families
+        ≡ length (Family·families (pairsOf (now (sources .entry)) (now (targets .entry)) (now (starts .entry)) (now (live .entry)) timers)) ⌝ }
+    ensures at { λ _. ⌜ FamiliesAt
+        (Family·families (pairsOf (now (sources .entry)) (now (targets .entry)) (now (starts .entry)) (now (live .entry)) timers))
+        (now («families_at» .exit)) ⌝ }
 {
     let mut ones = [0u16; chart_lists::MOST_TRANSITIONS];
     let mut others = [0u16; chart_lists::MOST_TRANSITIONS];
@@ -119,6 +140,7 @@ pub fn allocate<'a>(
         &mut linked,
     );
     clear(cells);
+    families::clear(families_at);
     let n = live.len();
     let mut sets = [0u64; chart_lists::MOST_LOCATIONS];
     let mut placed = [0u64; chart_lists::MOST_LOCATIONS];
@@ -132,5 +154,6 @@ pub fn allocate<'a>(
         &mut placed[..n],
         cells,
         &mut held,
+        families_at,
     )
 }

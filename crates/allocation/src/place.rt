@@ -1,15 +1,17 @@
-// Gives families their numbers: in the rows of cells of their locations, and in the words of held numbers.
+// Gives families their numbers: in the rows of cells of their locations, and in the words of held numbers. Marks the first 64 there by their places.
 ghost use mathlib.Core.Path.{_≡_};
 ghost use mathlib.Core.Bool.{not};
 ghost use Prim.Native.Nat.{ℕ, _+_, _*_, _≤_, _<_, max};
 ghost use lib.ListN.{length, getD};
 ghost use Rattle.lists.specs.Lists.{lowest};
+ghost use Rattle.timer_set.specs.Members.{member};
 ghost use Rattle.model.specs.Family.{Pairs};
 ghost use Rattle.chart_lists.specs.Limits.{mostLocations};
 ghost use Rattle.allocation.specs.Cells.{mostCells};
-ghost use Rattle.allocation.specs.Rows.{heldWords, heldLength};
-ghost use Rattle.allocation.specs.Rows.{Lengths, WordsAgree, Within, Unnumbered, Ready, taken, given, holding};
+ghost use Rattle.allocation.specs.Rows.{heldWords};
+ghost use Rattle.allocation.specs.Rows.{Lengths, WordsAgree, Within, Unnumbered, Ready, taken, given, holding, marked};
 ghost use Rattle.allocation.specs.Turns.{NumberedTo, Roots};
+use crate::Allocated;
 use crate::free::lowest_free;
 use timer_set::TimerSet;
 
@@ -36,12 +38,12 @@ fn give(sets: &[u64], from: usize, end: usize, j: u8, number: u16, cells: &mut [
     }
 }
 
-// Adds x to word w of the numbers held at each location of the family.
-fn hold(sets: &[u64], from: usize, end: usize, j: u8, w: usize, x: u8, held: &mut [u64])
-    requires { ⌜ (w < heldWords) × (x < 64) × (length (now sets) ≤ mostLocations) × (length (now held) ≡ heldLength)
+// Adds x to word w of each location of the family: of the numbers held, or of the families there, which take one word.
+fn hold(sets: &[u64], from: usize, end: usize, j: u8, w: usize, x: u8, words: &mut [u64])
+    requires { ⌜ (w < heldWords) × (x < 64) × (length (now sets) ≤ mostLocations) × (mostLocations * w + length (now sets) ≤ length (now words))
         × Within (now sets) j from end ⌝ }
     ensures { λ _. ⌜ ((s v : ℕ) → s < length (now (sets .entry)) → v < heldWords
-        → getD (now (held .exit)) (mostLocations * v + s) 0 ≡ holding (now (sets .entry)) j w x (now (held .entry)) s v) ⌝ }
+        → getD (now (words .exit)) (mostLocations * v + s) 0 ≡ holding (now (sets .entry)) j w x (now (words .entry)) s v) ⌝ }
 {
     let mut s = from;
     while s < end {
@@ -49,8 +51,19 @@ fn hold(sets: &[u64], from: usize, end: usize, j: u8, w: usize, x: u8, held: &mu
         let at = chart_lists::MOST_LOCATIONS * w + s;
         s += 1;
         if family.has(j) {
-            held[at] = TimerSet { bits: held[at] }.with(x).bits;
+            words[at] = TimerSet { bits: words[at] }.with(x).bits;
         }
+    }
+}
+
+// Marks the family of timer j at its locations as the one of this place in the order of families, where it is one of the first 64.
+fn mark(sets: &[u64], from: usize, end: usize, j: u8, place: u32, families_at: &mut [u64])
+    requires { ⌜ (length (now sets) ≤ mostLocations) × (length (now «families_at») ≡ length (now sets)) × Within (now sets) j from end ⌝ }
+    ensures { λ _. ⌜ ((s i : ℕ) → s < length (now (sets .entry)) → i < 64
+        → member (getD (now («families_at» .exit)) s 0) i ≡ marked (now (sets .entry)) j place (now («families_at» .entry)) s i) ⌝ }
+{
+    if place < 64 {
+        hold(sets, from, end, j, 0, place as u8, families_at);
     }
 }
 
@@ -86,7 +99,7 @@ fn place_family(
     number
 }
 
-// Places the families of the set's timers, rising. How many numbers are used by then.
+// Places the families of the set's timers, rising, and marks them. How many numbers are used by then, and how many families there are.
 pub fn place_roots(
     sets: &[u64],
     roots: TimerSet,
@@ -94,22 +107,31 @@ pub fn place_roots(
     end: usize,
     cells: &mut [u16],
     held: &mut [u64],
-    used: u32,
-) -> u32
-    requires { ⌜ Ready (now sets) (roots .bits) from end (now cells) (now held) ⌝ }
+    families_at: &mut [u64],
+    counts: Allocated,
+) -> Allocated
+    requires { ⌜ Ready (now sets) (roots .bits) from end (now cells) (now held) × (length (now «families_at») ≡ length (now sets))
+        × (counts .families ≤ mostCells) ⌝ }
     ensures held { λ _. ⌜ WordsAgree (now (cells .exit)) (now (held .exit)) (length (now (sets .entry))) ⌝ }
     ensures numbered { λ r. ⌜ ((p : Pairs) (q : ℕ) → Roots p q (roots .bits) (now (sets .entry))
-        → NumberedTo p (64 * q) (now (cells .entry)) used → NumberedTo p (64 * q + 64) (now (cells .exit)) r) ⌝ }
+        → NumberedTo p (64 * q) (now (cells .entry)) (now («families_at» .entry)) (counts .used) (counts .families)
+        → NumberedTo p (64 * q + 64) (now (cells .exit)) (now («families_at» .exit)) (r .used) (r .families)) ⌝ }
 {
-    let mut most = used;
+    let mut most = counts.used;
+    let mut count = counts.families;
     let mut j: u8 = 0;
     while j < 64 {
         let here = j;
         j += 1;
         if roots.has(here) {
             let number = place_family(sets, from, end, here, cells, held);
+            mark(sets, from, end, here, count, families_at);
             most = larger(most, number as u32 + 1);
+            count += 1;
         }
     }
-    most
+    Allocated {
+        used: most,
+        families: count,
+    }
 }

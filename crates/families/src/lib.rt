@@ -143,7 +143,7 @@ fn sweep<'a>(
 }
 
 // No timer anywhere.
-fn clear(sets: &mut [u64])
+pub fn clear(sets: &mut [u64])
     ensures { λ _. ⌜ ((s : ℕ) → getD (now (sets .exit)) s 0 ≡ 0) ⌝ }
 {
     let n = sets.len();

@@ -1,36 +1,40 @@
 -- `allocate` meets its contract: the links, cleared arrays, and then the locations in turn. What is hard is only which part of which array is lent.
 -- Assumes nothing.
 use borrow.Author.Needs.{needs}
-use mathlib.Core.Path.{refl, sym, ap, _∙_}
+use mathlib.Core.Path.{refl, sym, ap, _∙_, subst}
 use mathlib.Core.List.{List}
 use Prim.Native.Nat.{_≤_}
 use native.Mathlib.Omega.{arith}
 use lib.ListN.{length, take}
 use lib.Seq.{length-take-le}
-use Rattle.model.specs.Family.{Pairs}
+use Rattle.model.specs.Family.{Pairs, Family}
 use Rattle.model.specs.FirstFit.{Placed, usedBy}
 use Rattle.model.specs.Rewrite.{numbering}
 use Rattle.families.specs.Pairs.{pairsOf}
 use Rattle.families.proofs.CodePairs.{formed}
 use Rattle.allocation.specs.Cells.{cellsOf}
+use Rattle.allocation.specs.FamiliesAt.{FamiliesAt}
 use Rattle.allocation.specs.Turns.{Described}
 use Rattle.chart_lists.specs.Limits.{mostTransitions}
-use Rattle.allocation.proofs.AllFamilies.{all-placed}
+use Rattle.allocation.proofs.AllFamilies.{all-families, all-placed}
 use Rattle.allocation.proofs.Cleared.{front-length, fresh}
 use Rattle.allocation.proofs.allocate.Statement.{statement}
 use Rattle.allocation.proofs.allocate.Tie as tie
 
 -- the call that a place is of, and the links that were found
 abbrev start : tie.After-find-links → tie.Start
-start c = c .before .before .before .before .before .before .before .before .before
+start c = c .before .before .before .before .before .before .before .before .before .before
 
-abbrev links : tie.After-clear → tie.After-find-links
-links c = c .before .before .before .before .before
+abbrev cleared : tie.After-clear2 → tie.After-clear
+cleared c = c .before .before .before .before
 
-abbrev shared : tie.After-linked3 → tie.After-clear
+abbrev links : tie.After-clear2 → tie.After-find-links
+links c = cleared c .before .before .before .before .before
+
+abbrev shared : tie.After-linked3 → tie.After-clear2
 shared c = c .before .before .before .before .before
 
-abbrev lent : tie.After-held → tie.After-clear
+abbrev lent : tie.After-held → tie.After-clear2
 lent c = shared (c .before .before .before .before)
 
 -- how many links have timers
@@ -60,6 +64,9 @@ find-links-requires c κs = search needs
 
 clear-requires : tie.Need-clear-requires
 clear-requires c κs = search needs
+
+clear-requires-2 : tie.Need-clear-requires-2
+clear-requires-2 c κs = search needs
 
 array-share-prefix-ones : tie.Need-array-share-prefix-ones
 array-share-prefix-ones c = search needs
@@ -105,26 +112,38 @@ slice-aggregate-number-locations-6 c = search needs
 
 number-locations-requires : tie.Need-number-locations-requires
 number-locations-requires c κs =
-    let k = lent c .clear in
-    let x = links (lent c) in
+    let at = lent (c .before) .clear2 in
+    let k = cleared (lent (c .before)) .clear in
+    let x = links (lent (c .before)) in
     let s = start x in (
       (pairs x, described x),
       x .find-links .ensures .1 .1,
-      fresh (s .args .live .now) (k .last .0) (s .pre .0 .few-locations) (k .kept .0 ∙ s .pre .1) (λ y h. k .ensures y (omega (arith, s .pre .1))),
+      fresh (s .args .live .now) (k .last .0) (at .last .0) (s .pre .0 .few-locations) (k .kept .0 ∙ s .pre .1)
+          (λ y h. k .ensures y (omega (arith, s .pre .1))) (at .kept .0 ∙ s .pre .2) (at .ensures),
     )
 
 same-length : tie.Need-same-length
 same-length c = search needs
 
+same-length-2 : tie.Need-same-length-2
+same-length-2 c = search needs
+
 returns : tie.Need-returns
 unfolding pairsOf
 returns c =
-    let r = c .before .before .before .before .before in
-    let x = links (lent (r .before)) in
+    let r = c .before .before .before .before .before .before .before in
+    let x = links (lent (r .before .before)) in
     let n = r .number-locations .ensures (pairs x) (described x) in
+    let all = all-families (formed (start x .pre .0)) in
     let e = all-placed (formed (start x .pre .0)) in (
       n .cells-are ∙ ap (λ (ps : List Placed). cellsOf (numbering ps) (length (start x .args .live .now))) e,
-      n .used-is ∙ ap usedBy e,
+      (
+        n .used-is ∙ ap usedBy e,
+        (
+          n .count-is ∙ ap length all,
+          subst (λ (fs : List Family). FamiliesAt fs (r .number-locations .last .1 .1 .1 .1 .1 .1 .1 .1 .0)) all (n .at-are),
+        ),
+      ),
     )
 
 pub allocate-spec : {M : Type 1} → statement M
@@ -136,6 +155,7 @@ allocate-spec =
     slice-aggregate-find-links-3
     find-links-requires
     clear-requires
+    clear-requires-2
     array-share-prefix-ones
     slice-aggregate-number-locations
     array-share-prefix-others
@@ -149,4 +169,5 @@ allocate-spec =
     slice-aggregate-number-locations-6
     number-locations-requires
     same-length
+    same-length-2
     returns)

@@ -1,23 +1,23 @@
 -- `hold` meets its contract: the words of the family's locations below s are done. Assumes nothing.
 use borrow.Author.Needs.{needs}
 use mathlib.Core.Path.{_≡_, refl, sym, _∙_}
-use Prim.Native.Nat.{_-_, _≤_, _<_}
+use Prim.Native.Nat.{_+_, _*_, _-_, _≤_, _<_}
 use native.Mathlib.Omega.{arith}
 use lib.ListN.{length, length-set}
 use Rattle.timer_set.specs.Members.{added}
-use Rattle.allocation.specs.Rows.{holding, Within, heldWords, heldLength, wordPlace}
+use Rattle.allocation.specs.Rows.{holding, Within, heldWords, wordPlace}
 use Rattle.chart_lists.specs.Limits.{mostLocations}
 use Rattle.allocation.proofs.Filling.{Rows, rows-none, rows-no, rows-yes, rows-all}
 use Rattle.allocation.proofs.place.hold.Statement.{statement}
 use Rattle.allocation.proofs.place.hold.Tie as tie
 
 abbrev Inv-loop : tie.InvT-loop
-Inv-loop sets from end j w x held₀ s₀ held s =
-    (s ≤ end) × (length held ≡ length held₀) × Rows wordPlace heldWords sets j w (λ word. added word x) held₀ s held
-    × ((w < heldWords) × (x < 64) × (length sets ≤ mostLocations) × (length held₀ ≡ heldLength) × Within sets j from end)
+Inv-loop sets from end j w x words₀ s₀ words s =
+    (s ≤ end) × (length words ≡ length words₀) × Rows wordPlace heldWords sets j w (λ word. added word x) words₀ s words
+    × ((w < heldWords) × (x < 64) × (length sets ≤ mostLocations) × (mostLocations * w + length sets ≤ length words₀) × Within sets j from end)
 
 abbrev μ-loop : tie.MeasureT-loop
-μ-loop sets from end j w x held₀ s₀ held s = end - s
+μ-loop sets from end j w x words₀ s₀ words s = end - s
 
 loop-holds : tie.Need-loop-holds Inv-loop μ-loop
 loop-holds c = let p = c .before .before .pre in (p .4 .ordered, refl, rows-none (p .4), p)
@@ -49,11 +49,11 @@ slice-read-t19 c = search needs
 with-requires : tie.Need-with-requires Inv-loop μ-loop
 with-requires c κs = search needs
 
-mul-held : tie.Need-mul-held Inv-loop μ-loop
-mul-held c = search needs
+mul-words : tie.Need-mul-words Inv-loop μ-loop
+mul-words c = search needs
 
-slice-write-held : tie.Need-slice-write-held Inv-loop μ-loop
-slice-write-held c = search needs
+slice-write-words : tie.Need-slice-write-words Inv-loop μ-loop
+slice-write-words c = search needs
 
 loop-less : tie.Need-loop-less Inv-loop μ-loop
 loop-less c = search needs
@@ -103,8 +103,8 @@ hold-spec =
     mul-t17
     slice-read-t19
     with-requires
-    mul-held
-    slice-write-held
+    mul-words
+    slice-write-words
     loop-less
     loop-again
     loop-less-2
