@@ -1,4 +1,4 @@
--- The fewest timers of the families of a list: a plan has so many, and none has fewer. Hard: the search lists what the families are given, a plan
+-- The fewest timers of the families of a list: a plan has so many, and none has fewer. Hard: `placings` lists what the families are given, a plan
 -- gives a number to each place; `given` turns the one into the other. Assumes nothing.
 use mathlib.Core.Path.{_≡_, refl, sym, ap, _∙_}
 use mathlib.Core.Logic.{_⊎_, inl, inr, _↔_}
@@ -130,7 +130,7 @@ differ-in f (x ∷ fs) {k} a = and-both (ap not (is-no _ held-not)) (differ-in (
       different = λ i j g h e e′ n. a .different (suc i) (suc j) g h e e′ (λ p. n (suc-inj p));
     }
 
--- ---- there is a plan exactly where the search finds one
+-- ---- there is a plan exactly where one of the placings is one
 
 pub planned-iff : (k : ℕ) (fs : List Family) → (planned k fs ≡ true) ↔ ((f : ℕ → ℕ) × FamilyPlan fs k f)
 unfolding planned
