@@ -1,0 +1,86 @@
+-- `score` meets its contract, that is, its sum has room: it grows by 65 for each number. Assumes nothing.
+use Prim.Native.Nat.{_+_, _-_, _*_, _^_, _≤_}
+use borrow.Author.Needs.{needs}
+use Rattle.smallest_plan.proofs.score.Statement.{statement}
+use Rattle.smallest_plan.proofs.score.Tie as tie
+
+abbrev Inv-loop : tie.InvT-loop
+Inv-loop rows used v held s₀ c₀ s c = (c ≤ used) × (s ≤ 65 * c + 2 ^ 40)
+
+abbrev μ-loop : tie.MeasureT-loop
+μ-loop rows used v held s₀ c₀ s c = used - c
+
+mul-t12 : tie.Need-mul-t12 Inv-loop μ-loop
+mul-t12 c = search needs
+
+element-copy-out-t15 : tie.Need-element-copy-out-t15 Inv-loop μ-loop
+element-copy-out-t15 c = search needs
+
+common-requires : tie.Need-common-requires Inv-loop μ-loop
+common-requires c κs = search needs
+
+count-requires : tie.Need-count-requires Inv-loop μ-loop
+count-requires c κs = search needs
+
+cast-s : tie.Need-cast-s Inv-loop μ-loop
+cast-s c = search needs
+
+mul-s : tie.Need-mul-s Inv-loop μ-loop
+mul-s c = search needs
+
+loop-holds : tie.Need-loop-holds Inv-loop μ-loop
+loop-holds c = search needs
+
+mul-t19 : tie.Need-mul-t19 Inv-loop μ-loop
+mul-t19 c = search needs
+
+array-read-t22 : tie.Need-array-read-t22 Inv-loop μ-loop
+array-read-t22 c = search needs
+
+add-c : tie.Need-add-c Inv-loop μ-loop
+add-c c = search needs
+
+has-requires : tie.Need-has-requires Inv-loop μ-loop
+has-requires c κs = search needs
+
+add-s : tie.Need-add-s Inv-loop μ-loop
+add-s c = search needs
+
+loop-less : tie.Need-loop-less Inv-loop μ-loop
+loop-less c = search needs
+
+loop-again : tie.Need-loop-again Inv-loop μ-loop
+loop-again c = search needs
+
+loop-less-2 : tie.Need-loop-less-2 Inv-loop μ-loop
+loop-less-2 c = search needs
+
+loop-again-2 : tie.Need-loop-again-2 Inv-loop μ-loop
+loop-again-2 c = search needs
+
+returns : tie.Need-returns Inv-loop μ-loop
+returns c = search needs
+
+pub score-spec : {M : Type 1} → statement M
+score-spec =
+    tie.close
+    (tie.spec
+    Inv-loop
+    μ-loop
+    mul-t12
+    element-copy-out-t15
+    common-requires
+    count-requires
+    cast-s
+    mul-s
+    loop-holds
+    mul-t19
+    array-read-t22
+    add-c
+    has-requires
+    add-s
+    loop-less
+    loop-again
+    loop-less-2
+    loop-again-2
+    returns)

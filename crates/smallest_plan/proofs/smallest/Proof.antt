@@ -1,0 +1,59 @@
+-- `smallest` tries k = low, low + 1, ..: no plan has fewer than k timers, and one has `high`. Assumes nothing.
+use Prim.Native.Nat.{_-_}
+use native.Mathlib.Omega.{arith}
+use borrow.Author.Needs.{needs}
+use Rattle.smallest_plan.specs.RowPlans.{Bounds}
+use Rattle.smallest_plan.proofs.Whole.{ready-start, enough, too-few, met}
+use Rattle.smallest_plan.proofs.smallest.Statement.{statement}
+use Rattle.smallest_plan.proofs.smallest.Tie as tie
+
+abbrev Inv-loop : tie.InvT-loop
+Inv-loop rows n low high held all k₀ k = Bounds rows n k high
+
+abbrev μ-loop : tie.MeasureT-loop
+μ-loop rows n low high held all k₀ k = high - k
+
+families-below-requires : tie.Need-families-below-requires Inv-loop μ-loop
+families-below-requires c κs = search needs
+
+loop-holds : tie.Need-loop-holds Inv-loop μ-loop
+loop-holds c = c .before .pre .3
+
+can-requires : tie.Need-can-requires Inv-loop μ-loop
+can-requires c κs =
+    let p = c .before .before .before .pre in
+    rw (c .before .before .families-below .ensures) (ready-start (p .0) (omega arith) (p .2))
+
+returns : tie.Need-returns Inv-loop μ-loop
+returns c =
+    let l = c .before .before .before in
+    enough (l .loop .inv) (rw (l .before .families-below .ensures) at (c .before .can .ensures .if-true (c .if1 .taken)))
+
+add-k : tie.Need-add-k Inv-loop μ-loop
+add-k c = search needs
+
+loop-less : tie.Need-loop-less Inv-loop μ-loop
+loop-less c = search needs
+
+loop-again : tie.Need-loop-again Inv-loop μ-loop
+loop-again c =
+    let l = c .before .before .before in
+    too-few (l .loop .inv) (rw (l .before .families-below .ensures) at (c .before .can .ensures .if-false (c .if1 .left)))
+
+returns-2 : tie.Need-returns-2 Inv-loop μ-loop
+returns-2 c = met (c .before .loop .inv) (omega arith)
+
+pub smallest-spec : {M : Type 1} → statement M
+smallest-spec =
+    tie.close
+    (tie.spec
+    Inv-loop
+    μ-loop
+    families-below-requires
+    loop-holds
+    can-requires
+    returns
+    add-k
+    loop-less
+    loop-again
+    returns-2)

@@ -1,0 +1,2 @@
+pub mod RowPlans
+pub mod Search

@@ -1,0 +1,156 @@
+// The smallest number of timers in any plan that gives meeting families different numbers, by search. At most 20 families: a set of them is a
+// TimerSet, family i in the place of timer i, and row i is the set of those that family i meets.
+ghost use mathlib.Core.Path.{_≡_};
+ghost use mathlib.Core.Bool.{true};
+ghost use Prim.Native.Nat.{ℕ, _-_, _^_, _≤_, _<_, min, max};
+ghost use Rattle.timer_set.specs.Members.{member};
+ghost use Rattle.smallest_plan.specs.RowPlans.{mostFamilies, Mutual, Bounds, SmallestOf};
+ghost use Rattle.smallest_plan.specs.Search.{Ready, Answers, holding};
+use timer_set::TimerSet;
+
+// The most families that rows are given for.
+pub const MOST_FAMILIES: usize = 20;
+
+// The smaller of two numbers, and the larger.
+fn smaller(x: usize, y: usize) -> usize
+    ensures { λ r. ⌜ r ≡ min x y ⌝ }
+{
+    if x < y { x } else { y }
+}
+
+fn larger(x: usize, y: usize) -> usize
+    ensures { λ r. ⌜ r ≡ max x y ⌝ }
+{
+    if x < y { y } else { x }
+}
+
+// How pressing an unplaced family is: by the numbers held against it and the unplaced families that it meets, taken together, then by the former.
+// Where these are fewer than k, a number is left for it whatever the others get, so it comes last. The contract says nothing of that: any choice is
+// right, and this one is quick.
+fn score(
+    rows: &[u64; MOST_FAMILIES],
+    held: [u64; MOST_FAMILIES],
+    unplaced: TimerSet,
+    used: usize,
+    v: u8,
+) -> usize
+    requires { ⌜ (used ≤ mostFamilies) × (v < mostFamilies) ⌝ }
+{
+    let row = TimerSet {
+        bits: rows[v as usize],
+    };
+    let mut s = 64 * row.common(unplaced).count() as usize;
+    let mut c: usize = 0;
+    while c < used {
+        let against = TimerSet { bits: held[c] };
+        c += 1;
+        if against.has(v) {
+            s += 65;
+        }
+    }
+    s
+}
+
+// The unplaced family to go on with.
+fn pick(
+    rows: &[u64; MOST_FAMILIES],
+    held: [u64; MOST_FAMILIES],
+    unplaced: TimerSet,
+    used: usize,
+) -> u8
+    requires { ⌜ (used ≤ mostFamilies) × (unplaced .bits ≡ 0 → ⊥) × ((i : ℕ) → member (unplaced .bits) i ≡ true → i < mostFamilies) ⌝ }
+    ensures { λ r. ⌜ (r < mostFamilies) × (member (unplaced .bits) r ≡ true) ⌝ }
+{
+    let mut best = unplaced.lowest() as u8;
+    let mut most: usize = 0;
+    let mut left = unplaced;
+    while !left.is_empty() {
+        let v = left.lowest() as u8;
+        left = left.without_lowest();
+        let s = score(rows, held, unplaced, used, v);
+        if most < s {
+            best = v;
+            most = s;
+        }
+    }
+    best
+}
+
+// The family v takes the number c: it is held against each family that v meets.
+fn hold(
+    rows: &[u64; MOST_FAMILIES],
+    held: [u64; MOST_FAMILIES],
+    v: u8,
+    c: usize,
+) -> [u64; MOST_FAMILIES]
+    requires { ⌜ (v < mostFamilies) × (c < mostFamilies) ⌝ }
+    ensures { λ r. ⌜ r ≡ holding (now (rows .entry)) held v c ⌝ }
+{
+    let against = TimerSet { bits: held[c] };
+    let row = TimerSet {
+        bits: rows[v as usize],
+    };
+    let mut next = held;
+    next[c] = against.join(row).bits;
+    next
+}
+
+// Whether the unplaced families can be given numbers below k, no two that meet the same, none that is held against them. held[c] is the set of the
+// families against which c is held; from `used` on no number is held, so all of these are alike and only the first of them is tried.
+// Each call within another has one unplaced family fewer, so the recursion is at most 20 deep.
+fn can(
+    rows: &[u64; MOST_FAMILIES],
+    k: usize,
+    held: [u64; MOST_FAMILIES],
+    unplaced: TimerSet,
+    used: usize,
+) -> bool
+    requires { ⌜ Ready (now rows) held k (unplaced .bits) used ⌝ }
+    ensures { λ r. ⌜ Answers (now (rows .entry)) held k (unplaced .bits) r ⌝ }
+{
+    if unplaced.is_empty() {
+        return true;
+    }
+    let v = pick(rows, held, unplaced, used);
+    let limit = smaller(k, used + 1);
+    let mut c: usize = 0;
+    while c < limit {
+        let against = TimerSet { bits: held[c] };
+        if !against.has(v) {
+            let next = hold(rows, held, v, c);
+            let rest = unplaced.without(v);
+            if can(rows, k, next, rest, larger(used, c + 1)) {
+                return true;
+            }
+        }
+        c += 1;
+    }
+    false
+}
+
+// The set of the families below n.
+fn families_below(n: usize) -> TimerSet
+    requires { ⌜ n ≤ mostFamilies ⌝ }
+    ensures { λ r. ⌜ r .bits ≡ 2 ^ n - 1 ⌝ }
+{
+    TimerSet {
+        bits: (1u64 << n) - 1,
+    }
+}
+
+// The smallest number of timers in any plan for n families, which is at least `low` and at most `high`: nothing is searched where these are equal.
+pub fn smallest(rows: &[u64; MOST_FAMILIES], n: usize, low: usize, high: usize) -> usize
+    requires { ⌜ (n ≤ mostFamilies) × (high ≤ mostFamilies) × Mutual (now rows) n × Bounds (now rows) n low high ⌝ }
+    ensures { λ r. ⌜ SmallestOf (now (rows .entry)) n r ⌝ }
+{
+    let held = [0u64; MOST_FAMILIES];
+    let all = families_below(n);
+    let mut k = low;
+    while k < high {
+        if can(rows, k, held, all, 0) {
+            return k;
+        }
+        k += 1;
+    }
+    high
+}
