@@ -1,5 +1,5 @@
 -- The fronts of a chart's lists are what the rounds and the allocation ask for, and what these leave is the chart's. Assumes nothing.
-use mathlib.Core.Path.{_≡_, sym, ap, _∙_}
+use mathlib.Core.Path.{_≡_, sym, ap, _∙_, subst₂}
 use mathlib.Core.List.{List, _++_}
 use Prim.Native.Nat.{ℕ, _≤_}
 use native.Mathlib.Omega.{arith}
@@ -9,6 +9,7 @@ use Rattle.lists.proofs.Zeros.{take-zeros}
 use Rattle.model.specs.Chart.{Chart}
 use Rattle.model.specs.Flow.{settled}
 use Rattle.model.specs.Live.{testedSets, liveSets}
+use Rattle.model.specs.Family.{Pairs, Family, families, livePairs}
 use Rattle.model.specs.FirstFit.{firstFit, usedBy, board, used}
 use Rattle.model.specs.Rewrite.{numbering}
 use Rattle.chart_lists.specs.Limits.{mostLocations}
@@ -23,6 +24,7 @@ use Rattle.flow.proofs.ChartFlows.{tested-each, live-flow, live-safe}
 use Rattle.families.specs.Pairs.{pairsOf, SafeTransitions}
 use Rattle.families.proofs.ChartPairs.{live-each, chart-pairs, chart-safe}
 use Rattle.allocation.specs.Cells.{cellsOf}
+use Rattle.allocation.specs.FamiliesAt.{FamiliesAt}
 use Rattle.numbering.specs.ChartNumbered.{ChartNumbered}
 use Rattle.numbering.specs.declared.Numbered.{Numbered}
 
@@ -77,20 +79,28 @@ module _ (c : Chart) {m : Header} (is : m ≡ headerOf c) {s t w u : List ℕ} (
           rw (sources-front c is (h .sources), targets-front c is (h .targets), starts-front c is (h .starts), seen-are, timers-are c is)
           (chart-safe (h .valid))
 
-      placed-are : firstFit (pairsOf (part m s) (part m t) (part m w) (seen m live rest) (m .timers)) ≡ board c
-      unfolding board
-      placed-are =
-          rw (sources-front c is (h .sources), targets-front c is (h .targets), starts-front c is (h .starts), seen-are, timers-are c is)
-          (ap firstFit (chart-pairs c))
+      abbrev pairs : Pairs
+      pairs = pairsOf (part m s) (part m t) (part m w) (seen m live rest) (m .timers)
 
-      pub numbered : {cells : List ℕ} (beyond : List ℕ) {r : Numbered}
-          → cells
-          ≡ cellsOf (numbering (firstFit (pairsOf (part m s) (part m t) (part m w) (seen m live rest) (m .timers)))) (length (seen m live rest))
-          → r .used ≡ usedBy (firstFit (pairsOf (part m s) (part m t) (part m w) (seen m live rest) (m .timers)))
-          → ChartNumbered c (live ++ rest) (cells ++ beyond) r
+      pairs-are : pairs ≡ livePairs c
+      pairs-are =
+          rw (sources-front c is (h .sources), targets-front c is (h .targets), starts-front c is (h .starts), seen-are, timers-are c is)
+          (chart-pairs c)
+
+      placed-are : firstFit pairs ≡ board c
+      unfolding board
+      placed-are = ap firstFit pairs-are
+
+      pub numbered : {cells : List ℕ} (beyond : List ℕ) {at : List ℕ} (past : List ℕ) {r : Numbered}
+          → cells ≡ cellsOf (numbering (firstFit pairs)) (length (seen m live rest)) → r .used ≡ usedBy (firstFit pairs)
+          → r .families ≡ length (families pairs) → FamiliesAt (families pairs) at → length at ≡ m .locations
+          → ChartNumbered c (live ++ rest) (cells ++ beyond) (at ++ past) r
       unfolding used
-      numbered beyond f g = record {
+      numbered beyond {at} past f g k a long = record {
         live-are = begins-front rest live-are;
         cells-are = begins-front beyond (rw (placed-are, seen-length ∙ locations-are c is) at f);
         used-is = g ∙ ap usedBy placed-are;
+        families-is = k ∙ ap (λ (p : Pairs). length (families p)) pairs-are;
+        at-are = subst₂ (λ (p : Pairs) (l : List ℕ). FamiliesAt (families p) l) pairs-are
+            (sym (take-at at past (c .locations) (long ∙ locations-are c is))) a;
       }

@@ -24,9 +24,10 @@ use chart_lists::Read;
 use refusal::Refusal;
 use timer_set::TimerSet;
 
-// How many board numbers a chart uses.
+// How many board numbers a chart uses, and how many families it has.
 pub struct Numbered {
     pub used: u32,
+    pub families: u32,
 }
 
 // Whether a board's timers are enough for a chart, or the refusal.
@@ -45,8 +46,8 @@ pub enum FileNumbered {
     Refused(Refusal),
 }
 
-// The live set of each location over the front of `live`, the board number of each pair (q, j) at 64 q + j over the front of `cells`, and how
-// many numbers are used.
+// The live set of each location over the front of `live`, the board number of each pair (q, j) at 64 q + j over the front of `cells`, and over the
+// front of `families_at` of each location which of the first 64 families contain it. How many numbers are used, and how many families there are.
 pub fn number_chart<'a>(
     header: Header,
     sources: &'a [u16],
@@ -55,11 +56,14 @@ pub fn number_chart<'a>(
     tested: &'a [u64],
     live: &mut [u64],
     cells: &mut [u16],
+    families_at: &mut [u64],
 ) -> Numbered
     requires { ⌜ ((c : Chart) × (header ≡ headerOf c) × Holds c (edgesOf c (now sources) (now targets) (now starts))
-        × Begins (testedSets c) (now tested)) × (header .locations ≤ length (now live)) × (64 * header .locations ≤ length (now cells)) ⌝ }
+        × Begins (testedSets c) (now tested)) × (header .locations ≤ length (now live)) × (64 * header .locations ≤ length (now cells))
+        × (header .locations ≤ length (now «families_at»)) ⌝ }
     ensures { λ r. ⌜ ((c : Chart) → header ≡ headerOf c → Holds c (edgesOf c (now (sources .entry)) (now (targets .entry)) (now (starts .entry)))
-        → Begins (testedSets c) (now (tested .entry)) → ChartNumbered c (now (live .exit)) (now (cells .exit)) r) ⌝ }
+        → Begins (testedSets c) (now (tested .entry))
+        → ChartNumbered c (now (live .exit)) (now (cells .exit)) (now («families_at» .exit)) r) ⌝ }
 {
     let m = header.locations as usize;
     let n = header.transitions as usize;
@@ -68,15 +72,19 @@ pub fn number_chart<'a>(
     let started = &starts[..n];
     let own = [0u64; MOST_LOCATIONS];
     flow::settle(from, to, started, &tested[..n], &own[..m], &mut live[..m]);
-    let used = allocation::allocate(
+    let allocated = allocation::allocate(
         from,
         to,
         started,
         &live[..m],
         header.timers,
         &mut cells[..64 * m],
+        &mut families_at[..m],
     );
-    Numbered { used }
+    Numbered {
+        used: allocated.used,
+        families: allocated.families,
+    }
 }
 
 // The count of ones in the fullest of the sets.
@@ -125,7 +133,17 @@ fn number_judged<'a>(
         → Begins (testedSets c) (now (tested .entry))
         → (fileNumberedAs r ≡ result (fileNumbers c)) × ListsNumbered c (now (live .exit)) (now (cells .exit))) ⌝ }
 {
-    let numbered = number_chart(header, sources, targets, starts, tested, live, cells);
+    let mut families_at = [0u64; MOST_LOCATIONS];
+    let numbered = number_chart(
+        header,
+        sources,
+        targets,
+        starts,
+        tested,
+        live,
+        cells,
+        &mut families_at,
+    );
     let m = header.locations as usize;
     let floor = fullest(&live[..m]);
     FileNumbered::Chart {

@@ -28,7 +28,7 @@ module _ {c : Chart} (valid : Valid 2 c) (e : judged c ≡ result c) where
   pub judged-plan : Plan c (numbering (board c))
   judged-plan = board-plan valid (λ i r n u. accepted valid .0 e .no-unstarted-test i (record { transition = r; is-nth = n; test = u }))
 
-  module _ {live cells : List ℕ} {r : Count} (x : ChartNumbered c live cells r) where
+  module _ {live cells at : List ℕ} {r : Count} (x : ChartNumbered c live cells at r) where
     pub board-used : r .used ≡ numbering (board c) .used
     unfolding used numbering
     board-used = x .used-is

@@ -117,6 +117,7 @@ fn fit<'a>(
 {
     let mut live = [0u64; MOST_LOCATIONS];
     let mut cells = [0u16; MOST_CELLS];
+    let mut families_at = [0u64; MOST_LOCATIONS];
     let numbered = numbering::number_chart(
         header,
         sources,
@@ -125,6 +126,7 @@ fn fit<'a>(
         tested,
         &mut live,
         &mut cells,
+        &mut families_at,
     );
     let used = numbered.used;
     let limit = numbering::judge_limit(k, used);

@@ -13,7 +13,7 @@ use Rattle.numbering.proofs.number_chart.Tie as tie
 
 -- the call that a place is of
 abbrev known : tie.After-struct-known2 → tie.Start
-known c = c .before .before .before .before .before .before .before .before
+known c = c .before .before .before .before .before .before .before .before .before
 
 abbrev shared : tie.After-started → tie.Start
 shared c = known (c .before .before .before)
@@ -78,14 +78,22 @@ slice-relend-prefix-allocate c = search needs
 slice-aggregate-allocate-2 : tie.Need-slice-aggregate-allocate-2
 slice-aggregate-allocate-2 c = sym (length-take-le _ _ (settled (lent c) .pre .2))
 
+slice-relend-prefix-allocate-2 : tie.Need-slice-relend-prefix-allocate-2
+slice-relend-prefix-allocate-2 c = search needs
+
+slice-aggregate-allocate-3 : tie.Need-slice-aggregate-allocate-3
+slice-aggregate-allocate-3 c = sym (length-take-le _ _ (settled (lent (c .before)) .pre .3))
+
 allocate-requires : tie.Need-allocate-requires
 allocate-requires c κs =
-    let r = lent c in
+    let r = lent (c .before) in
     let p = settled r .pre in
     let x = p .0 in
-    let e = r .settle .ensures .0 in (
+    let e = r .settle .ensures .0 in
+    let long = sym (seen-length (x .0) (x .1) (x .2) (x .3) e _) in (
       allocate-safe (x .0) (x .1) (x .2) (x .3) e _,
-      length-take-le _ _ (p .2) ∙ ap (λ (n : ℕ). 64 * n) (sym (seen-length (x .0) (x .1) (x .2) (x .3) e _)),
+      length-take-le _ _ (p .2) ∙ ap (λ (n : ℕ). 64 * n) long,
+      length-take-le _ _ (p .3) ∙ long,
     )
 
 same-length : tie.Need-same-length
@@ -94,11 +102,16 @@ same-length c = search needs
 same-length-2 : tie.Need-same-length-2
 same-length-2 c = search needs
 
+same-length-3 : tie.Need-same-length-3
+same-length-3 c = search needs
+
 returns : tie.Need-returns
 returns c chart is holds tested =
-    let a = c .before .before in
-    let r = lent (a .before) in
-    numbered chart is holds tested (r .settle .ensures .0) _ _ (a .allocate .ensures .0) (a .allocate .ensures .1)
+    let a = c .before .before .before .before in
+    let r = lent (a .before .before) in
+    let e = a .allocate .ensures in
+    numbered chart is holds tested (r .settle .ensures .0) _ _ _ (e .0) (e .1 .0) (e .1 .1 .0) (e .1 .1 .1)
+    (a .allocate .kept .1 .1 .1 .1 .1 .1 .0 ∙ length-take-le _ _ (settled r .pre .3))
 
 pub number-chart-spec : {M : Type 1} → statement M
 number-chart-spec =
@@ -120,7 +133,10 @@ number-chart-spec =
     mul-allocate
     slice-relend-prefix-allocate
     slice-aggregate-allocate-2
+    slice-relend-prefix-allocate-2
+    slice-aggregate-allocate-3
     allocate-requires
     same-length
     same-length-2
+    same-length-3
     returns)
