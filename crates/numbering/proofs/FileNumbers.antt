@@ -1,5 +1,6 @@
 -- The answer of a numbering, taken apart: the judgement's refusal, or the chart that it accepts with its numbers. Assumes nothing.
 use mathlib.Core.Path.{_≡_, refl, sym, ap, ap₂, _∙_, subst}
+use mathlib.Core.Bool.{Bool}
 use mathlib.Core.List.{List}
 use Prim.Native.Nat.{ℕ, _≤_}
 use native.Mathlib.Omega.{arith}
@@ -7,7 +8,8 @@ use lib.ListN.{length, take}
 use Rattle.model.specs.Answer.{Answer, result, refused}
 use Rattle.model.specs.Chart.{Chart}
 use Rattle.model.specs.Live.{liveSets}
-use Rattle.model.specs.FirstFit.{used, fullest, floor}
+use Rattle.model.specs.FirstFit.{used}
+use Rattle.model.specs.Floor.{floor, searched}
 use Rattle.model.proofs.Answers.{result-refused, not-result, result-same, refused-same}
 use Rattle.chart_lists.specs.Header.{headerOf}
 use Rattle.chart_lists.specs.declared.Header.{Header}
@@ -34,10 +36,10 @@ module _ (c : Chart) {m : Header} (is : m ≡ headerOf c) {live : List ℕ} (b :
   pub live-room : m .locations ≤ length live
   live-room = omega (arith, each, begins-room b)
 
-  pub chart-numbers : {u f : ℕ} → u ≡ used c → f ≡ fullest (take (m .locations) live)
-      → _≡_ {A = FileNumbers} (record { header = m; used = u; floor = f }) (fileNumbers c)
-  unfolding fileNumbers floor
-  chart-numbers e g = rw (is, e, g ∙ ap fullest live-front)
+  pub chart-numbers : {u f : ℕ} {s : Bool} → u ≡ used c → f ≡ floor c → s ≡ searched c
+      → _≡_ {A = FileNumbers} (record { header = m; used = u; floor = f; searched = s }) (fileNumbers c)
+  unfolding fileNumbers
+  chart-numbers e g h = rw (is, e, g, h)
 
 -- ---- of a file
 
@@ -48,6 +50,7 @@ pub record FileChart (bs : List ℕ) (x : FileNumbers) : Type 0 where
   pub header-is : x .header ≡ headerOf chart
   pub used-is : x .used ≡ used chart
   pub floor-is : x .floor ≡ floor chart
+  pub searched-is : x .searched ≡ searched chart
 
 module _ (bs : List ℕ) where
   -- what is answered, by the judgement
@@ -82,6 +85,7 @@ module _ (bs : List ℕ) where
             header-is = ap (λ (y : FileNumbers). y .header) g;
             used-is = ap (λ (y : FileNumbers). y .used) g;
             floor-is = ap (λ (y : FileNumbers). y .floor) g;
+            searched-is = ap (λ (y : FileNumbers). y .searched) g;
           }
       go (refused n p) j = let f : result x ≡ refused n p = rw j at e in absurd (not-result (sym f))
 

@@ -1,3 +1,4 @@
 pub mod Settling
 pub mod Limits
 pub mod FileNumbers
+pub mod FloorFound

@@ -1,3 +1,4 @@
 pub mod ChartNumbered
+pub mod FloorAsked
 pub mod Limits
 pub mod FileNumbers

@@ -5,7 +5,6 @@ ghost use lib.ListN.{length};
 ghost use Rattle.model.specs.Answer.{result};
 ghost use Rattle.model.specs.Chart.{Chart};
 ghost use Rattle.model.specs.Live.{testedSets};
-ghost use Rattle.model.specs.FirstFit.{fullest as FirstFit·fullest};
 ghost use Rattle.chart_lists.specs.Limits.{mostLocations};
 ghost use Rattle.chart_lists.specs.Header.{headerOf};
 ghost use Rattle.chart_lists.specs.Begins.{Begins};
@@ -16,13 +15,16 @@ ghost use Rattle.allocation.specs.Cells.{mostCells};
 ghost use Rattle.numbering.specs.ChartNumbered.{ChartNumbered};
 ghost use Rattle.numbering.specs.Limits.{LimitJudged};
 ghost use Rattle.numbering.specs.FileNumbers.{fileNumbers, numberedIn, fileNumberedAs, ListsNumbered};
+
+mod floor;
+
+use crate::floor::find_floor;
 use chart_lists::Header;
 use chart_lists::MOST_LOCATIONS;
 use chart_lists::MOST_TESTS;
 use chart_lists::MOST_TRANSITIONS;
 use chart_lists::Read;
 use refusal::Refusal;
-use timer_set::TimerSet;
 
 // How many board numbers a chart uses, and how many families it has.
 pub struct Numbered {
@@ -36,12 +38,13 @@ pub enum Limit {
     Refused(Refusal),
 }
 
-// The chart of a file, how many board numbers it uses and its floor; or a refusal.
+// The chart of a file, how many board numbers it uses, its floor, and whether that is the fewest timers of any plan; or a refusal.
 pub enum FileNumbered {
     Chart {
         header: Header,
         used: u32,
         floor: u32,
+        searched: bool,
     },
     Refused(Refusal),
 }
@@ -87,23 +90,6 @@ pub fn number_chart<'a>(
     }
 }
 
-// The count of ones in the fullest of the sets.
-pub fn fullest(sets: &[u64]) -> u32
-    ensures { λ r. ⌜ r ≡ FirstFit·fullest (now (sets .entry)) ⌝ }
-{
-    let n = sets.len();
-    let mut most: u32 = 0;
-    let mut q: usize = 0;
-    while q < n {
-        let count = TimerSet { bits: sets[q] }.count();
-        q += 1;
-        if most < count {
-            most = count;
-        }
-    }
-    most
-}
-
 // 11 for a board of more than 64 timers, then 20 where a chart uses more numbers than the board has timers.
 pub fn judge_limit(k: u32, used: u32) -> Limit
     ensures { λ r. ⌜ LimitJudged k used r ⌝ }
@@ -145,11 +131,12 @@ fn number_judged<'a>(
         &mut families_at,
     );
     let m = header.locations as usize;
-    let floor = fullest(&live[..m]);
+    let found = find_floor(&live[..m], &families_at[..m], numbered);
     FileNumbered::Chart {
         header,
         used: numbered.used,
-        floor,
+        floor: found.floor,
+        searched: found.searched,
     }
 }
 

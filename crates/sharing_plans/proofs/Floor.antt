@@ -21,11 +21,11 @@ use Rattle.model.proofs.Settled.{length-settled}
 use Rattle.sharing_plans.proofs.ChartPlans.{fewest-timers, first-fit-plan}
 use Rattle.sharing_plans.proofs.Fullest.{fullest-most, fullest-least, fullest-reached, plan-holds-live}
 
-floor-searched : (c : Chart) → searched c ≡ true → floor c ≡ fewest (families (livePairs c))
+pub floor-searched : (c : Chart) → searched c ≡ true → floor c ≡ fewest (families (livePairs c))
 unfolding floor
 floor-searched c h = rw (h, floor)
 
-floor-unsearched : (c : Chart) → searched c ≡ false → floor c ≡ fullest (liveSets c)
+pub floor-unsearched : (c : Chart) → searched c ≡ false → floor c ≡ fullest (liveSets c)
 unfolding floor
 floor-unsearched c h = rw (h, floor)
 

@@ -1,8 +1,10 @@
--- `number_judged`: the numbers of the chart, and the fullest of its live sets, which are looked at again. Assumes nothing.
+-- `number_judged`: the numbers of the chart, and its floor from what these leave. Assumes nothing.
 use mathlib.Core.Path.{sym, ap}
+use lib.Seq.{length-take-le}
 use Rattle.model.specs.Answer.{result}
 use Rattle.numbering.proofs.Settling.{few}
 use Rattle.numbering.proofs.FileNumbers.{live-part, chart-numbers}
+use Rattle.numbering.proofs.FloorFound.{floor-asked}
 use borrow.Author.Needs.{needs}
 use Rattle.numbering.proofs.number_judged.Statement.{statement}
 use Rattle.numbering.proofs.number_judged.Tie as tie
@@ -22,17 +24,33 @@ number-chart-requires c κs =
 cast-m : tie.Need-cast-m
 cast-m c = search needs
 
-slice-reshare-prefix-fullest : tie.Need-slice-reshare-prefix-fullest
-slice-reshare-prefix-fullest c = search needs
+slice-reshare-prefix-find-floor : tie.Need-slice-reshare-prefix-find-floor
+slice-reshare-prefix-find-floor c = search needs
 
-slice-aggregate-fullest : tie.Need-slice-aggregate-fullest
-slice-aggregate-fullest c =
+slice-aggregate-find-floor : tie.Need-slice-aggregate-find-floor
+slice-aggregate-find-floor c =
     let n = c .before .before .before .before .before .before .before in
     let p = start n .pre .0 in
     sym (live-part (p .0) (p .1) (n .number-chart .ensures (p .0) (p .1) (p .2) (p .3) .live-are))
 
-fullest-requires : tie.Need-fullest-requires
-fullest-requires c κs = search needs
+array-share-prefix-families-at : tie.Need-array-share-prefix-families-at
+array-share-prefix-families-at c =
+    let p = start (c .before .before .before .before .before .before .before) .pre .0 in
+    let room = few (p .0) (p .1) (p .2) (p .3) in
+    search (needs, room)
+
+slice-aggregate-find-floor-2 : tie.Need-slice-aggregate-find-floor-2
+slice-aggregate-find-floor-2 c =
+    let p = start (c .before .before .before .before .before .before .before .before) .pre .0 in
+    let room = few (p .0) (p .1) (p .2) (p .3) in
+    sym (length-take-le _ _ (search (needs, room)))
+
+find-floor-requires : tie.Need-find-floor-requires
+find-floor-requires c κs =
+    let n = c .before .before .before .before .before .before .before .before in
+    let p = start n .pre .0 in
+    let room = few (p .0) (p .1) (p .2) (p .3) in
+    (p .0, floor-asked (p .0) (p .1) (p .2 .valid) (n .number-chart .ensures (p .0) (p .1) (p .2) (p .3)) (search (needs, room)))
 
 same-length : tie.Need-same-length
 same-length c = search needs
@@ -41,9 +59,12 @@ same-length-2 : tie.Need-same-length-2
 same-length-2 c = search needs
 
 returns : tie.Need-returns
-returns c = λ d e h b.
-    let m = c .before .before .before .before .before .before .before .before .number-chart .ensures d e h b in (
-      ap result (chart-numbers d e (m .live-are) (m .used-is) (c .fullest .ensures)),
+returns c d e h b =
+    let n = c .before .before .before .before .before .before .before .before .before in
+    let m = n .number-chart .ensures d e h b in
+    let room = few d e h b in
+    let f = c .find-floor .ensures d (floor-asked d e (h .valid) m (search (needs, room))) in (
+      ap result (chart-numbers d e (m .live-are) (m .used-is) (f .0) (f .1)),
       record { width = h .width; valid = h .valid; live-are = m .live-are; cells-are = m .cells-are },
     )
 
@@ -54,9 +75,11 @@ number-judged-spec =
     slice-aggregate-number-chart
     number-chart-requires
     cast-m
-    slice-reshare-prefix-fullest
-    slice-aggregate-fullest
-    fullest-requires
+    slice-reshare-prefix-find-floor
+    slice-aggregate-find-floor
+    array-share-prefix-families-at
+    slice-aggregate-find-floor-2
+    find-floor-requires
     same-length
     same-length-2
     returns)

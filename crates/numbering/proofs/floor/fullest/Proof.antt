@@ -7,10 +7,10 @@ use native.Mathlib.Numerals.{add-one}
 use lib.Count.{ones}
 use lib.ListN.{length, getD, drop}
 use lib.Seq.{drop-cons, drop-length}
-use Rattle.model.specs.FirstFit.{fullest}
+use Rattle.model.specs.Live.{fullest}
 use borrow.Author.Needs.{needs}
-use Rattle.numbering.proofs.fullest.Statement.{statement}
-use Rattle.numbering.proofs.fullest.Tie as tie
+use Rattle.numbering.proofs.floor.fullest.Statement.{statement}
+use Rattle.numbering.proofs.floor.fullest.Tie as tie
 
 -- one set more, and no set more
 next : (sets : List ℕ) (q : ℕ) → q < length sets → fullest (drop q sets) ≡ max (ones (getD sets q 0)) (fullest (drop (q + 1) sets))
