@@ -117,7 +117,7 @@ impl Planned {
         let mut lists = vec![1_u64; all + 1];
         let mut k = 0;
         loop {
-            let sign = |set: usize| if (all ^ set).count_ones() % 2 == 0 { 1 } else { -1 };
+            let sign = |set: usize| if (all ^ set).count_ones().is_multiple_of(2) { 1 } else { -1 };
             let count: i64 = lists.iter().enumerate().map(|(set, &lists)| sign(set) * lists as i64).sum();
             if count % PRIME as i64 != 0 {
                 return k;

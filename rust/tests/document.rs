@@ -578,7 +578,7 @@ fn floors_above_the_fullest_set() {
     let all: Vec<u8> = (0..20).collect();
     for count in 3..=20 {
         let circle = pairs(count, |a, b| b == a + 1 || b + 1 == a + count);
-        let used = if count % 2 == 0 { 2 } else { 3 };
+        let used = if count.is_multiple_of(2) { 2 } else { 3 };
         assert_eq!(figures(&all[..count], &circle), searched(used, used));
     }
     // All of twenty meet.
