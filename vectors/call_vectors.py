@@ -1,4 +1,5 @@
-"""Vectors for the analysis, the rewriting and the player. The expected lines are written from documents 01 and 02 and paper 003, not taken from a run.
+"""Vectors for the analysis, the rewriting and the player. The expected lines are written from documents 01 and 02 and from paper 003, not taken from
+a run.
 
 `vectors/make` turns them into input and expected output of crates/vectors. What the program prints:
   analysis    used U floor F searched S beyond C, then: live W W ..    (S is 1 or 0; words of locations 0 to 7 and of the last one)
