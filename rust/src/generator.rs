@@ -303,6 +303,25 @@ pub fn pairs(count: usize, mut meet: impl FnMut(usize, usize) -> bool) -> Vec<Ve
     pairs
 }
 
+/// Of twenty families, those that each meets: of all that were tried, the search of the proved library takes longest.
+const HARDEST: [u32; 20] = [
+    0xa38a2, 0x1c05d, 0x1c05a, 0xbd056, 0x1c84e, 0xe0581, 0x1c01e, 0xa3621, 0xc1e20, 0x41d80, 0x623a0, 0xa3311,
+    0x60b89, 0xe0c81, 0x1805e, 0x1405e, 0x0c05e, 0xc3ca9, 0x23720, 0x229a9,
+];
+
+/// A chart of twenty families whose floor, 8, is hard to find; nowhere are more than two timers live at once.
+pub fn hardest_floor() -> Drawing {
+    let timers: Vec<u8> = (0..20).collect();
+    meetings(&timers, &pairs(20, |a, b| HARDEST[a] >> b & 1 == 1))
+}
+
+/// A chart of twenty families in five groups of four, on a circle: families meet within a group and in neighbouring
+/// groups. Of any three families two meet, so that a plan takes ten timers; nowhere are more than two live at once.
+pub fn five_groups() -> Drawing {
+    let timers: Vec<u8> = (0..20).collect();
+    meetings(&timers, &pairs(20, |a, b| matches!((a + 20 - b) % 5, 0 | 1 | 4)))
+}
+
 /// A chart of [`meetings`] with so many families, at most 25. Often its floor exceeds the fullest live set, or first fit
 /// uses more timers than its floor.
 pub fn random_meetings(random: &mut Random, families: usize) -> Drawing {

@@ -3,7 +3,9 @@
 use timing_chart::analysis::{self, analyse, Analysis};
 use timing_chart::chart::{Chart, Comparison};
 use timing_chart::drawing::*;
-use timing_chart::generator::{longest, many_numbers, meetings, pairs, sixty_five_numbers, Random};
+use timing_chart::generator::{
+    five_groups, hardest_floor, longest, many_numbers, meetings, pairs, sixty_five_numbers, Random,
+};
 use timing_chart::limits::LARGEST_FILE;
 use timing_chart::listing::listing;
 use timing_chart::player::{play, Playing};
@@ -587,9 +589,8 @@ fn floors_above_the_fullest_set() {
     // column, and two suffice, one for each row.
     let rows = pairs(20, |a, b| a % 2 != b % 2 && a / 2 != b / 2);
     assert_eq!(figures(&all, &rows), searched(10, 2));
-    // Five groups of four on a circle, families meet within a group and in neighbouring ones: no three are apart.
-    let near = |a: usize, b: usize| matches!((a % 5 + 5 - b % 5) % 5, 0 | 1 | 4);
-    assert_eq!(figures(&all, &pairs(20, near)).floor, 10);
+    assert_eq!(live_of(&five_groups().file()).1.floor, 10);
+    assert_eq!(live_of(&hardest_floor().file()).1, searched(8, 8));
 }
 
 #[test]
