@@ -590,7 +590,7 @@ fn floors_above_the_fullest_set() {
     let rows = pairs(20, |a, b| a % 2 != b % 2 && a / 2 != b / 2);
     assert_eq!(figures(&all, &rows), searched(10, 2));
     assert_eq!(live_of(&five_groups().file()).1.floor, 10);
-    assert_eq!(live_of(&hardest_floor().file()).1, searched(8, 8));
+    assert_eq!(live_of(&hardest_floor().file()).1, searched(10, 10));
 }
 
 #[test]
