@@ -22,6 +22,9 @@
 /* The bytes of the largest chart file. */
 #define CHART_LARGEST_FILE 54286
 
+/* The most families for which the floor is found by search. */
+#define CHART_MOST_SEARCHED 20
+
 /* The largest time of a step, and the largest starting count of a timer. */
 #define CHART_MOST_TICKS 16777215
 
@@ -62,12 +65,16 @@ typedef enum chart_refusal {
     CHART_REFUSED_TEST_NOT_MET = 24        /* a test of the step is not met */
 } chart_refusal;
 
-/* used: the board timers that the chart takes; it may exceed CHART_MOST_TIMERS. floor: the timers live at once where most are. */
+/* used: the board timers that the chart takes; it may exceed CHART_MOST_TIMERS.
+ * searched: 1 for a chart of at most CHART_MOST_SEARCHED families, else 0.
+ * floor: if searched is 1, the smallest number of timers in any plan that gives meeting families different numbers; else the timers live at once
+ * where most are, and every plan may need more. For the latter the program prints `seen` in place of `floor`. */
 typedef struct chart_analysis {
     uint64_t number;
     uint64_t place;
     uint64_t used;
     uint64_t floor;
+    uint64_t searched;
 } chart_analysis;
 
 /* used: the timers of the rewritten chart, at most K. length: the bytes of its file. */
@@ -99,7 +106,8 @@ CHART_FIELD(chart_analysis, number, 0);
 CHART_FIELD(chart_analysis, place, 8);
 CHART_FIELD(chart_analysis, used, 16);
 CHART_FIELD(chart_analysis, floor, 24);
-CHART_ASSERT(sizeof(chart_analysis) == 32, "chart_analysis");
+CHART_FIELD(chart_analysis, searched, 32);
+CHART_ASSERT(sizeof(chart_analysis) == 40, "chart_analysis");
 CHART_FIELD(chart_rewriting, number, 0);
 CHART_FIELD(chart_rewriting, place, 8);
 CHART_FIELD(chart_rewriting, used, 16);

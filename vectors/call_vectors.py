@@ -1,7 +1,8 @@
-"""Vectors for the analysis, the rewriting and the player. The expected lines are written from document 01 and paper 003, not taken from a run.
+"""Vectors for the analysis, the rewriting and the player. The expected lines are written from documents 01 and 02 and from paper 003, not taken from
+a run.
 
 `vectors/make` turns them into input and expected output of crates/vectors. What the program prints:
-  analysis    used U floor F beyond C, then: live W W ..    (words of locations 0 to 7 and of the last one)
+  analysis    used U floor F searched S beyond C, then: live W W ..    (S is 1 or 0; words of locations 0 to 7 and of the last one)
   rewriting   used U length N HEX next HH                    (the bytes of the new file, the last 8 if over 64, and the byte after them)
   player      location L time T accepting B                  (B is 1 or 0)
   a refusal   refused N P changed C                          (C: lent entries or bytes that are not as they were; 0 where nothing is lent)
@@ -50,27 +51,62 @@ OVER_64 = chart(6, 64, [(0, 1, EVERY, []), (1, 2, [1], []), (1, 3, [0], [(0, AT_
                 + [(4, 5, [], [(0, AT_MOST, 1), (1, AT_MOST, 1)])])
 ALL = 2 ** 64 - 1
 
+# ---- floors (document 02, P1)
+# Families 128, 130, 192 and 193 get 0, 1, 0 and 2. The third meets the fourth, the fourth the second, the second the first: two timers would do.
+D = chart(5, 3, [(0, 3, [0, 1], []), (3, 1, [], [(0, AT_MOST, 3)]), (3, 4, [2], []), (4, 2, [0], [(1, AT_MOST, 5)]),
+                 (2, 1, [], [(0, AT_MOST, 3), (2, AT_MOST, 9)])])
+D_BOARD = chart(5, 3, [(0, 3, [0, 2], []), (3, 1, [], [(0, AT_MOST, 3)]), (3, 4, [1], []), (4, 2, [0], [(2, AT_MOST, 5)]),
+                       (2, 1, [], [(0, AT_MOST, 3), (1, AT_MOST, 9)])])
+
+
+def lone(q, n):
+    """A row of n transitions from location q, where timer 0 was started, each with a family of its own that meets none: it tests the one of timers 0
+    and 1 that was started last and starts the other."""
+    return [(q + i, q + i + 1, [(i + 1) % 2], [(i % 2, AT_LEAST, 0)]) for i in range(n)]
+
+
+def a_and_lone(n):
+    return chart(7 + n, 3, [(0, 1, [0], []), (1, 2, [1], []), (2, 3, [2], [(0, AT_LEAST, 3)]), (2, 4, [2], [(1, AT_MOST, 7)]),
+                            (3, 5, [], [(1, BELOW, 9)]), (4, 5, [], [(0, EQUAL, 4)]), (5, 6, [0], [(2, ABOVE, 2)])] + lone(6, n))
+
+
+# 15 families of timer 5 that meet none, each at a location of its own; then timers 0 to 4, one family each: alone at a location, and with each other
+# one at a further one. The locations of a family lie on a cycle that tests its timer and starts all others.
+PLACES = [[5]] * 15 + [[j] for j in range(5)] + [[i, j] for j in range(5) for i in range(j)]
+CYCLES = [(5, [q]) for q in range(15)] + [(j, [q for q, live in enumerate(PLACES) if j in live]) for j in range(5)]
+LONE_THEN_FIVE = chart(31, 6, [(0, q + 1, range(6), []) for q in range(20)]
+                       + [(q + 1, cycle[(i + 1) % len(cycle)] + 1, [k for k in range(6) if k != j], [(j, AT_LEAST, 0)])
+                          for j, cycle in CYCLES for i, q in enumerate(cycle)])
+
 
 def analyse(comment, file, room, lines):
     ANALYSE.append((comment, file, room, lines if isinstance(lines, list) else [lines]))
 
 
-analyse('A', A, 7, ['used 3 floor 2 beyond 0', 'live 0 1 3 6 5 4 0'])
-analyse('A, a longer list', A, 256, ['used 3 floor 2 beyond 0', 'live 0 1 3 6 5 4 0'])
+analyse('A', A, 7, ['used 3 floor 3 searched 1 beyond 0', 'live 0 1 3 6 5 4 0'])
+analyse('A, a longer list', A, 256, ['used 3 floor 3 searched 1 beyond 0', 'live 0 1 3 6 5 4 0'])
 analyse('A, a list one word too short', A, 6, 'refused 21 65535 changed 0')
-analyse('B', B, 4, ['used 1 floor 1 beyond 0', 'live 0 1 2 0'])
-analyse('C', C, 6, ['used 2 floor 2 beyond 0', 'live 0 2 3 2 1 0'])
-analyse('one location, 0→0 starting timer 0', SELF_LOOP, 1, ['used 0 floor 0 beyond 0', 'live 0'])
+analyse('B', B, 4, ['used 1 floor 1 searched 1 beyond 0', 'live 0 1 2 0'])
+analyse('C', C, 6, ['used 2 floor 2 searched 1 beyond 0', 'live 0 2 3 2 1 0'])
+analyse('one location, 0→0 starting timer 0', SELF_LOOP, 1, ['used 0 floor 0 searched 1 beyond 0', 'live 0'])
 analyse('a test that no path starts', NEVER_STARTED, 2, 'refused 10 1 changed 0')
 analyse('10 comes before 21', NEVER_STARTED, 0, 'refused 10 1 changed 0')
-analyse('the chart of one location', SMALL, 1, ['used 0 floor 0 beyond 0', 'live 0'])
+analyse('the chart of one location', SMALL, 1, ['used 0 floor 0 searched 1 beyond 0', 'live 0'])
 analyse('one byte fewer', SMALL[:-1], 1, 'refused 1 65535 changed 0')
 analyse('Fig. 1 of paper 003: active(r2) = {0,1}, active(r3) = {1,2}, active(r4) = {0,2}, active(r5) = active(r6) = {2}', FIG_1, 7,
-        ['used 3 floor 2 beyond 0', 'live 0 1 3 6 5 4 0'])
-analyse('a restart keeps two families apart', RESTART, 4, ['used 1 floor 1 beyond 0', 'live 0 1 1 0'])
-analyse('two parallel transitions, one of which starts the timer', PARALLEL, 4, ['used 1 floor 1 beyond 0', 'live 0 1 1 0'])
-analyse('a chain of 256 locations', CHAIN, 256, ['used 1 floor 1 beyond 0', 'live 0 1 1 1 1 1 1 1 0'])
-analyse('used over 64', OVER_64, 6, ['used 65 floor 64 beyond 0', 'live 0 %d 2 %d 3 0' % (ALL, ALL)])
+        ['used 3 floor 3 searched 1 beyond 0', 'live 0 1 3 6 5 4 0'])
+analyse('a restart keeps two families apart', RESTART, 4, ['used 1 floor 1 searched 1 beyond 0', 'live 0 1 1 0'])
+analyse('two parallel transitions, one of which starts the timer', PARALLEL, 4, ['used 1 floor 1 searched 1 beyond 0', 'live 0 1 1 0'])
+analyse('a chain of 256 locations', CHAIN, 256, ['used 1 floor 1 searched 1 beyond 0', 'live 0 1 1 1 1 1 1 1 0'])
+analyse('used over 64', OVER_64, 6, ['used 65 floor 64 searched 0 beyond 0', 'live 0 %d 2 %d 3 0' % (ALL, ALL)])
+analyse('floor below used', D, 5, ['used 3 floor 2 searched 1 beyond 0', 'live 0 0 5 3 6'])
+analyse('A and 17 families more, 20 in all', a_and_lone(17), 24, ['used 3 floor 3 searched 1 beyond 0', 'live 0 1 3 6 5 4 1 2 0'])
+analyse('A and 18 families more: not searched', a_and_lone(18), 25, ['used 3 floor 2 searched 0 beyond 0', 'live 0 1 3 6 5 4 1 2 0'])
+for n, searched in (20, 1), (21, 0):
+    analyse('%d families that meet none' % n, chart(n + 2, 2, [(0, 1, [0], [])] + lone(1, n)), n + 2,
+            ['used 1 floor 1 searched %d beyond 0' % searched, 'live 0 1 2 1 2 1 2 1 0'])
+analyse('15 families that meet none, then five that meet pairwise', LONE_THEN_FIVE, 31,
+        ['used 5 floor 5 searched 1 beyond 0', 'live 0 32 32 32 32 32 32 32 24'])
 analyse('location 2 is not reached', chart(4, 0, [(0, 1, [], []), (1, 3, [], []), (2, 3, [], [])]), 4, 'refused 9 2 changed 0')
 analyse('location 0 is not reached from 2', chart(3, 0, [(2, 1, [], []), (0, 1, [], [])], initial=2), 3, 'refused 9 0 changed 0')
 analyse('9 comes before 10', chart(3, 1, [(0, 1, [], [(0, AT_MOST, 1)])]), 3, 'refused 9 2 changed 0')
@@ -106,6 +142,8 @@ rewrite('the largest K', A, 4294967295, 65536, 'refused 11 65535 changed 0')
 rewrite('10 comes before 11', NEVER_STARTED, 65, 65536, 'refused 10 1 changed 0')
 rewrite('11 comes before 21', A, 65, 0, 'refused 11 65535 changed 0')
 rewrite('used 65 does not fit 64', OVER_64, 64, 65536, 'refused 20 65535 changed 0')
+rewrite('2 timers would do, but not for first fit', D, 2, 65536, 'refused 20 65535 changed 0')
+rewrite('first fit for 3 timers', D, 3, 65536, rewritten(3, D_BOARD, 65536))
 rewrite('the chart of one location', SMALL, 0, 14, rewritten(0, SMALL, 14))
 rewrite('a file cut', B[:-1], 16, 65536, 'refused 1 65535 changed 0')
 

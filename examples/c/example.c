@@ -1,4 +1,4 @@
-/* Analyses charts A and B of document 01, rewrites B for 16 timers and plays it, and prints the answers. */
+/* Analyses charts A and B of document 01 and two with many families, rewrites B for 16 timers and plays it, and prints the answers. */
 #include <inttypes.h>
 #include <stdio.h>
 
@@ -32,17 +32,41 @@ static const uint8_t B[] = {
 /* What memory is filled with before it is lent. */
 enum { UNTOUCHED = 170 };
 
+/* The most families of a chart that `chain` makes, and how many live sets are printed. */
+enum { CHAIN = 21, SHOWN = 8 };
+
+/* Makes a chart of one timer with so many families, none of which meets another, and returns the length of its file: 0→1 starts 0; then each
+ * transition of a row tests 0 at least 0 and starts it anew. */
+static size_t chain(uint8_t *file, uint8_t families) {
+    uint8_t *end = file;
+    const uint8_t head[] = {1, 0, 0, 0, 0, 0, families + 2, 0, 0, 1, 0, 1, 0, families + 1, 0, families + 1};
+    const uint8_t first[] = {0, 8, 0, 0, 0, 1, 0, 1, 0, 0};
+    for (size_t i = 0; i < LENGTH(head); i++)
+        *end++ = head[i];
+    for (size_t i = 0; i < LENGTH(first); i++)
+        *end++ = first[i];
+    for (uint8_t q = 1; q <= families; q++) {
+        const uint8_t next[] = {0, 12, 0, q, 0, q + 1, 0, 1, 0, 1, 0, 2, 0, 0};
+        for (size_t i = 0; i < LENGTH(next); i++)
+            *end++ = next[i];
+    }
+    size_t length = (size_t)(end - file);
+    file[3] = (uint8_t)((length - 5) >> 8);
+    file[4] = (uint8_t)(length - 5);
+    return length;
+}
+
 static void analyse(const uint8_t *file, size_t length, size_t room) {
-    uint64_t live[8];
+    uint64_t live[CHAIN + 2];
     for (size_t q = 0; q < LENGTH(live); q++)
         live[q] = UNTOUCHED;
     chart_analysis a = chart_analyse(file, length, live, room);
     if (a.number != CHART_NO_REFUSAL)
         printf("refused %" PRIu64 " %" PRIu64 "\n", a.number, a.place);
     else
-        printf("used %" PRIu64 " floor %" PRIu64 "\n", a.used, a.floor);
+        printf("used %" PRIu64 " %s %" PRIu64 "\n", a.used, a.searched ? "floor" : "seen", a.floor);
     printf("live");
-    for (size_t q = 0; q < LENGTH(live); q++)
+    for (size_t q = 0; q < SHOWN; q++)
         printf(" %" PRIu64, live[q]);
     printf("\n");
 }
@@ -76,6 +100,9 @@ int main(void) {
     analyse(A, sizeof A, 8);
     analyse(B, sizeof B, 8);
     analyse(B, sizeof B, 3);
+    uint8_t many[26 + 14 * CHAIN];
+    analyse(many, chain(many, CHART_MOST_SEARCHED), CHAIN + 2);
+    analyse(many, chain(many, CHAIN), CHAIN + 2);
 
     uint8_t board[64];
     rewrite(0, board, sizeof board);

@@ -1,6 +1,7 @@
-//! The analysis: reached, unstarted and live; families, their board numbers by first fit, used and floor.
+//! The analysis: reached, unstarted and live; families, their board numbers by first fit, used.
 
 use crate::chart::{Chart, Transition};
+use crate::floor::Floor;
 use crate::limits::{LOCATIONS, TIMERS, TRANSITIONS};
 use crate::refusal::{Answer, Refusal};
 use crate::sets::{LocationSet, TimerSet};
@@ -16,8 +17,10 @@ const LAST: u8 = (LOCATIONS - 1) as u8;
 pub struct Analysis {
     /// One more than the largest board number given, 0 if there is no family. It may exceed the timers of any board.
     pub used: u64,
-    /// The size of the fullest live set of any location.
+    /// The smallest number of timers in any plan if `searched`, else the size of the fullest live set.
     pub floor: u64,
+    /// Whether there are few enough families for the search.
+    pub searched: bool,
 }
 
 /// Analyses a chart file and writes the live set of each location to the front of `live`. Judges 1 to 10 and 21.
@@ -28,12 +31,14 @@ pub fn analyse(file: &[u8], live: &mut [u64]) -> Answer<Analysis> {
         return Err(Refusal::nowhere(21));
     };
     let liveness = Liveness::of(&chart, graph);
-    let numbers = Families::of(&chart, &liveness).first_fit(usize::MAX);
-    let numbers = numbers.expect("without a limit every family gets a number");
+    let families = Families::of(&chart, &liveness);
+    let numbers = families.first_fit(usize::MAX).expect("without a limit every family gets a number");
+    let used = u32::from(used(&numbers));
+    let Floor { timers, searched } = Floor::of(&families, &liveness, used);
     for (entry, set) in entries.iter_mut().zip(liveness.sets()) {
         *entry = set.word();
     }
-    Ok(Analysis { used: u64::from(used(&numbers)), floor: u64::from(liveness.floor()) })
+    Ok(Analysis { used: u64::from(used), floor: u64::from(timers), searched })
 }
 
 /// Judges 9 and 10 and returns the order of the locations, which the live sets are made by.
@@ -210,7 +215,7 @@ impl Liveness {
     }
 
     /// The size of the fullest live set.
-    pub fn floor(&self) -> u32 {
+    pub fn fullest(&self) -> u32 {
         self.sets().iter().map(|set| set.len()).max().unwrap_or(0)
     }
 }

@@ -112,7 +112,7 @@ pub fn enclosed(body: &[u8]) -> Vec<u8> {
     file
 }
 
-/// Chart A of document 01: used 3, floor 2.
+/// Chart A of document 01: used 3, floor 3 (document 02, P1), at most 2 timers live at once.
 pub fn chart_a() -> Drawing {
     Drawing::new(
         7,
@@ -155,6 +155,46 @@ pub fn chart_c() -> Drawing {
             Arrow::new(4, 5).tests(0, AT_LEAST, 2),
         ],
     )
+}
+
+/// First fit uses 3 timers, and 2 would do: families 128, 130, 192 and 193 get 0, 1, 0 and 2.
+pub fn over_floor() -> Drawing {
+    Drawing::new(
+        5,
+        3,
+        vec![
+            Arrow::new(0, 3).starts(&[0, 1]),
+            Arrow::new(3, 1).tests(0, AT_MOST, 3),
+            Arrow::new(3, 4).starts(&[2]),
+            Arrow::new(4, 2).tests(1, AT_MOST, 5).starts(&[0]),
+            Arrow::new(2, 1).tests(0, AT_MOST, 3).tests(2, AT_MOST, 9),
+        ],
+    )
+}
+
+/// So many transitions one after the other from a location where timer 0 was started: each tests the one of timers 0 and
+/// 1 that the transition before it has started, and starts the other. That is a family each, and none meets another.
+fn chain(from: u16, transitions: u16) -> Vec<Arrow> {
+    let arrow = |index: u16| {
+        let (tested, started) = if index.is_multiple_of(2) { (0, 1) } else { (1, 0) };
+        Arrow::new(from + index, from + index + 1).tests(tested, AT_LEAST, 0).starts(&[started])
+    };
+    (0..transitions).map(arrow).collect()
+}
+
+/// So many families that meet none.
+pub fn lone_families(count: u16) -> Drawing {
+    let mut transitions = vec![Arrow::new(0, 1).starts(&[0])];
+    transitions.extend(chain(1, count));
+    Drawing::new(count + 2, 2, transitions)
+}
+
+/// Chart A with so many families more that meet none: used 3, floor 3 as long as the floor is searched.
+pub fn chart_a_continued(count: u16) -> Drawing {
+    let mut transitions = chart_a().transitions;
+    transitions[6].starts = vec![0];
+    transitions.extend(chain(6, count));
+    Drawing::new(7 + count, 3, transitions)
 }
 
 /// The chart of one location and nothing else, 14 bytes; no location accepts.

@@ -8,6 +8,7 @@ pub struct ChartAnalysis {
     pub place: u64,
     pub used: u64,
     pub floor: u64,
+    pub searched: u64,
 }
 
 #[repr(C)]

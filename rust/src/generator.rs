@@ -269,6 +269,116 @@ pub fn sixty_five_numbers(other: u8) -> Drawing {
     Drawing::new(5, MOST_TIMERS, transitions)
 }
 
+/// A chart with one family for each entry of `timers`, in that order, each of the timer that the entry names, and
+/// families that meet where some set of `sets` has them both. Families of one timer are in no common set.
+///
+/// Family f alone is live at location f + 1, and the families of each set at a further one. The locations of a family
+/// lie on a cycle whose transitions test its timer and start all others.
+pub fn meetings(timers: &[u8], sets: &[Vec<usize>]) -> Drawing {
+    let count = timers.iter().max().map_or(0, |&timer| timer + 1);
+    let mut transitions = Vec::new();
+    for (family, &timer) in timers.iter().enumerate() {
+        let all: Vec<u8> = (0..count).collect();
+        let others: Vec<u8> = all.iter().copied().filter(|&other| other != timer).collect();
+        let own = family as u16 + 1;
+        transitions.push(Arrow::new(0, own).starts(&all));
+        let mut cycle = vec![own];
+        cycle.extend(
+            (0..sets.len()).filter(|&set| sets[set].contains(&family)).map(|set| (timers.len() + set) as u16 + 1),
+        );
+        for (index, &source) in cycle.iter().enumerate() {
+            let target = cycle[(index + 1) % cycle.len()];
+            transitions.push(Arrow::new(source, target).starts(&others).tests(timer, AT_LEAST, 0));
+        }
+    }
+    Drawing::new((timers.len() + sets.len()) as u16 + 1, count, transitions)
+}
+
+/// The pairs of numbers below `count` for which `meet` says so.
+pub fn pairs(count: usize, mut meet: impl FnMut(usize, usize) -> bool) -> Vec<Vec<usize>> {
+    let mut pairs = Vec::new();
+    for second in 0..count {
+        pairs.extend((0..second).filter(|&first| meet(first, second)).map(|first| vec![first, second]));
+    }
+    pairs
+}
+
+/// Of twenty families, those that each meets: of all that were tried, the search of the proved library takes longest.
+const HARDEST: [u32; 20] = [
+    0x979a6, 0x871e5, 0x075ab, 0x78e54, 0x79e48, 0x87987, 0x78e1a, 0x83927, 0x8f8a7, 0xf8c58, 0x78a5c, 0xfc7f9,
+    0xc21b7, 0xa51a7, 0x82927, 0x70f58, 0x68e59, 0x5ae58, 0x39e58, 0x07ba3,
+];
+
+/// A chart of twenty families whose floor, 10, is hard to find; nowhere are more than two timers live at once.
+pub fn hardest_floor() -> Drawing {
+    let timers: Vec<u8> = (0..20).collect();
+    meetings(&timers, &pairs(20, |a, b| HARDEST[a] >> b & 1 == 1))
+}
+
+/// A chart of twenty families in five groups of four, on a circle: families meet within a group and in neighbouring
+/// groups. Of any three families two meet, so that a plan takes ten timers; nowhere are more than two live at once.
+pub fn five_groups() -> Drawing {
+    let timers: Vec<u8> = (0..20).collect();
+    meetings(&timers, &pairs(20, |a, b| matches!((a + 20 - b) % 5, 0 | 1 | 4)))
+}
+
+/// A chart of [`meetings`] with so many families, at most 25. Often its floor exceeds the fullest live set, or first fit
+/// uses more timers than its floor.
+pub fn random_meetings(random: &mut Random, families: usize) -> Drawing {
+    let part = random.between(2, 6) as usize;
+    let share = random.between(1, 100);
+    let mut sets = match random.below(6) {
+        0 => pairs(families, |_, _| random.chance(share, 100)),
+        // Groups, no two of one group meet.
+        1 => pairs(families, |a, b| a % part != b % part && random.chance(share, 100)),
+        // Groups, all of one group meet.
+        2 => pairs(families, |a, b| a % part == b % part),
+        // Neighbours of a circle of groups meet, and perhaps all of a group.
+        3 => {
+            let (groups, within) = (2 * part - 1, random.chance(1, 2));
+            let distance = |a: usize, b: usize| (a % groups + groups - b % groups) % groups;
+            pairs(families, |a, b| matches!(distance(a, b), d if d == 1 || d + 1 == groups || within && d == 0))
+        }
+        // Lone families, then some that meet pairwise.
+        4 => pairs(families, |a, b| a.min(b) + part >= families),
+        _ => Vec::new(),
+    };
+    random.shuffle(&mut sets);
+    for _ in 0..random.pick(&[0, 0, 1, 5, 20]) {
+        let mut set: Vec<usize> = (0..families).filter(|_| random.chance(1, part as u64)).collect();
+        set.truncate(5);
+        sets.push(set);
+    }
+    // As many as keep to a chart's limits: each set has a location, each of its members a transition.
+    let mut room = usize::from(MOST_TRANSITIONS) - 2 * families;
+    sets.retain(|set| {
+        let fits = !set.is_empty() && set.len() <= room;
+        room -= if fits { set.len() } else { 0 };
+        fits
+    });
+    sets.truncate(usize::from(MOST_LOCATIONS) - 1 - families);
+    let mut order: Vec<usize> = (0..families).collect();
+    random.shuffle(&mut order);
+    sets.iter_mut().flatten().for_each(|family| *family = order[*family]);
+    let timers = if random.chance(1, 2) { (0..families as u8).collect() } else { few_timers(random, families, &sets) };
+    meetings(&timers, &sets)
+}
+
+/// Timers for families: few, but different ones within each set.
+fn few_timers(random: &mut Random, families: usize, sets: &[Vec<usize>]) -> Vec<u8> {
+    let mut timers: Vec<Option<u8>> = vec![None; families];
+    let mut order: Vec<usize> = (0..families).collect();
+    random.shuffle(&mut order);
+    for family in order {
+        let held = |timer| {
+            let shares = |set: &&Vec<usize>| set.contains(&family);
+            sets.iter().filter(shares).flatten().any(|&other| timers[other] == Some(timer))
+        };
+        timers[family] = (0..MOST_TIMERS).find(|&timer| !held(timer));
+    }
+    timers.into_iter().flatten().collect()
+}
+
 /// The longest file that passes 1 to 10, 54,254 bytes: all limits are reached, but the one transition that leaves the
 /// initial location has no tests.
 pub fn longest(random: &mut Random) -> Drawing {

@@ -1,11 +1,13 @@
 //! Timing charts: timed automata counted in whole ticks, read from files, analysed, rewritten for a board with fewer
 //! timers, and played.
 //!
-//! The modules follow the parts of document 01 and share no code with the proved library:
+//! The modules follow the parts of document 01, with what document 02 asks since, and share no code with the proved
+//! library:
 //!
 //! - [`chart`]: the chart, its reader (refusals 1 to 8) and its writer;
 //! - [`lists`]: the same reader and writer over lent lists;
-//! - [`analysis`]: reached, unstarted and live; families, their board numbers, used and floor;
+//! - [`analysis`]: reached, unstarted and live; families, their board numbers, used;
+//! - [`floor`]: the fewest timers of any plan, or the fullest live set;
 //! - [`rewriting`]: the chart's file for a board of K timers;
 //! - [`player`]: a step list, played on a file;
 //! - [`listing`]: the program's text from its whole input;
@@ -21,6 +23,7 @@
 pub mod analysis;
 pub mod chart;
 pub mod drawing;
+pub mod floor;
 pub mod generator;
 pub mod limits;
 pub mod listing;

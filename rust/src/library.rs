@@ -23,8 +23,8 @@ fn answer<T>(number: u64, place: u64, result: T) -> Answer<T> {
 pub fn analyse(file: &[u8], live: &mut [u64]) -> Answer<Analysis> {
     // SAFETY: both slices are valid for their lengths during the call, and `live` is lent to it alone.
     let answered = unsafe { ffi::chart_analyse(file.as_ptr(), file.len(), live.as_mut_ptr(), live.len()) };
-    let ffi::ChartAnalysis { number, place, used, floor } = answered;
-    answer(number, place, Analysis { used, floor })
+    let ffi::ChartAnalysis { number, place, used, floor, searched } = answered;
+    answer(number, place, Analysis { used, floor, searched: searched != 0 })
 }
 
 /// [`crate::rewriting::rewrite`] by the proved library.

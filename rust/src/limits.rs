@@ -1,4 +1,5 @@
-//! The limits that document 01 sets: to a chart, its file, its step lists, the program's input and a refusal's place.
+//! The limits that document 01 sets to a chart, its file, its step lists, the program's input and a refusal's place, and
+//! document 02 to the search for the floor.
 
 /// The most locations of a chart.
 pub const MOST_LOCATIONS: u16 = 256;
@@ -29,6 +30,9 @@ pub const MOST_INPUT: usize = 65_536;
 
 /// The place of a refusal that points at no location, transition, timer or step.
 pub const NOWHERE: u64 = 65_535;
+
+/// The most families for which the floor is found by search.
+pub const MOST_SEARCHED: usize = 20;
 
 /// The entries of a table with one for each location that a chart can have.
 pub const LOCATIONS: usize = MOST_LOCATIONS as usize;

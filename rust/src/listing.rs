@@ -29,8 +29,9 @@ fn text(k: u8, plan: &Plan) -> String {
     let mut text = String::with_capacity(40 + 7 * plan.live().len() + 6 * entries);
     text += "used ";
     put(&mut text, u32::from(plan.used()));
-    text += " floor ";
-    put(&mut text, plan.floor());
+    let floor = plan.floor();
+    text += if floor.searched { " floor " } else { " seen " };
+    put(&mut text, floor.timers);
     text += " limit ";
     put(&mut text, u32::from(k));
     text += "\n";

@@ -2,6 +2,7 @@
 
 use crate::analysis::{judge, used, Families, Liveness};
 use crate::chart::{Chart, Transition};
+use crate::floor::Floor;
 use crate::limits::{MOST_TIMERS, TIMERS};
 use crate::refusal::{Answer, Refusal};
 use crate::sets::TimerSet;
@@ -19,6 +20,7 @@ pub struct Rewriting {
 pub struct Plan {
     chart: Chart,
     liveness: Liveness,
+    families: Families,
     used: u8,
     /// By [`pair`]; 0 where the timer is not live.
     numbers: Vec<u8>,
@@ -47,7 +49,7 @@ impl Plan {
                 numbers[pair(location, family.timer)] = number as u8;
             });
         }
-        Ok(Plan { chart, liveness, used: used(&given) as u8, numbers })
+        Ok(Plan { chart, liveness, families, used: used(&given) as u8, numbers })
     }
 
     /// One more than the largest number given: at most [`MOST_TIMERS`].
@@ -55,9 +57,9 @@ impl Plan {
         self.used
     }
 
-    /// The size of the fullest live set.
-    pub fn floor(&self) -> u32 {
-        self.liveness.floor()
+    /// The chart's floor. It is found anew at each call.
+    pub fn floor(&self) -> Floor {
+        Floor::of(&self.families, &self.liveness, u32::from(self.used))
     }
 
     /// The live set of each location of the chart.

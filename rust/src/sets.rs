@@ -156,6 +156,11 @@ impl LocationSet {
         self.0.iter().map(|word| word.count_ones() as u16).sum()
     }
 
+    /// Whether some location is in both sets.
+    pub fn meets(&self, other: &LocationSet) -> bool {
+        self.0.iter().zip(&other.0).any(|(word, other)| word & other != 0)
+    }
+
     /// The lowest location that is in the set and not in `other`.
     pub fn lowest_beyond(&self, other: &LocationSet) -> Option<u8> {
         (0..WORDS).find_map(|word| {
@@ -212,6 +217,7 @@ mod tests {
         assert!(set.has(64) && !set.has(65));
         assert_eq!(LocationSet::below(256).count(), 256);
         assert_eq!(LocationSet::below(65).iter().last(), Some(64));
+        assert!(set.meets(&LocationSet::below(1)) && !set.meets(&LocationSet::EMPTY));
         assert_eq!(LocationSet::below(256).lowest_beyond(&set), Some(1));
         assert_eq!(set.lowest_beyond(&LocationSet::below(256)), None);
         assert_eq!([set.take_lowest(), set.take_lowest()], [Some(0), Some(63)]);

@@ -1,13 +1,13 @@
-//! The crate compared with a second implementation that spells out the definitions of document 01 one by one, on random
-//! charts.
+//! The crate compared with a second implementation that spells out the definitions of documents 01 and 02 one by one, on
+//! random charts.
 
 use std::collections::BTreeSet;
 
 use timing_chart::analysis::{analyse, Analysis};
 use timing_chart::chart::Chart;
-use timing_chart::drawing::{chart_a, chart_b, chart_c, Arrow, Drawing};
+use timing_chart::drawing::{chart_a, chart_b, chart_c, over_floor, Arrow, Drawing};
 use timing_chart::generator::*;
-use timing_chart::limits::{LOCATIONS, MOST_TESTS, MOST_TICKS, TRANSITIONS};
+use timing_chart::limits::{LOCATIONS, MOST_SEARCHED, MOST_TESTS, MOST_TICKS, TRANSITIONS};
 use timing_chart::lists::{self, Header, LentLists, Lists};
 use timing_chart::player::{play, Playing};
 use timing_chart::rewriting::{rewrite, Rewriting};
@@ -92,6 +92,49 @@ impl Planned {
 
     fn used(&self) -> usize {
         self.families.iter().map(|family| family.1 + 1).max().unwrap_or(0)
+    }
+
+    /// The smallest number of timers in any plan: the smallest `k` for which there is a way to cover all families with
+    /// `k` sets, none of which has two that meet. Such ways are counted, modulo a prime: the lists of `k` such sets from
+    /// within each set of families, added and taken away by turns, leave those that cover all.
+    fn fewest(&self) -> u64 {
+        const PRIME: u64 = 4_294_967_291;
+        let locations = |family: &(BTreeSet<Pair>, usize)| family.0.iter().map(|pair| pair.0).collect::<BTreeSet<_>>();
+        let locations: Vec<BTreeSet<u16>> = self.families.iter().map(locations).collect();
+        let meeting = |a: usize| {
+            let meets = |b: &usize| *b != a && !locations[a].is_disjoint(&locations[*b]);
+            (0..locations.len()).filter(meets).fold(0_usize, |set, b| set | 1 << b)
+        };
+        let meeting: Vec<usize> = (0..locations.len()).map(meeting).collect();
+        let all = (1_usize << locations.len()) - 1;
+        // Of each set of families: how many of its subsets have no two that meet.
+        let mut subsets = vec![1_u64; all + 1];
+        for set in 1..=all {
+            let first = set.trailing_zeros() as usize;
+            let rest = set & !(1 << first);
+            subsets[set] = subsets[rest] + subsets[rest & !meeting[first]];
+        }
+        let mut lists = vec![1_u64; all + 1];
+        let mut k = 0;
+        loop {
+            let sign = |set: usize| if (all ^ set).count_ones().is_multiple_of(2) { 1 } else { -1 };
+            let count: i64 = lists.iter().enumerate().map(|(set, &lists)| sign(set) * lists as i64).sum();
+            if count % PRIME as i64 != 0 {
+                return k;
+            }
+            k += 1;
+            for (lists, &subsets) in lists.iter_mut().zip(&subsets) {
+                *lists = *lists * subsets % PRIME;
+            }
+        }
+    }
+
+    fn floor(&self, drawing: &Drawing) -> (u64, bool) {
+        if self.families.len() <= MOST_SEARCHED {
+            return (self.fewest(), true);
+        }
+        let sizes = self.live_sets(drawing).into_iter().map(|set| u64::from(set.count_ones()));
+        (sizes.max().unwrap(), false)
     }
 
     fn number(&self, location: u16, timer: u8) -> u8 {
@@ -202,9 +245,9 @@ fn check_analysis_and_rewriting(random: &mut Random, drawing: &Drawing) -> Optio
     }
     let planned = Planned::of(drawing);
     let mut sets = planned.live_sets(drawing);
-    let floor = sets.iter().map(|set| u64::from(set.count_ones())).max().unwrap();
+    let (floor, searched) = planned.floor(drawing);
     let used = planned.used();
-    assert_eq!(analyse(&file, &mut live), Ok(Analysis { used: used as u64, floor }));
+    assert_eq!(analyse(&file, &mut live), Ok(Analysis { used: used as u64, floor, searched }));
     sets.extend([5, 5]);
     assert_eq!(live, sets);
     let k = random.below(65) as u32;
@@ -227,7 +270,15 @@ fn check_analysis_and_rewriting(random: &mut Random, drawing: &Drawing) -> Optio
 fn analysis_and_rewriting_follow_the_definitions() {
     let mut random = Random::new(1);
     let mut drawings: Vec<Drawing> = drawings(&mut random, 2_500, 14).collect();
-    drawings.extend([chart_a(), chart_b(), chart_c(), many_numbers(4, 16), many_numbers(5, 16), sixty_five_numbers(1)]);
+    drawings.extend([
+        chart_a(),
+        chart_b(),
+        chart_c(),
+        over_floor(),
+        many_numbers(4, 16),
+        many_numbers(5, 16),
+        sixty_five_numbers(1),
+    ]);
     let boards = drawings.iter().filter_map(|drawing| check_analysis_and_rewriting(&mut random, drawing)).count();
     assert!(boards > 1_000, "{boards}");
 }
@@ -239,6 +290,18 @@ fn dense_charts_follow_the_definitions() {
         let shape = Shape { locations: 24, transitions: 60, ..Shape::LARGEST };
         let drawing = accepted(&mut random, &shape);
         check_analysis_and_rewriting(&mut random, &drawing);
+    }
+}
+
+#[test]
+fn floors_follow_the_definitions() {
+    let mut random = Random::new(6);
+    for families in (0..=25).chain([18, 19, 20, 21]) {
+        for _ in 0..8 {
+            let drawing = random_meetings(&mut random, families);
+            assert_eq!(Planned::of(&drawing).families.len(), families);
+            check_analysis_and_rewriting(&mut random, &drawing);
+        }
     }
 }
 

@@ -1,9 +1,11 @@
-//! The cases of document 01: its charts, places, orders and traps.
+//! The cases of document 01: its charts, places, orders and traps; and those of document 02 that have landed.
 
 use timing_chart::analysis::{self, analyse, Analysis};
 use timing_chart::chart::{Chart, Comparison};
 use timing_chart::drawing::*;
-use timing_chart::generator::{longest, many_numbers, sixty_five_numbers, Random};
+use timing_chart::generator::{
+    five_groups, hardest_floor, longest, many_numbers, meetings, pairs, sixty_five_numbers, Random,
+};
 use timing_chart::limits::LARGEST_FILE;
 use timing_chart::listing::listing;
 use timing_chart::player::{play, Playing};
@@ -21,6 +23,16 @@ fn live_of(file: &[u8]) -> (Vec<Vec<u8>>, Analysis) {
     assert!(live[locations..].iter().all(|&word| word == u64::MAX));
     let sets = live[..locations].iter().map(|word| (0..64).filter(|j| word >> j & 1 == 1).collect()).collect();
     (sets, answer)
+}
+
+/// The figures where the floor is searched.
+fn searched(used: u64, floor: u64) -> Analysis {
+    Analysis { used, floor, searched: true }
+}
+
+/// The figures where there are too many families for that.
+fn seen(used: u64, floor: u64) -> Analysis {
+    Analysis { used, floor, searched: false }
 }
 
 /// The families' numbers with their board numbers, by rising number.
@@ -54,7 +66,7 @@ fn read(file: &[u8]) -> Answer<()> {
 fn chart_a_is_analysed() {
     let (live, answer) = live_of(&chart_a().file());
     assert_eq!(live, [vec![], vec![0], vec![0, 1], vec![1, 2], vec![0, 2], vec![2], vec![]]);
-    assert_eq!(answer, Analysis { used: 3, floor: 2 });
+    assert_eq!(answer, searched(3, 3));
     assert_eq!(families(&chart_a()), [(64, 0), (129, 1), (194, 2)]);
 }
 
@@ -71,7 +83,7 @@ fn chart_b_shares_one_timer() {
     expected.transitions[1] = Arrow::new(1, 2).tests(0, AT_MOST, 2).starts(&[0]);
     expected.transitions[2] = Arrow::new(2, 3).tests(0, AT_LEAST, 1);
     assert_eq!(rewritten(&chart_b(), 16), Ok(expected.file()));
-    assert_eq!(live_of(&chart_b().file()).1, Analysis { used: 1, floor: 1 });
+    assert_eq!(live_of(&chart_b().file()).1, searched(1, 1));
 }
 
 #[test]
@@ -97,7 +109,7 @@ fn a_start_that_is_not_born_is_left_out() {
     expected.timers = 0;
     expected.transitions[0].starts.clear();
     assert_eq!(rewritten(&self_loop(), 0), Ok(expected.file()));
-    assert_eq!(live_of(&self_loop().file()), (vec![vec![]], Analysis { used: 0, floor: 0 }));
+    assert_eq!(live_of(&self_loop().file()), (vec![vec![]], searched(0, 0)));
 }
 
 #[test]
@@ -491,7 +503,7 @@ fn lent_memory_is_untouched_on_a_refusal_and_beyond_the_result() {
     let mut live = [77; 9];
     assert_eq!(analyse(&file, &mut live[..6]), refused(21, NOWHERE));
     assert_eq!(live, [77; 9]);
-    assert_eq!(analyse(&file, &mut live), Ok(Analysis { used: 3, floor: 2 }));
+    assert_eq!(analyse(&file, &mut live), Ok(searched(3, 3)));
     assert_eq!(live, [0, 1, 3, 6, 5, 4, 0, 77, 77]);
 
     // The room that is needed is the rewritten file's, which here is shorter than the drawn one's.
@@ -535,16 +547,63 @@ fn starts_are_sorted_by_board_number() {
 }
 
 #[test]
+fn the_floor_may_be_below_used() {
+    assert_eq!(families(&over_floor()), [(128, 0), (130, 1), (192, 0), (193, 2)]);
+    assert_eq!(live_of(&over_floor().file()).1, searched(3, 2));
+    assert_eq!(rewritten(&over_floor(), 2), refused(20, NOWHERE));
+    assert!(rewritten(&over_floor(), 3).is_ok());
+}
+
+#[test]
+fn the_floor_is_searched_up_to_20_families() {
+    let figures = |drawing: Drawing| live_of(&drawing.file()).1;
+    assert_eq!(figures(one_location()), searched(0, 0));
+    for count in [1, 19, 20] {
+        assert_eq!(figures(lone_families(count)), searched(1, 1));
+    }
+    assert_eq!(figures(lone_families(21)), seen(1, 1));
+    assert_eq!(families(&chart_a_continued(17)).len(), 20);
+    assert_eq!(figures(chart_a_continued(17)), searched(3, 3));
+    assert_eq!(families(&chart_a_continued(18)).len(), 21);
+    assert_eq!(figures(chart_a_continued(18)), seen(3, 2));
+}
+
+#[test]
+fn floors_above_the_fullest_set() {
+    // Families that meet pairwise, but nowhere more than two at once; fifteen that meet none come before them.
+    let lone_then_five = pairs(20, |a, _| a >= 15);
+    let figures = |timers: &[u8], sets: &[Vec<usize>]| live_of(&meetings(timers, sets).file()).1;
+    let timers: Vec<u8> = (0..21).map(|family: u8| family.saturating_sub(15)).collect();
+    assert_eq!(figures(&timers[..20], &lone_then_five), searched(5, 5));
+    assert_eq!(figures(&timers, &lone_then_five), seen(5, 2));
+    // Circles: two timers suffice for an even one.
+    let all: Vec<u8> = (0..20).collect();
+    for count in 3..=20 {
+        let circle = pairs(count, |a, b| b == a + 1 || b + 1 == a + count);
+        let used = if count.is_multiple_of(2) { 2 } else { 3 };
+        assert_eq!(figures(&all[..count], &circle), searched(used, used));
+    }
+    // All of twenty meet.
+    assert_eq!(figures(&all, &pairs(20, |_, _| true)), searched(20, 20));
+    // Two rows of ten, each family meets all of the other row but the one across: first fit takes a timer for each
+    // column, and two suffice, one for each row.
+    let rows = pairs(20, |a, b| a % 2 != b % 2 && a / 2 != b / 2);
+    assert_eq!(figures(&all, &rows), searched(10, 2));
+    assert_eq!(live_of(&five_groups().file()).1.floor, 10);
+    assert_eq!(live_of(&hardest_floor().file()).1, searched(10, 10));
+}
+
+#[test]
 fn used_may_exceed_64() {
     let small = sixty_five_numbers(5);
     let (live, answer) = live_of(&small.file());
-    assert_eq!(answer, Analysis { used: 65, floor: 64 });
+    assert_eq!(answer, seen(65, 64));
     assert_eq!(live[3], (0..64).collect::<Vec<_>>());
     assert_eq!(rewritten(&small, 64), refused(20, NOWHERE));
     for (levels, half) in [(3, 8), (4, 16), (8, 32), (17, 5), (17, 32)] {
         let drawing = many_numbers(levels, half);
         let answer = live_of(&drawing.file()).1;
-        assert_eq!(answer, Analysis { used: u64::from(levels) * u64::from(half), floor: 2 * u64::from(half) });
+        assert_eq!(answer, seen(u64::from(levels) * u64::from(half), 2 * u64::from(half)));
         let fits = answer.used <= 64;
         assert_eq!(rewritten(&drawing, 64).is_ok(), fits);
         assert_eq!(rewritten(&drawing, 64).err(), (!fits).then_some(Refusal { number: 20, place: NOWHERE }));
@@ -561,13 +620,13 @@ fn all_64_timers_at_once() {
         transitions.push(transition);
     }
     let drawing = Drawing::new(2, 64, transitions);
-    assert_eq!(live_of(&drawing.file()).1, Analysis { used: 64, floor: 64 });
+    assert_eq!(live_of(&drawing.file()).1, seen(64, 64));
     assert_eq!(rewritten(&drawing, 64), Ok(drawing.file()));
     assert_eq!(rewritten(&drawing, 63), refused(20, NOWHERE));
     let mut input = vec![64];
     input.extend(drawing.file());
     let text = listing(&input);
-    assert!(text.starts_with("used 64 floor 64 limit 64\nat 0\nat 1 0>0 1>1 "));
+    assert!(text.starts_with("used 64 seen 64 limit 64\nat 0\nat 1 0>0 1>1 "));
     assert!(text.ends_with(" 62>62 63>63\n"));
 }
 
@@ -581,12 +640,15 @@ fn the_programs_text() {
     assert_eq!(with_k(16, chart_b().file()), "used 1 floor 1 limit 16\nat 0\nat 1 0>0\nat 2 1>0\nat 3\n");
     assert_eq!(
         with_k(3, chart_a().file()),
-        "used 3 floor 2 limit 3\nat 0\nat 1 0>0\nat 2 0>0 1>1\nat 3 1>1 2>2\nat 4 0>0 2>2\nat 5 2>2\nat 6\n"
+        "used 3 floor 3 limit 3\nat 0\nat 1 0>0\nat 2 0>0 1>1\nat 3 1>1 2>2\nat 4 0>0 2>2\nat 5 2>2\nat 6\n"
     );
     assert_eq!(with_k(2, chart_a().file()), "refused 20 65535\n");
     assert_eq!(with_k(65, chart_a().file()), "refused 11 65535\n");
     assert_eq!(with_k(255, never_started().file()), "refused 10 1\n");
     assert_eq!(with_k(0, one_location().file()), "used 0 floor 0 limit 0\nat 0\n");
+    assert_eq!(with_k(64, over_floor().file()).lines().next(), Some("used 3 floor 2 limit 64"));
+    assert_eq!(with_k(3, chart_a_continued(17).file()).lines().next(), Some("used 3 floor 3 limit 3"));
+    assert_eq!(with_k(3, chart_a_continued(18).file()).lines().next(), Some("used 3 seen 2 limit 3"));
     assert_eq!(listing(&[]), "refused 1 65535\n");
     assert_eq!(listing(&[64]), "refused 1 65535\n");
     assert_eq!(listing(&vec![0; 65_537]), "refused 16 65535\n");

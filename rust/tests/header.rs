@@ -28,6 +28,7 @@ fn limits() {
     assert_eq!(defined("CHART_MOST_TRANSITIONS"), u64::from(MOST_TRANSITIONS));
     assert_eq!(defined("CHART_MOST_TESTS"), u64::from(MOST_TESTS));
     assert_eq!(defined("CHART_LARGEST_FILE"), LARGEST_FILE as u64);
+    assert_eq!(defined("CHART_MOST_SEARCHED"), MOST_SEARCHED as u64);
     assert_eq!(defined("CHART_MOST_TICKS"), u64::from(MOST_TICKS));
     assert_eq!(defined("CHART_NOWHERE"), NOWHERE);
 }

@@ -1,10 +1,10 @@
-//! The proved library through its wrapper: a few cases of document 01, values and lent memory. The differential test
+//! The proved library through its wrapper: a few cases of documents 01 and 02, values and lent memory. The differential test
 //! compares it with this crate at large.
 
 #![cfg(feature = "library")]
 
 use timing_chart::analysis::Analysis;
-use timing_chart::drawing::{chart_a, chart_b, never_started, self_loop};
+use timing_chart::drawing::{chart_a, chart_a_continued, chart_b, never_started, over_floor, self_loop};
 use timing_chart::library::{analyse, play, rewrite};
 use timing_chart::player::Playing;
 use timing_chart::rewriting::Rewriting;
@@ -15,8 +15,12 @@ fn analysis() {
     let mut live = [77; 9];
     assert_eq!(analyse(&chart_a().file(), &mut live[..6]), Err(Refusal { number: 21, place: NOWHERE }));
     assert_eq!(live, [77; 9]);
-    assert_eq!(analyse(&chart_a().file(), &mut live), Ok(Analysis { used: 3, floor: 2 }));
+    assert_eq!(analyse(&chart_a().file(), &mut live), Ok(Analysis { used: 3, floor: 3, searched: true }));
     assert_eq!(live, [0, 1, 3, 6, 5, 4, 0, 77, 77]);
+    assert_eq!(analyse(&over_floor().file(), &mut live), Ok(Analysis { used: 3, floor: 2, searched: true }));
+    let continued = |count| analyse(&chart_a_continued(count).file(), &mut [0; 25]);
+    assert_eq!(continued(17), Ok(Analysis { used: 3, floor: 3, searched: true }));
+    assert_eq!(continued(18), Ok(Analysis { used: 3, floor: 2, searched: false }));
     assert_eq!(analyse(&never_started().file(), &mut []), Err(Refusal { number: 10, place: 1 }));
     assert_eq!(analyse(&[], &mut []), Err(Refusal { number: 1, place: NOWHERE }));
 }

@@ -3,10 +3,10 @@
 //!
 //! usage: differential [ROUNDS] [SEED] [--without-program]
 //!
-//! Exit status 0 if all agree and every refusal number came; 1 at the first difference, with its input in hex; 2 if a
-//! number that should come never did, or the program is missing. A thousand rounds bring all numbers.
+//! Exit status 0 if all agree and every refusal number and every kind of floor came; 1 at the first difference, with its
+//! input in hex; 2 if one that should come never did, or the program is missing. A thousand rounds bring all.
 
-use std::fmt::Debug;
+use std::fmt::{Debug, Display, Formatter};
 use std::io::{ErrorKind, Write};
 use std::path::{Path, PathBuf};
 use std::process::{exit, Command, Stdio};
@@ -41,9 +41,47 @@ struct Tally {
     playings: ByNumber,
     /// The program's, the number taken from its text.
     listings: ByNumber,
+    floors: Floors,
     steps_taken: u64,
-    used_over_most: u64,
     largest: u64,
+}
+
+/// How often which figures came.
+#[derive(Default)]
+struct Floors {
+    used_over_most: u64,
+    /// Too many families for the search.
+    seen: u64,
+    searched: u64,
+    /// The search found more than the fullest live set has.
+    over_fullest: u64,
+    /// The search found fewer than first fit uses.
+    below_used: u64,
+}
+
+impl Floors {
+    fn count(&mut self, Analysis { used, floor, searched }: Analysis, fullest: u64) {
+        self.used_over_most += u64::from(used > u64::from(MOST_TIMERS));
+        self.seen += u64::from(!searched);
+        self.searched += u64::from(searched);
+        self.over_fullest += u64::from(searched && floor > fullest);
+        self.below_used += u64::from(searched && floor < used);
+    }
+
+    /// Whether each came.
+    fn all_came(&self) -> bool {
+        [self.used_over_most, self.seen, self.searched, self.over_fullest, self.below_used]
+            .iter()
+            .all(|&count| count > 0)
+    }
+}
+
+impl Display for Floors {
+    fn fmt(&self, f: &mut Formatter<'_>) -> std::fmt::Result {
+        let Floors { used_over_most, seen, searched, over_fullest, below_used } = self;
+        write!(f, "used over {MOST_TIMERS}: {used_over_most}; floor not searched: {seen}, searched: {searched}, ")?;
+        write!(f, "of these above the fullest live set: {over_fullest}, below used: {below_used}")
+    }
 }
 
 impl Tally {
@@ -92,7 +130,11 @@ impl Trial {
             differ("analysis, lent list", file, &before, &proved, &rust);
         }
         self.tally.analyses[number_of(&answer)] += 1;
-        self.tally.used_over_most += u64::from(answer.is_ok_and(|answer| answer.used > u64::from(MOST_TIMERS)));
+        if let (Ok(figures), Ok(chart)) = (answer, Chart::read(file)) {
+            let sets = &rust[..usize::from(chart.locations())];
+            let fullest = sets.iter().map(|set| u64::from(set.count_ones())).max().unwrap_or(0);
+            self.tally.floors.count(figures, fullest);
+        }
         answer
     }
 
@@ -210,10 +252,16 @@ impl Trial {
         let kind = random.below(100);
         let most_steps = if kind.is_multiple_of(10) { 2_000 } else { 25 };
         let mut drawing = match kind {
-            0..=69 => {
+            0..=59 => {
                 let most = random.pick(&[4, 8, 8, 16, 40]);
                 let shape = Shape::random(random, most);
                 accepted(random, &shape)
+            }
+            60..=69 => {
+                let few = random.between(0, 14);
+                let about = random.between(15, 25);
+                let families = random.pick(&[few, about, about, about, 20, 20, 21]) as usize;
+                random_meetings(random, families)
             }
             70..=79 => random.pick(&[
                 chart_a as fn() -> Drawing,
@@ -223,6 +271,11 @@ impl Trial {
                 self_loop,
                 never_started,
                 started_anew,
+                over_floor,
+                || chart_a_continued(17),
+                || chart_a_continued(18),
+                || lone_families(20),
+                || lone_families(21),
             ])(),
             80..=85 => {
                 let shape = Shape::random(random, MOST_LOCATIONS);
@@ -369,7 +422,8 @@ fn main() {
 
     let tally = &trial.tally;
     println!("rounds {rounds}, seed {seed}; largest chart {} bytes", tally.largest);
-    println!("charts with used over {MOST_TIMERS}: {}; steps taken: {}", tally.used_over_most, tally.steps_taken);
+    println!("steps taken: {}", tally.steps_taken);
+    println!("analyses with {}", tally.floors);
     println!("how often each answer came (0: a result)");
     println!("{:>6} {:>10} {:>10} {:>10} {:>10}", "number", "analysis", "rewriting", "player", "program");
     for number in 0..ByNumber::default().len() {
@@ -380,8 +434,8 @@ fn main() {
     }
     let program = trial.program.is_some().then_some(OF_PROGRAM);
     let missing: Vec<usize> = EXPECTED.into_iter().chain(program).filter(|&number| !tally.came(number)).collect();
-    if !missing.is_empty() || tally.used_over_most == 0 {
-        println!("never came: {missing:?}; charts with used over {MOST_TIMERS}: {}", tally.used_over_most);
+    if !missing.is_empty() || !tally.floors.all_came() {
+        println!("never came: {missing:?}, or one of: {}", tally.floors);
         exit(2);
     }
     let calls: u64 = tally.all().into_iter().flatten().sum();

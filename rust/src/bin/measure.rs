@@ -8,7 +8,7 @@ use std::hint::black_box;
 use timing_chart::analysis::{self, Analysis};
 use timing_chart::chart::Chart;
 use timing_chart::drawing::{chart_a, Drawing};
-use timing_chart::generator::{accepted, longest, many_numbers, run, Random, Shape, Steps};
+use timing_chart::generator::{accepted, five_groups, hardest_floor, longest, many_numbers, run, Random, Shape, Steps};
 use timing_chart::limits::{LOCATIONS, MOST_TIMERS, MOST_TRANSITIONS};
 use timing_chart::player::{self, Playing};
 use timing_chart::rewriting::{self, Rewriting};
@@ -171,12 +171,13 @@ fn describe(name: &str, drawing: &Drawing) {
     let answer = analysis::analyse(&file, &mut [0; LOCATIONS]).expect("the chart is accepted");
     let tests: usize = drawing.transitions.iter().map(|transition| transition.tests.len()).sum();
     println!(
-        "{name}: {} locations, {} transitions, {} timers, {tests} tests, {} bytes; used {}, floor {}",
+        "{name}: {} locations, {} transitions, {} timers, {tests} tests, {} bytes; used {}, {} {}",
         drawing.locations,
         drawing.transitions.len(),
         drawing.timers,
         file.len(),
         answer.used,
+        if answer.searched { "floor" } else { "seen" },
         answer.floor
     );
 }
@@ -198,8 +199,12 @@ fn main() {
     for (name, drawing) in &charts {
         describe(name, drawing);
     }
-    let many = many_numbers(17, 32);
-    describe("most numbers", &many);
+    // Of these only the analysis is measured.
+    let figures =
+        [("most numbers", many_numbers(17, 32)), ("five groups", five_groups()), ("hardest floor", hardest_floor())];
+    for (name, drawing) in &figures {
+        describe(name, drawing);
+    }
 
     heading("The calls, each from the file's bytes");
     for (name, drawing) in &charts {
@@ -209,8 +214,11 @@ fn main() {
         row("rewriting", name, rewritings(repetitions, &file));
         row("player, no steps", name, playings(repetitions, &file, &Steps::default()));
     }
-    check(&many.file());
-    row("analysis", "most numbers", analyses(repetitions, &many.file()));
+    for (name, drawing) in &figures {
+        let file = drawing.file();
+        check(&file);
+        row("analysis", name, analyses(repetitions, &file));
+    }
     let mut steps = Steps::default();
     for (transition, time) in [(0, 1), (1, 2), (2, 5), (4, 6), (6, 8)] {
         steps.push(transition, time);

@@ -1,0 +1,241 @@
+//! Calls with their answers, computed outside this repository from the documents alone: tests/cases of the repository,
+//! one JSON object a line. This crate gives these answers and, with the feature `library`, the proved library and the
+//! program do.
+
+use std::collections::BTreeMap;
+
+use timing_chart::analysis::{self, Analysis};
+use timing_chart::limits::{LARGEST_FILE, LOCATIONS};
+use timing_chart::listing::listing;
+use timing_chart::player::{self, Playing};
+use timing_chart::rewriting::{self, Rewriting};
+use timing_chart::{Answer, Refusal};
+
+/// The cases that hold now, and how many there are.
+const CASES: (&str, usize) = ("p01.jsonl", 48);
+
+/// JSON as the cases have it: whole numbers, and texts with no escape but `\n`.
+#[derive(Clone, Debug, PartialEq)]
+enum Json {
+    Bool(bool),
+    Number(u64),
+    Text(String),
+    List(Vec<Json>),
+    Object(BTreeMap<String, Json>),
+}
+
+/// What is left to be read of a line without blanks between its parts.
+struct Reader<'a>(&'a str);
+
+impl Reader<'_> {
+    /// Whether the rest begins so; then that is read.
+    fn takes(&mut self, text: &str) -> bool {
+        let rest = self.0.strip_prefix(text);
+        self.0 = rest.unwrap_or(self.0);
+        rest.is_some()
+    }
+
+    fn value(&mut self) -> Json {
+        if self.takes("{") {
+            let mut entries = BTreeMap::new();
+            self.list("}", |reader| {
+                let Json::Text(name) = reader.value() else { panic!("no name before {}", reader.0) };
+                assert!(reader.takes(":"), "no value before {}", reader.0);
+                entries.insert(name, reader.value());
+            });
+            Json::Object(entries)
+        } else if self.takes("[") {
+            let mut entries = Vec::new();
+            self.list("]", |reader| entries.push(reader.value()));
+            Json::List(entries)
+        } else if self.takes("\"") {
+            let (text, rest) = self.0.split_once('"').expect("a text ends");
+            self.0 = rest;
+            Json::Text(text.replace("\\n", "\n"))
+        } else if self.takes("true") {
+            Json::Bool(true)
+        } else if self.takes("false") {
+            Json::Bool(false)
+        } else {
+            let digits = self.0.find(|c: char| !c.is_ascii_digit()).unwrap_or(self.0.len());
+            let (number, rest) = self.0.split_at(digits);
+            self.0 = rest;
+            Json::Number(number.parse().unwrap_or_else(|_| panic!("no value before {rest}")))
+        }
+    }
+
+    /// Reads entries with commas between them, up to the end mark.
+    fn list(&mut self, end: &str, mut entry: impl FnMut(&mut Self)) {
+        while !self.takes(end) {
+            entry(self);
+            assert!(self.takes(",") || self.0.starts_with(end), "no end before {}", self.0);
+        }
+    }
+}
+
+impl Json {
+    fn read(line: &str) -> Json {
+        let mut reader = Reader(line);
+        let value = reader.value();
+        assert_eq!(reader.0, "");
+        value
+    }
+
+    fn get(&self, name: &str) -> Option<&Json> {
+        let Json::Object(entries) = self else { panic!("no object: {self:?}") };
+        entries.get(name)
+    }
+
+    fn number(&self, name: &str) -> u64 {
+        let Some(Json::Number(number)) = self.get(name) else { panic!("no number {name}") };
+        *number
+    }
+
+    fn is(&self, name: &str) -> bool {
+        let Some(Json::Bool(value)) = self.get(name) else { panic!("no truth value {name}") };
+        *value
+    }
+
+    fn text(&self, name: &str) -> &str {
+        let Some(Json::Text(text)) = self.get(name) else { panic!("no text {name}") };
+        text
+    }
+
+    fn bytes(&self, name: &str) -> Vec<u8> {
+        let hex = self.text(name);
+        let byte = |at: usize| u8::from_str_radix(&hex[at..at + 2], 16).expect("a byte in hex");
+        (0..hex.len()).step_by(2).map(byte).collect()
+    }
+
+    fn list(&self, name: &str) -> &[Json] {
+        let Some(Json::List(entries)) = self.get(name) else { panic!("no list {name}") };
+        entries
+    }
+
+    fn numbers<T: TryFrom<u64>>(&self, name: &str) -> Vec<T> {
+        let number = |entry: &Json| match entry {
+            Json::Number(number) => T::try_from(*number).ok(),
+            _ => None,
+        };
+        self.list(name).iter().map(|entry| number(entry).expect("a number of the call's type")).collect()
+    }
+
+    /// The answer that a case expects: a refusal, or what is made of its answer.
+    fn expected<T>(&self, answer: impl FnOnce(&Json) -> T) -> Answer<T> {
+        match self.get("refused") {
+            Some(_) => {
+                let refused: Vec<u64> = self.numbers("refused");
+                Err(Refusal { number: refused[0], place: refused[1] })
+            }
+            None => Ok(answer(self.get("answer").expect("an answer or a refusal"))),
+        }
+    }
+}
+
+type Analyse = fn(&[u8], &mut [u64]) -> Answer<Analysis>;
+type Rewrite = fn(&[u8], u32, &mut [u8]) -> Answer<Rewriting>;
+type Play = fn(&[u8], &[u32], &[u32], &[u64]) -> Answer<Playing>;
+
+/// One implementation of the calls.
+struct Calls {
+    analyse: Analyse,
+    rewrite: Rewrite,
+    play: Play,
+    print: fn(&[u8]) -> String,
+}
+
+impl Calls {
+    fn check(&self, case: &Json) {
+        match case.text("call") {
+            "program" => self.check_program(case),
+            "analysis" => self.check_analysis(case),
+            "rewriting" => self.check_rewriting(case),
+            "play" => self.check_play(case),
+            call => panic!("no such call: {call}"),
+        }
+    }
+
+    fn check_program(&self, case: &Json) {
+        let k = u8::try_from(case.number("k")).expect("K is a byte");
+        let input = [vec![k], case.bytes("file")].concat();
+        let expected = case.expected(|_| case.text("answer").to_string());
+        assert_eq!((self.print)(&input), expected.unwrap_or_else(|refusal| format!("{refusal}\n")));
+    }
+
+    fn check_analysis(&self, case: &Json) {
+        let mut live = [77; LOCATIONS];
+        let answer = (self.analyse)(&case.bytes("file"), &mut live);
+        let word = |entry: &Json| match entry {
+            Json::Text(word) => u64::from_str_radix(word, 16).expect("a word in hex"),
+            _ => panic!("no word: {entry:?}"),
+        };
+        let mut words = Vec::new();
+        let expected = case.expected(|answer| {
+            words.extend(answer.list("live").iter().map(word));
+            let (used, floor) = (answer.number("used"), answer.number("floor"));
+            Analysis { used, floor, searched: answer.is("searched") }
+        });
+        words.resize(LOCATIONS, 77);
+        assert_eq!((answer, live.to_vec()), (expected, words));
+    }
+
+    fn check_rewriting(&self, case: &Json) {
+        let k = u32::try_from(case.number("k")).expect("K has 32 bits");
+        let mut out = vec![0xAA; LARGEST_FILE];
+        let answer = (self.rewrite)(&case.bytes("file"), k, &mut out);
+        let mut file = Vec::new();
+        let expected = case.expected(|answer| {
+            file = answer.bytes("file");
+            Rewriting { used: answer.number("used"), length: file.len() as u64 }
+        });
+        file.resize(LARGEST_FILE, 0xAA);
+        assert_eq!(answer, expected);
+        assert!(out == file);
+    }
+
+    fn check_play(&self, case: &Json) {
+        let (counts, transitions) = (case.numbers::<u32>("counts"), case.numbers::<u32>("transitions"));
+        let answer = (self.play)(&case.bytes("file"), &counts, &transitions, &case.numbers::<u64>("times"));
+        let expected = case.expected(|answer| {
+            let (location, time) = (answer.number("location"), answer.number("time"));
+            Playing { location, time, accepting: answer.is("accepting") }
+        });
+        assert_eq!(answer, expected);
+    }
+
+    fn check_all(&self) {
+        let path = format!("{}/../tests/cases/{}", env!("CARGO_MANIFEST_DIR"), CASES.0);
+        let text = std::fs::read_to_string(&path).expect(&path);
+        assert_eq!(text.lines().count(), CASES.1);
+        for (index, line) in text.lines().enumerate() {
+            println!("{}, line {}", CASES.0, index + 1);
+            self.check(&Json::read(line));
+        }
+    }
+}
+
+#[test]
+fn this_crate_answers_so() {
+    Calls { analyse: analysis::analyse, rewrite: rewriting::rewrite, play: player::play, print: listing }.check_all();
+}
+
+#[cfg(feature = "library")]
+#[test]
+fn the_proved_library_and_the_program_answer_so() {
+    use timing_chart::library::{analyse, play, rewrite};
+    Calls { analyse, rewrite, play, print: print_by_program }.check_all();
+}
+
+/// What the program prints for an input that is no longer than it reads.
+#[cfg(feature = "library")]
+fn print_by_program(input: &[u8]) -> String {
+    use std::io::Write;
+    use std::process::{Command, Stdio};
+    let default = format!("{}/../target/bin/allocate", env!("CARGO_MANIFEST_DIR"));
+    let program = std::env::var_os("CHART_PROGRAM").unwrap_or_else(|| default.into());
+    let child = Command::new(&program).stdin(Stdio::piped()).stdout(Stdio::piped()).spawn();
+    let mut child = child.unwrap_or_else(|error| panic!("{}: {error}", program.display()));
+    child.stdin.take().expect("the input is piped").write_all(input).expect("the program reads all");
+    let output = child.wait_with_output().expect("the program ends");
+    String::from_utf8(output.stdout).expect("the program prints text")
+}
