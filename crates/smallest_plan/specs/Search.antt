@@ -1,7 +1,7 @@
 -- What the search is asked at one point: some families are unplaced, they have no number yet, and each number is held against some families,
 -- those that meet a family which has it. Assumes nothing.
 use mathlib.Core.Path.{_≡_}
-use mathlib.Core.Bool.{Bool, true, false}
+use mathlib.Core.Bool.{true}
 use mathlib.Core.List.{List}
 use Prim.Native.Nat.{ℕ, _≤_, _<_}
 use lib.ListN.{getD, set}
@@ -29,10 +29,11 @@ pub record Ready (rows held : List ℕ) (k unplaced used : ℕ) : Type 0 where
   pub used-few : used ≤ k
   pub fresh : (c : ℕ) → used ≤ c → getD held c 0 ≡ 0
 
--- r says whether some f completes
-pub record Answers (rows held : List ℕ) (k unplaced : ℕ) (r : Bool) : Type 0 where
-  pub if-true : r ≡ true → Completable rows held k unplaced
-  pub if-false : r ≡ false → (f : ℕ → ℕ) → Completes rows held k unplaced f → ⊥
+-- r is a conflict, a set of unplaced families that no f completes, or empty where some f completes all
+pub record Answers (rows held : List ℕ) (k unplaced r : ℕ) : Type 0 where
+  pub none : r ≡ 0 → Completable rows held k unplaced
+  pub some : (r ≡ 0 → ⊥) → (f : ℕ → ℕ) → Completes rows held k r f → ⊥
+  pub within : (i : ℕ) → member r i ≡ true → member unplaced i ≡ true
 
 -- family v takes the number c: it is held, besides, against all that v meets
 abbrev pub holding : (rows held : List ℕ) (v c : ℕ) → List ℕ

@@ -3,7 +3,9 @@
 ghost use mathlib.Core.Path.{_≡_};
 ghost use mathlib.Core.Bool.{true};
 ghost use Prim.Native.Nat.{ℕ, _-_, _^_, _≤_, _<_, min, max};
-ghost use Rattle.timer_set.specs.Members.{member};
+ghost use lib.Dec.{eqb};
+ghost use lib.ListN.{getD};
+ghost use Rattle.timer_set.specs.Members.{member, common, minus};
 ghost use Rattle.smallest_plan.specs.RowPlans.{mostFamilies, Mutual, Bounds, SmallestOf};
 ghost use Rattle.smallest_plan.specs.Search.{Ready, Answers, holding};
 use timer_set::TimerSet;
@@ -29,7 +31,7 @@ fn larger(x: usize, y: usize) -> usize
 // right, and this one is quick.
 fn score(
     rows: &[u64; MOST_FAMILIES],
-    held: [u64; MOST_FAMILIES],
+    held: &[u64; MOST_FAMILIES],
     unplaced: TimerSet,
     used: usize,
     v: u8,
@@ -54,7 +56,7 @@ fn score(
 // The unplaced family to go on with.
 fn pick(
     rows: &[u64; MOST_FAMILIES],
-    held: [u64; MOST_FAMILIES],
+    held: &[u64; MOST_FAMILIES],
     unplaced: TimerSet,
     used: usize,
 ) -> u8
@@ -95,37 +97,53 @@ fn hold(
     next
 }
 
-// Whether the unplaced families can be given numbers below k, no two that meet the same, none that is held against them. held[c] is the set of the
-// families against which c is held; from `used` on no number is held, so all of these are alike and only the first of them is tried.
-// Each call within another has one unplaced family fewer, so the recursion is at most 20 deep.
-fn can(
+// A number is held against the families of `against`. Whether v takes nothing from those of `part` if it gets that number: it is held already against
+// each of them that v meets.
+fn takes_nothing(rows: &[u64; MOST_FAMILIES], v: u8, against: TimerSet, part: TimerSet) -> bool
+    requires { ⌜ v < mostFamilies ⌝ }
+    ensures { λ r. ⌜ r ≡ eqb (minus (common (getD (now (rows .entry)) v 0) (part .bits)) (against .bits)) 0 ⌝ }
+{
+    let row = TimerSet {
+        bits: rows[v as usize],
+    };
+    row.common(part).minus(against).is_empty()
+}
+
+// A conflict: a set of unplaced families that cannot be completed, that is, given numbers below k, no two that meet the same, none that is held
+// against them. The empty set is answered where all unplaced families can be. held[c] is the set of the families against which c is held; from `used`
+// on no number is held, so all of these are alike and only the first of them is tried. A conflict from which c at v takes nothing is one whatever v
+// gets, so no further number is tried at v (conflict-directed backjumping). Each call within another has one unplaced family fewer, so the recursion
+// is at most 20 deep and one more.
+fn conflict(
     rows: &[u64; MOST_FAMILIES],
     k: usize,
     held: [u64; MOST_FAMILIES],
     unplaced: TimerSet,
     used: usize,
-) -> bool
+) -> TimerSet
     requires { ⌜ Ready (now rows) held k (unplaced .bits) used ⌝ }
-    ensures { λ r. ⌜ Answers (now (rows .entry)) held k (unplaced .bits) r ⌝ }
+    ensures { λ r. ⌜ Answers (now (rows .entry)) held k (unplaced .bits) (r .bits) ⌝ }
 {
     if unplaced.is_empty() {
-        return true;
+        return unplaced;
     }
-    let v = pick(rows, held, unplaced, used);
+    let v = pick(rows, &held, unplaced, used);
     let limit = smaller(k, used + 1);
+    let mut found = TimerSet::EMPTY.with(v);
     let mut c: usize = 0;
     while c < limit {
         let against = TimerSet { bits: held[c] };
         if !against.has(v) {
             let next = hold(rows, held, v, c);
-            let rest = unplaced.without(v);
-            if can(rows, k, next, rest, larger(used, c + 1)) {
-                return true;
+            let part = conflict(rows, k, next, unplaced.without(v), larger(used, c + 1));
+            if takes_nothing(rows, v, against, part) {
+                return part;
             }
+            found = found.join(part);
         }
         c += 1;
     }
-    false
+    found
 }
 
 // The set of the families below n.
@@ -147,7 +165,7 @@ pub fn smallest(rows: &[u64; MOST_FAMILIES], n: usize, low: usize, high: usize) 
     let all = families_below(n);
     let mut k = low;
     while k < high {
-        if can(rows, k, held, all, 0) {
+        if conflict(rows, k, held, all, 0).is_empty() {
             return k;
         }
         k += 1;

@@ -5,16 +5,16 @@ use Rattle.smallest_plan.proofs.score.Statement.{statement}
 use Rattle.smallest_plan.proofs.score.Tie as tie
 
 abbrev Inv-loop : tie.InvT-loop
-Inv-loop rows used v held s₀ c₀ s c = (c ≤ used) × (s ≤ 65 * c + 2 ^ 40)
+Inv-loop rows held used v s₀ c₀ s c = (c ≤ used) × (s ≤ 65 * c + 2 ^ 40)
 
 abbrev μ-loop : tie.MeasureT-loop
-μ-loop rows used v held s₀ c₀ s c = used - c
+μ-loop rows held used v s₀ c₀ s c = used - c
 
-mul-t12 : tie.Need-mul-t12 Inv-loop μ-loop
-mul-t12 c = search needs
+mul-t11 : tie.Need-mul-t11 Inv-loop μ-loop
+mul-t11 c = search needs
 
-element-copy-out-t15 : tie.Need-element-copy-out-t15 Inv-loop μ-loop
-element-copy-out-t15 c = search needs
+element-copy-out-t14 : tie.Need-element-copy-out-t14 Inv-loop μ-loop
+element-copy-out-t14 c = search needs
 
 common-requires : tie.Need-common-requires Inv-loop μ-loop
 common-requires c κs = search needs
@@ -31,11 +31,11 @@ mul-s c = search needs
 loop-holds : tie.Need-loop-holds Inv-loop μ-loop
 loop-holds c = search needs
 
-mul-t19 : tie.Need-mul-t19 Inv-loop μ-loop
-mul-t19 c = search needs
+mul-t18 : tie.Need-mul-t18 Inv-loop μ-loop
+mul-t18 c = search needs
 
-array-read-t22 : tie.Need-array-read-t22 Inv-loop μ-loop
-array-read-t22 c = search needs
+element-copy-out-t21 : tie.Need-element-copy-out-t21 Inv-loop μ-loop
+element-copy-out-t21 c = search needs
 
 add-c : tie.Need-add-c Inv-loop μ-loop
 add-c c = search needs
@@ -67,15 +67,15 @@ score-spec =
     (tie.spec
     Inv-loop
     μ-loop
-    mul-t12
-    element-copy-out-t15
+    mul-t11
+    element-copy-out-t14
     common-requires
     count-requires
     cast-s
     mul-s
     loop-holds
-    mul-t19
-    array-read-t22
+    mul-t18
+    element-copy-out-t21
     add-c
     has-requires
     add-s

@@ -1,8 +1,11 @@
 -- `smallest` tries k = low, low + 1, ..: no plan has fewer than k timers, and one has `high`. Assumes nothing.
+use mathlib.Core.Path.{sym, _∙_}
 use Prim.Native.Nat.{_-_}
 use native.Mathlib.Omega.{arith}
 use borrow.Author.Needs.{needs}
+use borrow.Author.Tests.{eqb-true, eqb-false}
 use Rattle.smallest_plan.specs.RowPlans.{Bounds}
+use Rattle.smallest_plan.proofs.Placing.{completes-part}
 use Rattle.smallest_plan.proofs.Whole.{ready-start, enough, too-few, met}
 use Rattle.smallest_plan.proofs.smallest.Statement.{statement}
 use Rattle.smallest_plan.proofs.smallest.Tie as tie
@@ -19,15 +22,19 @@ families-below-requires c κs = search needs
 loop-holds : tie.Need-loop-holds Inv-loop μ-loop
 loop-holds c = c .before .pre .3
 
-can-requires : tie.Need-can-requires Inv-loop μ-loop
-can-requires c κs =
+conflict-requires : tie.Need-conflict-requires Inv-loop μ-loop
+conflict-requires c κs =
     let p = c .before .before .before .pre in
     rw (c .before .before .families-below .ensures) (ready-start (p .0) (omega arith) (p .2))
 
+is-empty-requires : tie.Need-is-empty-requires Inv-loop μ-loop
+is-empty-requires c κs = search needs
+
 returns : tie.Need-returns Inv-loop μ-loop
 returns c =
-    let l = c .before .before .before in
-    enough (l .loop .inv) (rw (l .before .families-below .ensures) at (c .before .can .ensures .if-true (c .if1 .taken)))
+    let l = c .before .before .before .before in
+    let e = eqb-true _ _ (sym (c .before .is-empty .ensures) ∙ c .if1 .taken) in
+    enough (l .loop .inv) (rw (l .before .families-below .ensures) at (c .before .before .conflict .ensures .none e))
 
 add-k : tie.Need-add-k Inv-loop μ-loop
 add-k c = search needs
@@ -37,8 +44,10 @@ loop-less c = search needs
 
 loop-again : tie.Need-loop-again Inv-loop μ-loop
 loop-again c =
-    let l = c .before .before .before in
-    too-few (l .loop .inv) (rw (l .before .families-below .ensures) at (c .before .can .ensures .if-false (c .if1 .left)))
+    let l = c .before .before .before .before in
+    let A = rw (l .before .families-below .ensures) at (c .before .before .conflict .ensures) in
+    let n = eqb-false _ _ (sym (c .before .is-empty .ensures) ∙ c .if1 .left) in
+    too-few (l .loop .inv) (λ f C. A .some n f (completes-part (A .within) C))
 
 returns-2 : tie.Need-returns-2 Inv-loop μ-loop
 returns-2 c = met (c .before .loop .inv) (omega arith)
@@ -51,7 +60,8 @@ smallest-spec =
     μ-loop
     families-below-requires
     loop-holds
-    can-requires
+    conflict-requires
+    is-empty-requires
     returns
     add-k
     loop-less

@@ -1,0 +1,210 @@
+-- `conflict` tries the numbers in turn at the family picked, and calls itself for the others; the measure is the word of the unplaced families.
+-- Assumes nothing.
+use mathlib.Core.Path.{sym, _∙_}
+use mathlib.Core.Logic.{⊎-elim}
+use Prim.Native.Nat.{ℕ, _-_, _≤_, _<_}
+use native.Mathlib.Omega.{arith}
+use lib.ListN.{length}
+use borrow.Author.Needs.{needs}
+use borrow.Author.Tests.{eqb-true, eqb-false, not-true, not-false}
+use Rattle.smallest_plan.proofs.Placing.{
+  Tried,
+  removed-less,
+  ready-next,
+  answers-part,
+  tried-none,
+  tried-held,
+  tried-more,
+  tried-all,
+  all-placed,
+}
+use borrow.Fn.Kinds.{In}
+use borrow.Fn.PlainCycle.{Measures, is, falls, and}
+use Rattle.smallest_plan.proofs.conflict.Reads as conflict
+use Rattle.smallest_plan.proofs.conflict.Kinds as conflict-kinds
+use Rattle.smallest_plan.proofs.+conflict.Lts-conflict as conflict-lts
+use Rattle.smallest_plan.proofs.hold.Reads as hold-reads
+use Rattle.smallest_plan.proofs.larger.Reads as larger-reads
+use Rattle.smallest_plan.proofs.pick.Reads as pick-reads
+use Rattle.smallest_plan.proofs.smaller.Reads as smaller-reads
+use Rattle.smallest_plan.proofs.takes_nothing.Reads as takes-nothing-reads
+use Rattle.timer_set.proofs.TimerSet.has.Reads as has-reads
+use Rattle.timer_set.proofs.TimerSet.is_empty.Reads as is-empty-reads
+use Rattle.timer_set.proofs.TimerSet.join.Reads as join-reads
+use Rattle.timer_set.proofs.TimerSet.with.Reads as with-reads
+use Rattle.timer_set.proofs.TimerSet.without.Reads as without-reads
+use Rattle.smallest_plan.proofs.+conflict.{statement}
+use Rattle.smallest_plan.proofs.+conflict.Tie.{close}
+
+abbrev μ-conflict : Measures 1 conflict-kinds.ps ℕ
+μ-conflict κs a = a .1 .1 .1 .0 .bits
+
+abbrev conflict-at : ℕ → In 1 conflict-kinds.ps
+conflict-at t = and 1 conflict-kinds.ps (is 1 conflict-kinds.ps μ-conflict t) conflict.Pre
+
+abbrev conflict-below : ℕ → In 1 conflict-kinds.ps
+conflict-below t =
+    and 1 conflict-kinds.ps (falls 1 conflict-kinds.ps _<_ μ-conflict t) conflict.Pre
+
+abbrev conflict-Inv-loop : conflict-lts.InvT-loop
+conflict-Inv-loop rows k unplaced used held v limit found₀ c₀ found c = (c ≤ limit) × Tried rows held k (unplaced .bits) v (found .bits) c
+
+abbrev conflict-μ-loop : conflict-lts.MeasureT-loop
+conflict-μ-loop rows k unplaced used held v limit found₀ c₀ found c = limit - c
+
+abbrev claims : ℕ → conflict-lts.Claims
+claims t = (
+  is-empty-reads.Asked,
+  is-empty-reads.Learnt,
+  pick-reads.Asked,
+  pick-reads.Learnt,
+  smaller-reads.Asked,
+  smaller-reads.Learnt,
+  with-reads.Asked,
+  with-reads.Learnt,
+  has-reads.Asked,
+  has-reads.Learnt,
+  hold-reads.Asked,
+  hold-reads.Learnt,
+  without-reads.Asked,
+  without-reads.Learnt,
+  larger-reads.Asked,
+  larger-reads.Learnt,
+  conflict-below t,
+  conflict.Post,
+  takes-nothing-reads.Asked,
+  takes-nothing-reads.Learnt,
+  join-reads.Asked,
+  join-reads.Learnt,
+)
+
+-- the number tried is a place in held
+room : (t : ℕ) (a : conflict-lts.In-loop (claims t) (conflict-at t) conflict.Post conflict-Inv-loop conflict-μ-loop)
+    → a .before .loop .c < length (a .before .before .before .before .before .before .before .before .args .t3)
+room t a = search needs
+
+conflict-is-empty-requires : (t : ℕ) → conflict-lts.Need-is-empty-requires (claims t) (conflict-at t) conflict.Post conflict-Inv-loop conflict-μ-loop
+conflict-is-empty-requires t c κs = search needs
+
+conflict-returns : (t : ℕ) → conflict-lts.Need-returns (claims t) (conflict-at t) conflict.Post conflict-Inv-loop conflict-μ-loop
+conflict-returns t c = all-placed (eqb-true _ _ (sym (c .before .is-empty .ensures) ∙ c .if1 .taken))
+
+conflict-pick-requires : (t : ℕ) → conflict-lts.Need-pick-requires (claims t) (conflict-at t) conflict.Post conflict-Inv-loop conflict-μ-loop
+conflict-pick-requires t c κs =
+    let a = c .before .before in
+    let R = a .before .pre .1 in
+    (omega arith, eqb-false _ _ (sym (a .is-empty .ensures) ∙ c .before .if1 .left), λ i m. omega (arith, R .within i m))
+
+conflict-add-smaller : (t : ℕ) → conflict-lts.Need-add-smaller (claims t) (conflict-at t) conflict.Post conflict-Inv-loop conflict-μ-loop
+conflict-add-smaller t c = search needs
+
+conflict-smaller-requires : (t : ℕ) → conflict-lts.Need-smaller-requires (claims t) (conflict-at t) conflict.Post conflict-Inv-loop conflict-μ-loop
+conflict-smaller-requires t c κs = search needs
+
+conflict-with-requires : (t : ℕ) → conflict-lts.Need-with-requires (claims t) (conflict-at t) conflict.Post conflict-Inv-loop conflict-μ-loop
+conflict-with-requires t c κs = search needs
+
+conflict-loop-holds : (t : ℕ) → conflict-lts.Need-loop-holds (claims t) (conflict-at t) conflict.Post conflict-Inv-loop conflict-μ-loop
+conflict-loop-holds t c = (search needs, rw (c .with .ensures) (tried-none _ _ _ _ _ (c .before .before .pick .ensures .1)))
+
+conflict-mul-t19 : (t : ℕ) → conflict-lts.Need-mul-t19 (claims t) (conflict-at t) conflict.Post conflict-Inv-loop conflict-μ-loop
+conflict-mul-t19 t c = search needs
+
+conflict-array-read-t22 : (t : ℕ) → conflict-lts.Need-array-read-t22 (claims t) (conflict-at t) conflict.Post conflict-Inv-loop conflict-μ-loop
+conflict-array-read-t22 t c = search needs
+
+conflict-has-requires : (t : ℕ) → conflict-lts.Need-has-requires (claims t) (conflict-at t) conflict.Post conflict-Inv-loop conflict-μ-loop
+conflict-has-requires t c κs = search needs
+
+conflict-hold-requires : (t : ℕ) → conflict-lts.Need-hold-requires (claims t) (conflict-at t) conflict.Post conflict-Inv-loop conflict-μ-loop
+conflict-hold-requires t c κs = search needs
+
+conflict-without-requires : (t : ℕ) → conflict-lts.Need-without-requires (claims t) (conflict-at t) conflict.Post conflict-Inv-loop conflict-μ-loop
+conflict-without-requires t c κs = search needs
+
+conflict-add-larger : (t : ℕ) → conflict-lts.Need-add-larger (claims t) (conflict-at t) conflict.Post conflict-Inv-loop conflict-μ-loop
+conflict-add-larger t c = search needs
+
+conflict-larger-requires : (t : ℕ) → conflict-lts.Need-larger-requires (claims t) (conflict-at t) conflict.Post conflict-Inv-loop conflict-μ-loop
+conflict-larger-requires t c κs = search needs
+
+conflict-conflict-requires : (t : ℕ) → conflict-lts.Need-conflict-requires (claims t) (conflict-at t) conflict.Post conflict-Inv-loop conflict-μ-loop
+conflict-conflict-requires t c κs =
+    let l = c .before .before .before .before .before .before in
+    let p = l .before .before .before .pick .ensures in
+    let s = l .before .before .before .before .before .before .before in
+    let less = removed-less (s .args .unplaced .bits) (l .before .before .before .pick .result) (omega arith) (omega arith) (p .1) in
+    rw (c .before .without .ensures, c .before .before .hold .ensures, c .larger .ensures) (
+      omega arith,
+      ready-next (s .pre .1) _ (p .1) _ (room t (c .before .before .before .before .before)) (omega arith) (omega arith),
+    )
+
+conflict-takes-nothing-requires : (t : ℕ)
+    → conflict-lts.Need-takes-nothing-requires (claims t) (conflict-at t) conflict.Post conflict-Inv-loop conflict-μ-loop
+conflict-takes-nothing-requires t c κs = search needs
+
+conflict-returns-2 : (t : ℕ) → conflict-lts.Need-returns-2 (claims t) (conflict-at t) conflict.Post conflict-Inv-loop conflict-μ-loop
+conflict-returns-2 t c =
+    let a = c .before .before .before .before in
+    let h = a .before .before .before in
+    let l = h .before .before in
+    let s = l .before .before .before .before .before .before .before in
+    let free = sym (h .has .ensures) ∙ not-true _ (a .before .before .if2 .taken) in
+    let A = rw (a .without .ensures, a .before .hold .ensures) at (c .before .before .conflict .ensures) in
+    let e = eqb-true _ _ (sym (c .before .takes-nothing .ensures) ∙ c .if3 .taken) in
+    answers-part (s .pre .1) _ (l .before .before .before .pick .ensures .1) _ (room t (h .before)) (omega arith) free e A
+
+conflict-join-requires : (t : ℕ) → conflict-lts.Need-join-requires (claims t) (conflict-at t) conflict.Post conflict-Inv-loop conflict-μ-loop
+conflict-join-requires t c κs = search needs
+
+conflict-add-c : (t : ℕ) → conflict-lts.Need-add-c (claims t) (conflict-at t) conflict.Post conflict-Inv-loop conflict-μ-loop
+conflict-add-c t c = search needs
+
+conflict-loop-less : (t : ℕ) → conflict-lts.Need-loop-less (claims t) (conflict-at t) conflict.Post conflict-Inv-loop conflict-μ-loop
+conflict-loop-less t c = search needs
+
+conflict-loop-again : (t : ℕ) → conflict-lts.Need-loop-again (claims t) (conflict-at t) conflict.Post conflict-Inv-loop conflict-μ-loop
+conflict-loop-again t c =
+    let l = c .before .before .before in (
+      omega arith,
+      ⊎-elim
+          (λ w.
+          let n = eqb-false _ _ (sym (w .5 .ensures) ∙ w .6 .left) in
+          let A = rw (w .2 .ensures, w .1 .ensures) at (w .4 .ensures) in
+          rw (w .8, w .7 .ensures) (tried-more (l .loop .inv .1) (room t (c .before .before)) n A))
+          (λ w. rw (w .1) (tried-held (l .loop .inv .1) (sym (c .before .has .ensures) ∙ not-false _ (w .0 .left)))) (c .if2 .came),
+    )
+
+conflict-returns-3 : (t : ℕ) → conflict-lts.Need-returns-3 (claims t) (conflict-at t) conflict.Post conflict-Inv-loop conflict-μ-loop
+conflict-returns-3 t c =
+    let l = c .before in
+    tried-all (l .loop .inv .1) (l .before .before .before .before .before .before .before .pre .1) (omega arith)
+
+pub +conflict-spec : {M : Type 1} → statement M
++conflict-spec = close μ-conflict λ t. conflict-lts.spec (claims t)
+    (conflict-at t)
+    conflict.Post
+    conflict-Inv-loop
+    conflict-μ-loop
+    (conflict-is-empty-requires t)
+    (conflict-returns t)
+    (conflict-pick-requires t)
+    (conflict-add-smaller t)
+    (conflict-smaller-requires t)
+    (conflict-with-requires t)
+    (conflict-loop-holds t)
+    (conflict-mul-t19 t)
+    (conflict-array-read-t22 t)
+    (conflict-has-requires t)
+    (conflict-hold-requires t)
+    (conflict-without-requires t)
+    (conflict-add-larger t)
+    (conflict-larger-requires t)
+    (conflict-conflict-requires t)
+    (conflict-takes-nothing-requires t)
+    (conflict-returns-2 t)
+    (conflict-join-requires t)
+    (conflict-add-c t)
+    (conflict-loop-less t)
+    (conflict-loop-again t)
+    (conflict-returns-3 t)
