@@ -1,6 +1,7 @@
 -- What the analysis answers and leaves of a file, on plain values: by the judgement's answer, and by the room that is lent. Nothing is hard: by
 -- cases. Assumes nothing.
 use mathlib.Core.Path.{_≡_}
+use mathlib.Core.Bool.{Bool}
 use mathlib.Core.List.{List}
 use Prim.Native.Nat.{ℕ, _≤_, _<_}
 use lib.ListN.{length}
@@ -8,7 +9,8 @@ use borrow.Author.Tests.{le-leb, lt-leb}
 use Rattle.model.specs.Answer.{result, refused, nowhere}
 use Rattle.model.specs.Chart.{Chart}
 use Rattle.model.specs.Live.{liveSets}
-use Rattle.model.specs.FirstFit.{used, floor}
+use Rattle.model.specs.FirstFit.{used}
+use Rattle.model.specs.Floor.{floor, searched}
 use Rattle.chart_lists.specs.Lists.{put, overwritten}
 use Rattle.judgement.specs.Judging.{judgedIn}
 use Rattle.analysis.specs.Analysing.{valuesOf, analysedChart, analysedIn, analyseAnswer}
@@ -46,9 +48,10 @@ module _ (bs before : List ℕ) where
 
     -- the chart's values, and its live sets over the front
     module _ (h : c .locations ≤ length before) where
-      pub found-answer : {u f : ℕ} → u ≡ used c → f ≡ floor c → result (record { used = u; floor = f }) ≡ analyseAnswer (length before) bs
+      pub found-answer : {u f : ℕ} {s : Bool} → u ≡ used c → f ≡ floor c → s ≡ searched c
+          → result (record { used = u; floor = f; searched = s }) ≡ analyseAnswer (length before) bs
       unfolding analyseAnswer analysedIn valuesOf
-      found-answer x y = rw (e, long-enough c (length before) h, x, y)
+      found-answer x y z = rw (e, long-enough c (length before) h, x, y, z)
 
       pub found-list : {after sets : List ℕ} → sets ≡ liveSets c → after ≡ put sets before
           → after ≡ overwritten liveSets (analysedIn (length before) bs) before

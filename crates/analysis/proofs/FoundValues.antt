@@ -2,25 +2,29 @@
 -- read the list's front as the live sets, and what is behind as it was. Assumes nothing.
 use mathlib.Core.Path.{_≡_, refl, sym, ap, _∙_}
 use mathlib.Core.Logic.{_⊎_, inl, inr, _↔_, Iff·trans, Iff·symm}
-use mathlib.Core.Bool.{true}
+use mathlib.Core.Bool.{true, false}
 use mathlib.Core.List.{List, _++_}
 use Prim.Native.Nat.{ℕ, zero, suc, _+_, _-_, _^_, _≤_, _<_}
 use native.Mathlib.Omega.{arith}
 use lib.Count.{ones}
 use lib.ListN.{length, getD, drop, List·getD-append}
 use lib.Seq.{getD-append-add, getD-drop}
-use Rattle.lists.proofs.Bools.{lt-or-le, same-bool}
+use Rattle.lists.proofs.Bools.{yes-or-no, lt-or-le, same-bool}
 use Rattle.timer_set.specs.Members.{member}
 use Rattle.timer_set.proofs.Members.{member-ext}
 use Rattle.model.specs.Answer.{result}
 use Rattle.model.specs.Chart.{Chart}
 use Rattle.model.specs.Valid.{Valid}
 use Rattle.model.specs.Live.{liveSets}
-use Rattle.model.specs.FirstFit.{board, used, floor}
+use Rattle.model.specs.FirstFit.{board, used}
+use Rattle.model.specs.Floor.{floor, searched}
 use Rattle.model.proofs.NumberAt.{number-below}
 use Rattle.model.proofs.UsedNumbers.{used-reached}
 use Rattle.file_format.specs.Parse.{Bytes}
 use Rattle.file_format.proofs.File.{reads-valid}
+use Rattle.sharing_plans.proofs.ChartPlans.{one-fewest}
+use Rattle.sharing_plans.proofs.FamilyCounts.{searched-iff}
+use Rattle.sharing_plans.proofs.Floor.{floor-fewest, floor-most, floor-reached, floor-used}
 use Rattle.chart_lists.specs.Lists.{put, overwritten}
 use Rattle.judgement.specs.Charts.{Accepts}
 use Rattle.judgement.proofs.Corollaries.{judged-result}
@@ -29,7 +33,7 @@ use Rattle.analysis.specs.Found.{FoundValues}
 use Rattle.families.proofs.ChartPairs.{live-each}
 use Rattle.analysis.proofs.Entry.{long-enough}
 use Rattle.analysis.proofs.Refusals.{analysis-result}
-use Rattle.analysis.proofs.Values.{word-live, floor-most, floor-reached, floor-used, used-none}
+use Rattle.analysis.proofs.Values.{word-live, used-none}
 
 -- ---- an entry of a list over whose front another was put
 
@@ -57,14 +61,15 @@ module _ (bs before : List ℕ) (bytes : Bytes bs) where
       let valid = reads-valid bs c bytes (a .reads) in
       let front : (q : ℕ) → q < c .locations → getD (put (liveSets c) before) q 0 ≡ getD (liveSets c) q 0 =
       λ q h. in-front (liveSets c) before q (omega (arith, live-each c)) in
-      let x = floor-reached valid in
       rw (judged-result bs bytes c .1 a, long-enough c (length before) h, e) record {
         chart = c;
         accepts = a;
         words-are = λ q j h. rw (front q h) (word-live valid q j);
         beyond = λ q h. behind (liveSets c) before q (omega (arith, live-each c));
+        searched-few = searched-iff valid;
+        floor-fewest = floor-fewest valid;
         floor-most = λ q h. rw (front q h) (floor-most valid q);
-        floor-reached = (x .0, x .1, rw (front (x .0) (x .1)) (x .2));
+        floor-reached = λ h. let x = floor-reached valid h in (x .0, x .1, rw (front (x .0) (x .1)) (x .2));
         floor-used = floor-used valid;
         used-above = number-below (board c);
         used-reached = used-reached valid;
@@ -113,18 +118,25 @@ module _ {bs before after : List ℕ} {f : AnalysisValues} (bytes : Bytes bs) (v
       let below : used c ≤ f .used = at-most (used c) (f .used) (λ u e. let x = used-reached valid u e in v .used-above (x .0) (x .1) u (x .2)) in
       omega arith
 
+  searched-only : f .searched ≡ searched c
+  searched-only = same-bool _ _ (λ h. searched-iff valid .1 (v .searched-few .0 h)) (λ h. v .searched-few .1 (searched-iff valid .0 h))
+
   floor-only : f .floor ≡ floor c
-  floor-only =
-      let x = v .floor-reached in
-      let y = floor-reached valid in
-      let above : f .floor ≤ floor c = omega (arith, x .2, ap ones (word-only (x .0) (x .1)), floor-most valid (x .0)) in
-      let below : floor c ≤ f .floor = omega (arith, y .2, ap ones (word-only (y .0) (y .1)), v .floor-most (y .0) (y .1)) in
-      omega arith
+  floor-only = go (yes-or-no (searched c))
+    where
+      go : (searched c ≡ true) ⊎ (searched c ≡ false) → f .floor ≡ floor c
+      go (inl h) = one-fewest (v .floor-fewest (searched-only ∙ h)) (floor-fewest valid h)
+      go (inr h) =
+          let x = v .floor-reached (searched-only ∙ h) in
+          let y = floor-reached valid h in
+          let above : f .floor ≤ floor c = omega (arith, x .2, ap ones (word-only (x .0) (x .1)), floor-most valid (x .0)) in
+          let below : floor c ≤ f .floor = omega (arith, y .2, ap ones (word-only (y .0) (y .1)), v .floor-most (y .0) (y .1)) in
+          omega arith
 
   -- what is found is what the chart gives
   pub found-only : f ≡ valuesOf c
   unfolding valuesOf
-  found-only i = record { used = used-only i; floor = floor-only i }
+  found-only i = record { used = used-only i; floor = floor-only i; searched = searched-only i }
 
   -- and no other list: the live sets over the front of what was lent
   pub found-list : (q : ℕ) → getD after q 0 ≡ getD (put (liveSets c) before) q 0

@@ -1,10 +1,12 @@
 -- What the analysis of a chart file answers; in the lent list it leaves the live sets (`overwritten liveSets`). Assumes nothing.
+use mathlib.Core.Bool.{Bool}
 use mathlib.Core.List.{List}
 use Prim.Native.Nat.{ℕ}
 use lib.Dec.{leb}
 use Rattle.model.specs.Answer.{Answer, result, then, unless, nowhere}
 use Rattle.model.specs.Chart.{Chart}
-use Rattle.model.specs.FirstFit.{used, floor}
+use Rattle.model.specs.FirstFit.{used}
+use Rattle.model.specs.Floor.{floor, searched}
 use Rattle.refusal.specs.Refused.{refusedAs}
 use Rattle.judgement.specs.Judging.{judgedIn}
 use Rattle.analysis.specs.declared.Analysis.{Analysis}
@@ -18,14 +20,16 @@ analysedChart room c = unless (leb (c .locations) room) 21 nowhere (result c)
 unfoldable pub analysedIn : (room : ℕ) → List ℕ → Answer Chart
 analysedIn room bs = then (judgedIn bs) (analysedChart room)
 
--- how many timers the board numbers use, and how many are live at once at the fullest location
+-- how many timers the board numbers use; the floor; and whether the floor is the smallest number of timers of any plan, else it is the count of the
+-- fullest live set
 pub record AnalysisValues : Type 0 where
   pub used : ℕ
   pub floor : ℕ
+  pub searched : Bool
 
 -- those of a chart
 unfoldable pub valuesOf : Chart → AnalysisValues
-valuesOf c = record { used = used c; floor = floor c }
+valuesOf c = record { used = used c; floor = floor c; searched = searched c }
 
 -- what is answered
 unfoldable pub analyseAnswer : (room : ℕ) → List ℕ → Answer AnalysisValues
@@ -33,5 +37,5 @@ analyseAnswer room bs = then (analysedIn room bs) (λ c. result (valuesOf c))
 
 -- what an answer of the code means
 abbrev pub analysisAs : Analysis → Answer AnalysisValues
-analysisAs (analysis.Found u f) = result (record { used = u; floor = f })
+analysisAs (analysis.Found u f s) = result (record { used = u; floor = f; searched = s })
 analysisAs (analysis.Refused f) = refusedAs f

@@ -1,7 +1,8 @@
--- What an analysis that finds a chart says and leaves, in the words of paths (document 01, "Live, born, family, board number"). Assumes nothing.
+-- What an analysis that finds a chart says and leaves, in the words of paths (document 01, "Live, born, family, board number"; document 02, P1).
+-- Assumes nothing.
 use mathlib.Core.Path.{_≡_}
 use mathlib.Core.Logic.{_↔_}
-use mathlib.Core.Bool.{true}
+use mathlib.Core.Bool.{true, false}
 use mathlib.Core.Option.{some}
 use mathlib.Core.List.{List}
 use Prim.Native.Nat.{ℕ, suc, _≤_, _<_}
@@ -11,6 +12,8 @@ use Rattle.timer_set.specs.Members.{member}
 use Rattle.model.specs.Chart.{Chart}
 use Rattle.model.specs.Path.{Live}
 use Rattle.model.specs.FirstFit.{numberAt, board}
+use Rattle.model.specs.Floor.{mostFamilies}
+use Rattle.model.specs.SharingPlan.{FewestTimers, FamiliesAtMost}
 use Rattle.judgement.specs.Charts.{Accepts}
 use Rattle.analysis.specs.Analysing.{AnalysisValues, valuesOf}
 
@@ -21,15 +24,18 @@ pub record Analysed (room : ℕ) (bs : List ℕ) (f : AnalysisValues) : Type 0 w
   pub room-for : chart .locations ≤ room
   pub values-are : f ≡ valuesOf chart
 
--- the chart, which is accepted; in the list the live set of each location by paths, and the rest untouched; floor is the count of the fullest of
--- these; used, no less than floor, is one more than the largest board number given, and 0 exactly where no timer is live and so there is no family
+-- the chart, which is accepted; in the list the live set of each location by paths, and the rest untouched; searched exactly where there are at most
+-- 20 families, and floor is then the smallest number of timers of any plan, else the count of the fullest live set; used, no less than floor, is one
+-- more than the largest board number given, and 0 exactly where no timer is live and so there is no family
 pub record FoundValues (bs before after : List ℕ) (f : AnalysisValues) : Type 0 where
   pub chart : Chart
   pub accepts : Accepts bs chart
   pub words-are : (q j : ℕ) → q < chart .locations → (member (getD after q 0) j ≡ true) ↔ Live chart q j
   pub beyond : (q : ℕ) → chart .locations ≤ q → getD after q 0 ≡ getD before q 0
+  pub searched-few : (f .searched ≡ true) ↔ FamiliesAtMost mostFamilies chart
+  pub floor-fewest : f .searched ≡ true → FewestTimers chart (f .floor)
   pub floor-most : (q : ℕ) → q < chart .locations → ones (getD after q 0) ≤ f .floor
-  pub floor-reached : (q : ℕ) × (q < chart .locations) × (ones (getD after q 0) ≡ f .floor)
+  pub floor-reached : f .searched ≡ false → (q : ℕ) × (q < chart .locations) × (ones (getD after q 0) ≡ f .floor)
   pub floor-used : f .floor ≤ f .used
   pub used-above : (q j k : ℕ) → numberAt (board chart) q j ≡ some k → k < f .used
   pub used-reached : (u : ℕ) → f .used ≡ suc u → (q : ℕ) × (j : ℕ) × (numberAt (board chart) q j ≡ some u)

@@ -1,4 +1,4 @@
-// The analysis of a chart file: the live set of each location, used and floor.
+// The analysis of a chart file: the live set of each location, used and floor, and whether the floor is the smallest number of timers of any plan.
 ghost use mathlib.Core.Path.{_≡_};
 ghost use Prim.Native.Nat.{_≤_};
 ghost use lib.ListN.{length};
@@ -8,9 +8,13 @@ ghost use Rattle.analysis.specs.Analysing.{analysedIn, analyseAnswer, an
 use numbering::FileNumbered;
 use refusal::Refusal;
 
-// Used and floor, or a refusal.
+// Used, floor, and whether the floor is the smallest number of timers of any plan; or a refusal.
 pub enum Analysis {
-    Found { used: u32, floor: u32 },
+    Found {
+        used: u32,
+        floor: u32,
+        searched: bool,
+    },
     Refused(Refusal),
 }
 
@@ -27,7 +31,7 @@ fn copy(sets: &[u64], live: &mut [u64])
     }
 }
 
-// The live sets of the file's chart over the front of the list, with used and floor; or a refusal, 1 to 10, then 21.
+// The live sets of the file's chart over the front of the list, with used, floor and searched; or a refusal, 1 to 10, then 21.
 pub fn analyse(file: &[u8], live: &mut [u64]) -> Analysis
     ensures answer { λ r. ⌜ analysisAs r ≡ analyseAnswer (length (now (live .entry))) (now (file .entry)) ⌝ }
     ensures lent { λ _. ⌜ now (live .exit)
@@ -42,13 +46,18 @@ pub fn analyse(file: &[u8], live: &mut [u64]) -> Analysis
             header,
             used,
             floor,
+            searched,
         } => {
             let m = header.locations as usize;
             if live.len() < m {
                 return Analysis::Refused(refusal::NO_ROOM);
             }
             copy(&sets[..m], live);
-            Analysis::Found { used, floor }
+            Analysis::Found {
+                used,
+                floor,
+                searched,
+            }
         }
     }
 }
