@@ -1,6 +1,7 @@
 -- The text that is made of a chart's cells is the text of the chart. What is hard is only that the cells stand at the front of a longer list, and
 -- that no number that is given is the one that marks a cell with none. Assumes nothing.
 use mathlib.Core.Path.{_≡_, refl, ap, _∙_}
+use mathlib.Core.Bool.{Bool}
 use mathlib.Core.Option.{Option, none, some}
 use mathlib.Core.List.{List, [], _∷_, _++_, append-assoc}
 use Prim.Native.Nat.{ℕ, _+_, _*_, _≤_, _<_}
@@ -10,7 +11,8 @@ use Rattle.lists.specs.Lists.{gather}
 use Rattle.lists.proofs.Flatten.{gather-same}
 use Rattle.model.specs.Chart.{Chart}
 use Rattle.model.specs.Valid.{Valid}
-use Rattle.model.specs.FirstFit.{floor, board, used}
+use Rattle.model.specs.FirstFit.{board, used}
+use Rattle.model.specs.Floor.{floor, searched}
 use Rattle.model.specs.Rewrite.{Numbering, numbering}
 use Rattle.chart_lists.specs.Limits.{mostTimers}
 use Rattle.chart_lists.specs.Begins.{Begins}
@@ -53,18 +55,18 @@ module _ (N : Numbering) (few : (q j k : ℕ) → N .number q j ≡ some k → k
 
 module _ {W : ℕ} {c : Chart} (v : Valid W c) (few : used c ≤ 64) {l : List ℕ}
     (b : Begins (cellsOf (numbering (board c)) (c .locations)) l)
-    {m : Header} (is : m ≡ headerOf c) {u f : ℕ} (eu : u ≡ used c) (ef : f ≡ floor c) where
-  pub text-is : (K : ℕ) → firstLine u f K ++ linesIn l (m .timers) (m .locations) ≡ chartText K c
+    {m : Header} (is : m ≡ headerOf c) {u f : ℕ} {s : Bool} (eu : u ≡ used c) (ef : f ≡ floor c) (es : s ≡ searched c) where
+  pub text-is : (K : ℕ) → firstLine u f s K ++ linesIn l (m .timers) (m .locations) ≡ chartText K c
   unfolding chartText used numbering
   text-is K =
-      rw (timers-are c is, locations-are c is, eu, ef)
-      (ap (λ (x : List ℕ). firstLine (used c) (floor c) K ++ x)
+      rw (timers-are c is, locations-are c is, eu, ef, es)
+      (ap (λ (x : List ℕ). firstLine (used c) (floor c) (searched c) K ++ x)
       (lines-are (numbering (board c)) (board-few c few) (c .timers) (c .locations) (v .few-timers) b))
 
   -- what the code that puts it asks for
   pub text-asks : (K room : ℕ) → largestText ≤ room → length l ≤ mostCells
       → (64 * m .locations ≤ length l) × (length l ≤ mostCells) × (m .timers ≤ mostTimers)
-      × (length (firstLine u f K ++ linesIn l (m .timers) (m .locations)) ≤ room)
+      × (length (firstLine u f s K ++ linesIn l (m .timers) (m .locations)) ≤ room)
   text-asks K room r n = (
     omega (arith, locations-are c is, begins-room b, cells-length (numbering (board c)) (c .locations)),
     n,

@@ -1,5 +1,5 @@
--- The texts for charts A and B with K = 16: that for B is the example of document 01 ("What the four parts hand back"); A has another used than
--- floor, and locations with two live timers. Nothing is hard: the definitions compute it. Assumes nothing.
+-- The texts for charts A and B with K = 16: that for B is the example of document 01 ("What the four parts hand back"); A, whose floor is that of
+-- document 02 (P1), has locations with two live timers. Nothing is hard: the definitions compute it. Assumes nothing.
 use mathlib.Core.Path.{_≡_, refl}
 use mathlib.Core.List.{List, [], _∷_, _++_, filterMap}
 use Prim.Native.Nat.{ℕ}
@@ -9,9 +9,11 @@ use Rattle.lists.specs.Lists.{memb, anyOf, firstOf, lowest, gather, upTo, pick,
 use Rattle.comparison.specs.Comparison.{comparisonOf, met}
 use Rattle.model.specs.Flow.{brings, made, round, roundsOf, sameSets, changing, settled}
 use Rattle.model.specs.Live.{startsSet, testsSet, atInitial, liveFlow, unstartedFlow, reachedFlow}
-use Rattle.model.specs.Live.{liveSets, unstartedSets, reachedSets, isEmpty, firstUnreached, firstUnstarted}
+use Rattle.model.specs.Live.{liveSets, fullest, unstartedSets, reachedSets, isEmpty, firstUnreached, firstUnstarted}
 use Rattle.model.specs.Family.{isPair, livePairs, familyNumber, linkFlow, familyOf, familyFrom, families, meets}
-use Rattle.model.specs.FirstFit.{held, free, place, firstFit, usedBy, numberAt, allHeld, blocked, fullest, floor, board}
+use Rattle.model.specs.FirstFit.{held, free, place, firstFit, usedBy, numberAt, allHeld, blocked, board}
+use Rattle.model.specs.SmallestPlan.{placings, meetingDiffer, planned, fewest}
+use Rattle.model.specs.Floor.{searched, floor}
 use Rattle.model.specs.Rewrite.{numbering}
 use Rattle.model.specs.Judge.{judged, fitted, rewriting}
 use Rattle.file_format.specs.Parse.{number, below, many, entry, rising}
@@ -19,13 +21,13 @@ use Rattle.file_format.specs.Body.{readComparison, readTest, readTests, recordL
 use Rattle.file_format.specs.Body.{readHeader, chartOf, readBody}
 use Rattle.file_format.specs.File.{readFrame, judgeFrame, readFile, chartIn}
 use Rattle.file_format.specs.Cases.{bytesOfA, bytesOfB}
-use Rattle.listing.specs.Text.{decimalIn, decimal, refusedWord, usedWord, floorWord, limitWord, atWord}
+use Rattle.listing.specs.Text.{decimalIn, decimal, refusedWord, usedWord, floorWord, seenWord, limitWord, atWord}
 use Rattle.listing.specs.Listing.{refusedText, firstLine, lineOf, chartText, accepted, textOf}
 
--- used 3 floor 2 limit 16; at 0; at 1 0>0; at 2 0>0 1>1; at 3 1>1 2>2; at 4 0>0 2>2; at 5 2>2; at 6
+-- used 3 floor 3 limit 16; at 0; at 1 0>0; at 2 0>0 1>1; at 3 1>1 2>2; at 4 0>0 2>2; at 5 2>2; at 6
 pub linesOfA : List ℕ
 linesOfA =
-    (117 ∷ 115 ∷ 101 ∷ 100 ∷ 32 ∷ 51 ∷ 32 ∷ 102 ∷ 108 ∷ 111 ∷ 111 ∷ 114 ∷ 32 ∷ 50 ∷ 32 ∷ 108 ∷ 105 ∷ 109 ∷ 105 ∷ 116 ∷ 32 ∷ 49 ∷ 54 ∷ 10 ∷ [])
+    (117 ∷ 115 ∷ 101 ∷ 100 ∷ 32 ∷ 51 ∷ 32 ∷ 102 ∷ 108 ∷ 111 ∷ 111 ∷ 114 ∷ 32 ∷ 51 ∷ 32 ∷ 108 ∷ 105 ∷ 109 ∷ 105 ∷ 116 ∷ 32 ∷ 49 ∷ 54 ∷ 10 ∷ [])
     ++ (97 ∷ 116 ∷ 32 ∷ 48 ∷ 10 ∷ [])
     ++ (97 ∷ 116 ∷ 32 ∷ 49 ∷ 32 ∷ 48 ∷ 62 ∷ 48 ∷ 10 ∷ [])
     ++ (97 ∷ 116 ∷ 32 ∷ 50 ∷ 32 ∷ 48 ∷ 62 ∷ 48 ∷ 32 ∷ 49 ∷ 62 ∷ 49 ∷ 10 ∷ [])
@@ -55,9 +57,10 @@ unfolding bytesOfA bytesOfB linesOfA linesOfB
     brings made round roundsOf sameSets changing settled
     startsSet testsSet atInitial liveFlow unstartedFlow reachedFlow liveSets unstartedSets reachedSets isEmpty firstUnreached firstUnstarted
     isPair livePairs familyNumber linkFlow familyOf familyFrom families meets
-    held free place firstFit usedBy numberAt allHeld blocked fullest floor board numbering
+    held free place firstFit usedBy numberAt allHeld blocked board numbering
+    placings meetingDiffer planned fewest searched fullest floor
     judged fitted rewriting
     number below many entry rising readComparison readTest readTests recordLength readTransition readTransitions readHeader chartOf readBody
     readFrame judgeFrame readFile chartIn
-    decimalIn decimal refusedWord usedWord floorWord limitWord atWord refusedText firstLine lineOf chartText accepted textOf
+    decimalIn decimal refusedWord usedWord floorWord seenWord limitWord atWord refusedText firstLine lineOf chartText accepted textOf
 texts = record { text-of-A = refl; text-of-B = refl }

@@ -13,13 +13,14 @@ use borrow.Author.Tests.{ltb-true, ltb-false}
 use Rattle.lists.specs.Lists.{gather}
 use Rattle.model.specs.Chart.{Chart}
 use Rattle.model.specs.Valid.{Valid}
-use Rattle.model.specs.FirstFit.{floor, board, used}
+use Rattle.model.specs.FirstFit.{board, used}
+use Rattle.model.specs.Floor.{floor, searched}
 use Rattle.model.specs.Rewrite.{Numbering, numbering}
 use Rattle.model.proofs.NumberAt.{number-below}
 use Rattle.listing.specs.Text.{decimalIn, decimal, atWord}
 use Rattle.listing.specs.Listing.{largestText, refusedText, entryText, lineOf, chartText}
 use Rattle.listing.proofs.Decimal.{decimal-one, length-more}
-use Rattle.listing.proofs.Parts.{refused-length, first-length, entry-length}
+use Rattle.listing.proofs.Parts.{refused-length, word-most, first-length, entry-length}
 
 digits-most : (k n : ℕ) → length (decimalIn k n) ≤ k
 unfolding decimalIn
@@ -74,6 +75,6 @@ unfolding chartText
 chart-fits {W} {c} v few K =
     let N = numbering (board c) in
     let lines = gather-most (lineOf (c .timers) N) 408 (c .locations) (λ q h. line-most N (board-few c few) (c .timers) (v .few-timers) q) in
-    let first = first-length (N .used) (floor c) K in
+    let first = first-length (N .used) (floor c) (searched c) K in
     rw length-append
-    (omega (arith, lines, v .few-locations, first, decimal-most (N .used), decimal-most (floor c), decimal-most K))
+    (omega (arith, lines, v .few-locations, first, decimal-most (N .used), word-most (searched c), decimal-most (floor c), decimal-most K))

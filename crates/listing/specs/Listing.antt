@@ -1,5 +1,6 @@
--- The program's whole output for its whole input (document 01, "What the four parts hand back"): one byte K, then a chart file. Assumes nothing.
-use mathlib.Core.Bool.{true, false}
+-- The program's whole output for its whole input (document 01, "What the four parts hand back"; document 02, P1): one byte K, then a chart file.
+-- Assumes nothing.
+use mathlib.Core.Bool.{Bool, true, false}
 use mathlib.Core.Option.{Option, none, some}
 use mathlib.Core.List.{List, [], _∷_, _++_}
 use Prim.Native.Nat.{ℕ}
@@ -8,11 +9,12 @@ use lib.ListN.{length}
 use Rattle.lists.specs.Lists.{gather}
 use Rattle.model.specs.Answer.{Answer, result, refused, then, nowhere}
 use Rattle.model.specs.Chart.{Chart}
-use Rattle.model.specs.FirstFit.{board, floor}
+use Rattle.model.specs.FirstFit.{board}
+use Rattle.model.specs.Floor.{floor, searched}
 use Rattle.model.specs.Rewrite.{Numbering, numbering}
 use Rattle.model.specs.Judge.{fitted, rewriting}
 use Rattle.file_format.specs.File.{chartIn}
-use Rattle.listing.specs.Text.{decimal, space, lineFeed, refusedWord, usedWord, floorWord, limitWord, atWord, greater}
+use Rattle.listing.specs.Text.{decimal, space, lineFeed, refusedWord, usedWord, floorWord, seenWord, limitWord, atWord, greater}
 
 -- the bytes that an input may have
 abbrev pub largestInput : ℕ
@@ -26,9 +28,14 @@ largestText = 131072
 unfoldable pub refusedText : (number place : ℕ) → List ℕ
 refusedText n p = refusedWord ++ (decimal n ++ (space ∷ (decimal p ++ (lineFeed ∷ []))))
 
+-- the word before the floor: a floor that was not searched for is only what was seen at one location
+abbrev pub wordOf : (searched : Bool) → List ℕ
+wordOf true = floorWord
+wordOf false = seenWord
+
 -- the first line of a chart's text
-unfoldable pub firstLine : (used floor K : ℕ) → List ℕ
-firstLine u f k = usedWord ++ (decimal u ++ (floorWord ++ (decimal f ++ (limitWord ++ (decimal k ++ (lineFeed ∷ []))))))
+unfoldable pub firstLine : (used floor : ℕ) → (searched : Bool) → (K : ℕ) → List ℕ
+firstLine u f s k = usedWord ++ (decimal u ++ (wordOf s ++ (decimal f ++ (limitWord ++ (decimal k ++ (lineFeed ∷ []))))))
 
 -- a live timer with its board number; a timer that is not live has none
 abbrev pub entryText : (j : ℕ) → Option ℕ → List ℕ
@@ -41,7 +48,7 @@ lineOf timers N q = atWord ++ (decimal q ++ (gather (λ j. entryText j (N .numbe
 
 -- the text of a chart: the first line, then a line for each location
 unfoldable pub chartText : (K : ℕ) → Chart → List ℕ
-chartText k c = let N = numbering (board c) in firstLine (N .used) (floor c) k ++ gather (lineOf (c .timers) N) (c .locations)
+chartText k c = let N = numbering (board c) in firstLine (N .used) (floor c) (searched c) k ++ gather (lineOf (c .timers) N) (c .locations)
 
 -- the chart, judged as the rewriting judges it, with room enough
 unfoldable pub accepted : (K : ℕ) → List ℕ → Answer Chart

@@ -38,6 +38,10 @@ usedWord = 117 ∷ 115 ∷ 101 ∷ 100 ∷ 32 ∷ []
 unfoldable pub floorWord : List ℕ
 floorWord = 32 ∷ 102 ∷ 108 ∷ 111 ∷ 111 ∷ 114 ∷ 32 ∷ []
 
+-- " seen "
+unfoldable pub seenWord : List ℕ
+seenWord = 32 ∷ 115 ∷ 101 ∷ 101 ∷ 110 ∷ 32 ∷ []
+
 -- " limit "
 unfoldable pub limitWord : List ℕ
 limitWord = 32 ∷ 108 ∷ 105 ∷ 109 ∷ 105 ∷ 116 ∷ 32 ∷ []

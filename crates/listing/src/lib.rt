@@ -31,11 +31,12 @@ fn put_file(out: &mut [u8], limit: u8, file: &[u8]) -> usize
             header,
             used,
             floor,
+            searched,
         } => {
             let l = numbering::judge_limit(limit as u32, used);
             match l {
                 Limit::Refused(f) => put_refusal(out, f),
-                Limit::Enough => put_chart(out, limit, header, used, floor, &cells),
+                Limit::Enough => put_chart(out, limit, header, used, floor, searched, &cells),
             }
         }
     }

@@ -4,7 +4,8 @@ ghost use Prim.Native.Nat.{_+_, _*_, _≤_};
 ghost use lib.ListN.{length};
 ghost use Rattle.chart_lists.specs.Limits.{mostTimers};
 ghost use Rattle.allocation.specs.Cells.{mostCells};
-ghost use Rattle.listing.specs.Listing.{refusedText, firstLine, entryText};
+ghost use Rattle.listing.specs.Text.{decimal};
+ghost use Rattle.listing.specs.Listing.{refusedText, wordOf, firstLine, entryText};
 ghost use Rattle.listing.specs.PutBytes.{PutBytes};
 ghost use Rattle.listing.specs.Cells.{inCell, entriesIn, lineIn, linesIn};
 use crate::text::put_number;
@@ -23,12 +24,23 @@ pub fn put_refusal(out: &mut [u8], f: Refusal) -> usize
     end + 1
 }
 
-fn put_first_line(out: &mut [u8], used: u32, floor: u32, limit: u8) -> usize
-    requires { ⌜ length (firstLine used floor limit) ≤ length (now out) ⌝ }
-    ensures { λ r. ⌜ PutBytes (firstLine used floor limit) (now (out .entry)) (now (out .exit)) r ⌝ }
+// The floor after its word.
+fn put_floor(out: &mut [u8], floor: u32, searched: bool) -> usize
+    requires { ⌜ length (wordOf searched) + length (decimal floor) ≤ length (now out) ⌝ }
+    ensures { λ r. ⌜ PutBytes (wordOf searched ++ decimal floor) (now (out .entry)) (now (out .exit)) r ⌝ }
+{
+    if searched {
+        return put_number(out, b" floor ", floor as u64);
+    }
+    put_number(out, b" seen ", floor as u64)
+}
+
+fn put_first_line(out: &mut [u8], used: u32, floor: u32, searched: bool, limit: u8) -> usize
+    requires { ⌜ length (firstLine used floor searched limit) ≤ length (now out) ⌝ }
+    ensures { λ r. ⌜ PutBytes (firstLine used floor searched limit) (now (out .entry)) (now (out .exit)) r ⌝ }
 {
     let at = put_number(out, b"used ", used as u64);
-    let next = at + put_number(&mut out[at..], b" floor ", floor as u64);
+    let next = at + put_floor(&mut out[at..], floor, searched);
     let end = next + put_number(&mut out[next..], b" limit ", limit as u64);
     out[end] = b'\n';
     end + 1
@@ -95,16 +107,17 @@ pub fn put_chart(
     header: Header,
     used: u32,
     floor: u32,
+    searched: bool,
     cells: &[u16],
 ) -> usize
     requires { ⌜
         (64 * header .locations ≤ length (now cells)) × (length (now cells) ≤ mostCells) × (header .timers ≤ mostTimers)
-        × (length (firstLine used floor limit ++ linesIn (now cells) (header .timers) (header .locations)) ≤ length (now out)) ⌝ }
+        × (length (firstLine used floor searched limit ++ linesIn (now cells) (header .timers) (header .locations)) ≤ length (now out)) ⌝ }
     ensures { λ r. ⌜
-        PutBytes (firstLine used floor limit ++ linesIn (now (cells .entry)) (header .timers) (header .locations))
+        PutBytes (firstLine used floor searched limit ++ linesIn (now (cells .entry)) (header .timers) (header .locations))
         (now (out .entry)) (now (out .exit)) r ⌝ }
 {
-    let at = put_first_line(out, used, floor, limit);
+    let at = put_first_line(out, used, floor, searched, limit);
     at
         + put_lines(
             &mut out[at..],

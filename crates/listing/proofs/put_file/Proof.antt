@@ -35,7 +35,8 @@ abbrev file : tie.After-a2 → List ℕ
 file c = start (called c) .args .file .now
 
 -- the chart, and what the lists hold of it
-numbered : (c : tie.After-a2) → let g = c .a2 .given .0 in FileChart (file c) (record { header = g .0; used = g .1 .0; floor = g .1 .1 .0 })
+numbered : (c : tie.After-a2) → let g = c .a2 .given .0 in
+    FileChart (file c) (record { header = g .0; used = g .1 .0; floor = g .1 .1 .0; searched = g .1 .1 .1 .0 })
 numbered c = file-chart _ (sym (ap fileNumberedAs (c .a2 .given .1)) ∙ called c .number-file .ensures .0)
 
 lists : (c : tie.After-a2) → let l = called c .number-file .last in ListsNumbered (numbered c .chart) (l .1 .0) (l .1 .1 .0)
@@ -95,7 +96,7 @@ put-chart-requires c κs =
     let n = numbered x in
     let l = lists x in
     let s = start (called x) in
-    text-asks (l .valid) (few j (c .before .before .enum-told .given .1)) (l .cells-are) (n .header-is) (n .used-is) (n .floor-is)
+    text-asks (l .valid) (few j (c .before .before .enum-told .given .1)) (l .cells-are) (n .header-is) (n .used-is) (n .floor-is) (n .searched-is)
     (s .args .limit) (length (now (s .args .out))) (s .pre) (omega (arith, called x .number-file .kept .1 .1 .0))
 
 same-length : tie.Need-same-length
@@ -133,7 +134,7 @@ returns-3 c =
     let l = lists x in
     let k = start (called x) .args .limit in
     let e = listed-enough k (n .chart) (judged j (t .enum-told .given .1)) (n .used-is) in
-    let text = text-is (l .valid) (few j (t .enum-told .given .1)) (l .cells-are) (n .header-is) (n .used-is) (n .floor-is) k in
+    let text = text-is (l .valid) (few j (t .enum-told .given .1)) (l .cells-are) (n .header-is) (n .used-is) (n .floor-is) (n .searched-is) k in
     bytes-as (c .before .before .put-chart .ensures) (text ∙ sym (ap (answerText k) (accepted-judged k (file x) (n .judged) ∙ e)))
 
 pub put-file-spec : {M : Type 1} → statement M

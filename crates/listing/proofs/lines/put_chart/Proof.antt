@@ -20,7 +20,7 @@ start c = c .before .before .before .before
 
 -- room for both
 abbrev line : tie.Start → List ℕ
-line s = firstLine (s .args .used) (s .args .floor) (s .args .limit)
+line s = firstLine (s .args .used) (s .args .floor) (s .args .searched) (s .args .limit)
 
 abbrev lines : tie.Start → List ℕ
 lines s = linesIn (now (s .args .cells)) (s .args .header .timers) (s .args .header .locations)
