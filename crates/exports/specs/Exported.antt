@@ -1,6 +1,7 @@
--- The answers as C sees them: number and place are 0 where there is a result, the result's fields are 0 where there is a refusal.
+-- The answers as C sees them: number and place are 0 where there is a result, the result's fields are 0 where there is a refusal; yes is 1, no is 0.
 -- Assumes nothing.
-use mathlib.Core.Bool.{cond}
+use mathlib.Core.Bool.{Bool, cond}
+use Prim.Native.Nat.{ℕ}
 use Rattle.model.specs.Answer.{Answer, result, refused}
 use Rattle.model.specs.Player.{Arrival}
 use Rattle.analysis.specs.Analysing as analysis
@@ -9,15 +10,17 @@ use Rattle.exports.specs.declared.chart_analysis.{«chart_analysis»}
 use Rattle.exports.specs.declared.chart_rewriting.{«chart_rewriting»}
 use Rattle.exports.specs.declared.chart_playing.{«chart_playing»}
 
+abbrev pub bit : Bool → ℕ
+bit b = cond b 1 0
+
 abbrev pub analysisOf : Answer analysis.AnalysisValues → «chart_analysis»
-analysisOf (result f) = record { number = 0; place = 0; used = f .used; floor = f .floor }
-analysisOf (refused n p) = record { number = n; place = p; used = 0; floor = 0 }
+analysisOf (result f) = record { number = 0; place = 0; used = f .used; floor = f .floor; searched = bit (f .searched) }
+analysisOf (refused n p) = record { number = n; place = p; used = 0; floor = 0; searched = 0 }
 
 abbrev pub rewritingOf : Answer rewriting.RewritingValues → «chart_rewriting»
 rewritingOf (result f) = record { number = 0; place = 0; used = f .used; length = f .length }
 rewritingOf (refused n p) = record { number = n; place = p; used = 0; length = 0 }
 
--- accepting is 1 or 0
 abbrev pub playingOf : Answer Arrival → «chart_playing»
-playingOf (result x) = record { number = 0; place = 0; location = x .location; time = x .time; accepting = cond (x .accepting) 1 0 }
+playingOf (result x) = record { number = 0; place = 0; location = x .location; time = x .time; accepting = bit (x .accepting) }
 playingOf (refused n p) = record { number = n; place = p; location = 0; time = 0; accepting = 0 }

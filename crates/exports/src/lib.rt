@@ -11,13 +11,14 @@ use analysis::Analysis;
 use player::Played;
 use rewriting::Rewritten;
 
-// A refusal's number and place, or 0 and 0 with used and floor.
+// A refusal's number and place, or 0 and 0 with used and floor; searched is 1 where floor is the smallest number of timers of any plan, else 0.
 #[repr(C)]
 pub struct chart_analysis {
     pub number: u64,
     pub place: u64,
     pub used: u64,
     pub floor: u64,
+    pub searched: u64,
 }
 
 // A refusal's number and place, or 0 and 0 with the timers used and the new file's length.
@@ -48,17 +49,23 @@ pub extern "C" fn chart_analyse(file: &[u8], live: &mut [u64]) -> chart_analysis
 {
     let a = analysis::analyse(file, live);
     match a {
-        Analysis::Found { used, floor } => chart_analysis {
+        Analysis::Found {
+            used,
+            floor,
+            searched,
+        } => chart_analysis {
             number: 0,
             place: 0,
             used: used as u64,
             floor: floor as u64,
+            searched: searched as u64,
         },
         Analysis::Refused(f) => chart_analysis {
             number: f.number as u64,
             place: f.place,
             used: 0,
             floor: 0,
+            searched: 0,
         },
     }
 }

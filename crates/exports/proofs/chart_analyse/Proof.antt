@@ -1,10 +1,21 @@
 -- `chart_analyse`: the answer of the analysis, field by field, and its lent memory. Assumes nothing.
-use mathlib.Core.Path.{sym, ap, _∙_}
+use mathlib.Core.Path.{_≡_, refl, sym, ap, _∙_}
+use mathlib.Core.Bool.{Bool, true, false}
+use Prim.Native.Nat.{ℕ}
+use mir.Val.{boolByte}
+use Rattle.model.specs.Answer.{result}
 use Rattle.analysis.specs.Analysing.{analysisAs}
+use Rattle.exports.specs.declared.chart_analysis.{«chart_analysis»}
 use Rattle.exports.specs.Exported.{analysisOf}
 use borrow.Author.Needs.{needs}
 use Rattle.exports.proofs.chart_analyse.Statement.{statement}
 use Rattle.exports.proofs.chart_analyse.Tie as tie
+
+-- the code's cast makes 1 of true and 0 of false
+found : (u f : ℕ) (b : Bool) → _≡_ {A = «chart_analysis»} (record { number = 0; place = 0; used = u; floor = f; searched = boolByte b })
+    (analysisOf (result (record { used = u; floor = f; searched = b })))
+found u f true = refl
+found u f false = refl
 
 analyse-requires : tie.Need-analyse-requires
 analyse-requires c κs = search needs
@@ -12,17 +23,20 @@ analyse-requires c κs = search needs
 enum-known-a : tie.Need-enum-known-a
 enum-known-a c = search needs
 
-cast-t10 : tie.Need-cast-t10
-cast-t10 c = search needs
-
 cast-t11 : tie.Need-cast-t11
 cast-t11 c = search needs
+
+cast-t12 : tie.Need-cast-t12
+cast-t12 c = search needs
+
+cast-t13 : tie.Need-cast-t13
+cast-t13 c = search needs
 
 enum-known-a-2 : tie.Need-enum-known-a-2
 enum-known-a-2 c = search needs
 
-cast-t12 : tie.Need-cast-t12
-cast-t12 c = search needs
+cast-t14 : tie.Need-cast-t14
+cast-t14 c = search needs
 
 same-length : tie.Need-same-length
 same-length c = search needs
@@ -30,7 +44,8 @@ same-length c = search needs
 returns : tie.Need-returns
 returns c =
     let e = c .before .before .before .before .before .analyse .ensures in
-    (ap analysisOf (sym (ap analysisAs (c .before .a .given .1)) ∙ e .0), e .1)
+    let g = c .before .a .given .0 in
+    (found (g .0) (g .1 .0) (g .1 .1 .0) ∙ ap analysisOf (sym (ap analysisAs (c .before .a .given .1)) ∙ e .0), e .1)
 
 same-length-2 : tie.Need-same-length-2
 same-length-2 c = search needs
@@ -46,10 +61,11 @@ chart-analyse-spec =
     (tie.spec
     analyse-requires
     enum-known-a
-    cast-t10
     cast-t11
-    enum-known-a-2
     cast-t12
+    cast-t13
+    enum-known-a-2
+    cast-t14
     same-length
     returns
     same-length-2
