@@ -9,13 +9,15 @@ use Rattle.comparison.specs.Comparison.{met, comparisonOf, codeOf}
 use Rattle.model.specs.Run.{grown, restarted, allMet, after, enabled, attempt, steps, begin, outcome, playerTime, accepts}
 use Rattle.model.specs.Flow.{brings, made, round, roundsOf, sameSets, changing, settled}
 use Rattle.model.specs.Live.{startsSet, testsSet, atInitial, liveFlow, unstartedFlow, reachedFlow, liveSets, unstartedSets, reachedSets}
-use Rattle.model.specs.Live.{isEmpty, firstUnreached, firstUnstarted}
+use Rattle.model.specs.Live.{isEmpty, firstUnreached, firstUnstarted, fullest}
 use Rattle.model.specs.Family.{isPair, livePairs, familyNumber, linkFlow, familyOf, familyFrom, families, meets}
-use Rattle.model.specs.FirstFit.{held, free, place, firstFit, usedBy, numberAt, allHeld, blocked, fullest, floor, board, used}
+use Rattle.model.specs.FirstFit.{held, free, place, firstFit, usedBy, numberAt, allHeld, blocked, board, used}
+use Rattle.model.specs.SmallestPlan.{placings, meetingDiffer, planned, fewest}
+use Rattle.model.specs.Floor.{searched, floor}
 use Rattle.model.specs.Rewrite.{numbering, renamed, newTests, newStarts, newTransition, rewrittenBy}
 use Rattle.model.specs.Judge.{judged, fitted, rewriting}
 use Rattle.model.specs.Player.{arrival, answerOf, tooLarge, countsJudged, stepsOf, played}
-use Rattle.model.specs.Cases.{arrow, onEvent, test, drawn, A, B, C, selfLoop, neverStarted, restart, ownStart, twoEvents}
+use Rattle.model.specs.Cases.{arrow, onEvent, test, drawn, A, B, C, selfLoop, neverStarted, restart, ownStart, twoEvents, aboveFloor}
 use Rattle.model.specs.Cases.{B′, C′, selfLoop′, twoEvents′, boardNumbers, Case, case, starred, unnoticed}
 use Rattle.file_format.specs.Parse.{number, below, many, entry, rising, digits, writeAll}
 use Rattle.file_format.specs.Body.{readComparison, readTest, readTests, recordLength, readTransition, readTransitions, readHeader, chartOf, readBody}
@@ -29,7 +31,7 @@ use Rattle.player.specs.Playing.{playAnswer}
 use Rattle.equivalence.specs.OnFiles.{analysedList, askFile}
 
 pub starred-on-files : map (λ (x : Case). askFile (x .question)) (starred ++ unnoticed) ≡ map (λ (x : Case). x .reply) (starred ++ unnoticed)
-unfolding arrow onEvent test drawn A B C selfLoop neverStarted restart ownStart twoEvents B′ C′ selfLoop′ twoEvents′
+unfolding arrow onEvent test drawn A B C selfLoop neverStarted restart ownStart twoEvents aboveFloor B′ C′ selfLoop′ twoEvents′
     boardNumbers case starred unnoticed
     member joined common minus added everyTimer setOf met comparisonOf codeOf ones onesIn filterMap
     memb anyOf firstOf lowest gather upTo pick top
@@ -37,7 +39,8 @@ unfolding arrow onEvent test drawn A B C selfLoop neverStarted restart ownStart 
     brings made round roundsOf sameSets changing settled
     startsSet testsSet atInitial liveFlow unstartedFlow reachedFlow liveSets unstartedSets reachedSets isEmpty firstUnreached firstUnstarted
     isPair livePairs familyNumber linkFlow familyOf familyFrom families meets
-    held free place firstFit usedBy numberAt allHeld blocked fullest floor board used
+    held free place firstFit usedBy numberAt allHeld blocked board used
+    placings meetingDiffer planned fewest searched fullest floor
     numbering renamed newTests newStarts newTransition rewrittenBy
     judged fitted rewriting arrival answerOf tooLarge countsJudged stepsOf played
     number below many entry rising digits writeAll
