@@ -14,10 +14,15 @@ pub fn analyse(file: &[u8], values: &[u8]) {
     let answer = analysis::analyse(file, live);
     match answer {
         analysis::Analysis::Refused(r) => refusal(r, changed64(0, live, 0)),
-        analysis::Analysis::Found { used, floor } => {
+        analysis::Analysis::Found {
+            used,
+            floor,
+            searched,
+        } => {
             let locations = count(values, 1, MOST_LOCATIONS);
             item(b"used ", used as u64);
             item(b" floor ", floor as u64);
+            item(b" searched ", searched as u64);
             item(b" beyond ", changed64(0, live, locations) as u64);
             text(b"\nlive");
             sets(live, locations);
