@@ -1,5 +1,7 @@
 // The smallest number of timers in any plan that gives meeting families different numbers, by search. At most 20 families: a set of them is a
 // TimerSet, family i in the place of timer i, and row i is the set of those that family i meets.
+mod clique;
+
 ghost use mathlib.Core.Path.{_≡_};
 ghost use mathlib.Core.Bool.{true};
 ghost use Prim.Native.Nat.{ℕ, _-_, _^_, _≤_, _<_, min, max};
@@ -8,6 +10,7 @@ ghost use lib.ListN.{getD};
 ghost use Rattle.timer_set.specs.Members.{member, common, minus};
 ghost use Rattle.smallest_plan.specs.RowPlans.{mostFamilies, Mutual, Bounds, SmallestOf};
 ghost use Rattle.smallest_plan.specs.Search.{Ready, Answers, holding};
+use clique::largest_clique;
 use timer_set::TimerSet;
 
 // The most families that rows are given for.
@@ -156,14 +159,15 @@ fn families_below(n: usize) -> TimerSet
     }
 }
 
-// The smallest number of timers in any plan for n families, which is at least `low` and at most `high`: nothing is searched where these are equal.
+// The smallest number of timers in any plan for n families, which is at least `low` and at most `high`: no number is searched below the size of the
+// largest clique, and nothing where the bounds are equal.
 pub fn smallest(rows: &[u64; MOST_FAMILIES], n: usize, low: usize, high: usize) -> usize
     requires { ⌜ (n ≤ mostFamilies) × (high ≤ mostFamilies) × Mutual (now rows) n × Bounds (now rows) n low high ⌝ }
     ensures { λ r. ⌜ SmallestOf (now (rows .entry)) n r ⌝ }
 {
     let held = [0u64; MOST_FAMILIES];
     let all = families_below(n);
-    let mut k = low;
+    let mut k = largest_clique(rows, all, low);
     while k < high {
         if conflict(rows, k, held, all, 0).is_empty() {
             return k;
