@@ -84,18 +84,18 @@ fn pick(
 // The family v takes the number c: it is held against each family that v meets.
 fn hold(
     rows: &[u64; MOST_FAMILIES],
-    held: [u64; MOST_FAMILIES],
+    held: &[u64; MOST_FAMILIES],
     v: u8,
     c: usize,
 ) -> [u64; MOST_FAMILIES]
     requires { ⌜ (v < mostFamilies) × (c < mostFamilies) ⌝ }
-    ensures { λ r. ⌜ r ≡ holding (now (rows .entry)) held v c ⌝ }
+    ensures { λ r. ⌜ r ≡ holding (now (rows .entry)) (now (held .entry)) v c ⌝ }
 {
     let against = TimerSet { bits: held[c] };
     let row = TimerSet {
         bits: rows[v as usize],
     };
-    let mut next = held;
+    let mut next = *held;
     next[c] = against.join(row).bits;
     next
 }
@@ -120,17 +120,17 @@ fn takes_nothing(rows: &[u64; MOST_FAMILIES], v: u8, against: TimerSet, part: Ti
 fn conflict(
     rows: &[u64; MOST_FAMILIES],
     k: usize,
-    held: [u64; MOST_FAMILIES],
+    held: &[u64; MOST_FAMILIES],
     unplaced: TimerSet,
     used: usize,
 ) -> TimerSet
-    requires { ⌜ Ready (now rows) held k (unplaced .bits) used ⌝ }
-    ensures { λ r. ⌜ Answers (now (rows .entry)) held k (unplaced .bits) (r .bits) ⌝ }
+    requires { ⌜ Ready (now rows) (now held) k (unplaced .bits) used ⌝ }
+    ensures { λ r. ⌜ Answers (now (rows .entry)) (now (held .entry)) k (unplaced .bits) (r .bits) ⌝ }
 {
     if unplaced.is_empty() {
         return unplaced;
     }
-    let v = pick(rows, &held, unplaced, used);
+    let v = pick(rows, held, unplaced, used);
     let limit = smaller(k, used + 1);
     let mut found = TimerSet::EMPTY.with(v);
     let mut c: usize = 0;
@@ -138,7 +138,7 @@ fn conflict(
         let against = TimerSet { bits: held[c] };
         if !against.has(v) {
             let next = hold(rows, held, v, c);
-            let part = conflict(rows, k, next, unplaced.without(v), larger(used, c + 1));
+            let part = conflict(rows, k, &next, unplaced.without(v), larger(used, c + 1));
             if takes_nothing(rows, v, against, part) {
                 return part;
             }
@@ -169,7 +169,7 @@ pub fn smallest(rows: &[u64; MOST_FAMILIES], n: usize, low: usize, high: usize) 
     let all = families_below(n);
     let mut k = largest_clique(rows, all, low);
     while k < high {
-        if conflict(rows, k, held, all, 0).is_empty() {
+        if conflict(rows, k, &held, all, 0).is_empty() {
             return k;
         }
         k += 1;

@@ -29,15 +29,16 @@ loop-holds c = let p = c .before .before .pre in raised (p .3) (rw (c .before .f
 
 conflict-requires : tie.Need-conflict-requires Inv-loop μ-loop
 conflict-requires c κs =
-    let p = c .before .before .before .before .pre in
-    rw (c .before .before .before .families-below .ensures) (ready-start (p .0) (omega arith) (p .2))
+    let l = c .before .before in
+    let p = l .before .before .before .pre in
+    rw (l .before .before .families-below .ensures) (ready-start (p .0) (omega arith) (p .2))
 
 is-empty-requires : tie.Need-is-empty-requires Inv-loop μ-loop
 is-empty-requires c κs = search needs
 
 returns : tie.Need-returns Inv-loop μ-loop
 returns c =
-    let l = c .before .before .before .before in
+    let l = c .before .before .before .before .before in
     let e = eqb-true _ _ (sym (c .before .is-empty .ensures) ∙ c .if1 .taken) in
     enough (l .loop .inv) (rw (l .before .before .families-below .ensures) at (c .before .before .conflict .ensures .none e))
 
@@ -49,7 +50,7 @@ loop-less c = search needs
 
 loop-again : tie.Need-loop-again Inv-loop μ-loop
 loop-again c =
-    let l = c .before .before .before .before in
+    let l = c .before .before .before .before .before in
     let A = rw (l .before .before .families-below .ensures) at (c .before .before .conflict .ensures) in
     let n = eqb-false _ _ (sym (c .before .is-empty .ensures) ∙ c .if1 .left) in
     too-few (l .loop .inv) (λ f C. A .some n f (completes-part (A .within) C))
