@@ -51,8 +51,17 @@ exchanged-back a b x = go (cases a b x)
     go (inr (inl e)) = ap (exchanged a b) (e .1) ∙ exchanged-from a b ∙ sym (e .0)
     go (inr (inr e)) = ap (exchanged a b) (e .2) ∙ e .2
 
-exchanged-same : (a b x y : ℕ) → exchanged a b x ≡ exchanged a b y → x ≡ y
+pub exchanged-same : (a b x y : ℕ) → exchanged a b x ≡ exchanged a b y → x ≡ y
 exchanged-same a b x y e = sym (exchanged-back a b x) ∙ ap (exchanged a b) e ∙ exchanged-back a b y
+
+-- what is at most b, and not a, becomes less than b
+pub exchanged-less : (a b x : ℕ) → a ≤ b → x ≤ b → (x ≡ a → ⊥) → exchanged a b x < b
+exchanged-less a b x l m n = go (cases a b x)
+  where
+    go : Cases a b x (exchanged a b x) → exchanged a b x < b
+    go (inl e) = absurd (n (e .0))
+    go (inr (inl e)) = omega (arith, e .0, e .1)
+    go (inr (inr e)) = omega (arith, e .1, e .2)
 
 -- what holds of a, b and x holds of what x becomes
 exchanged-keeps : (P : ℕ → Type 0) (a b x : ℕ) → P a → P b → P x → P (exchanged a b x)

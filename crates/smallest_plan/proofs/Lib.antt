@@ -1,3 +1,4 @@
 pub mod Exchange
 pub mod Placing
 pub mod Whole
+pub mod Cliques

@@ -11,7 +11,7 @@ use native.Mathlib.Omega.{arith}
 use borrow.Author.Tests.{eq-eqb, ne-eqb}
 use lib.Bits.{and-le-l, and-le-r}
 use lib.Dec.{eqb}
-use lib.ListN.{length, getD}
+use lib.ListN.{length, length-set, getD}
 use lib.Seq.{getD-set-same, getD-set-other}
 use Rattle.lists.proofs.Bools.{not-both, is-yes, eqb-self, and-left, and-right, and-both, or-cases, or-left, or-right, same-number}
 use Rattle.timer_set.specs.Members.{member, joined, common, minus, added, removed}
@@ -74,6 +74,9 @@ put-cases f w v c i m = go (ℕ-discrete i v)
     go (no n) = inr (member-removed w v i ∙ and-both m (ap not (ne-eqb i v n)), rw (ne-eqb i v n))
 
 -- ---- v takes c
+
+pub holding-length : (rows held : List ℕ) (v c : ℕ) → length (holding rows held v c) ≡ length held
+holding-length rows held v c = length-set held c _
 
 module _ (rows held : List ℕ) (v c : ℕ) (l : c < length held) where
   -- against whom a number is held now

@@ -13,12 +13,17 @@ use Rattle.timer_set.specs.Members.{member}
 use Rattle.timer_set.proofs.Members.{member-empty, member-full, member-high}
 use Rattle.smallest_plan.specs.RowPlans.{mostFamilies, Mutual, RowPlan, Bounds, SmallestOf}
 use Rattle.smallest_plan.specs.Search.{Completes, Completable, Ready}
+use Rattle.smallest_plan.specs.Cliques.{Candidates, Apart, AtLeast}
 
 abbrev pub zeros : List ℕ
 zeros = replicate 20 0
 
 below-n : (n i : ℕ) → member (2 ^ n - 1) i ≡ true → i < n
 below-n n i m = ⊎-elim (λ l. l) (λ l. absurd (not-both m (member-high n (2 ^ n - 1) i (omega (arith, pow-pos n)) l))) (lt-or-le i n)
+
+-- all families may be in a clique
+pub all-candidates : {rows : List ℕ} {n : ℕ} → n ≤ mostFamilies → Mutual rows n → Candidates rows (2 ^ n - 1)
+all-candidates {n = n} h M = record { below = λ i m. omega (arith, below-n n i m); other = λ i m. M .other i (below-n n i m) }
 
 module _ {rows : List ℕ} {n k : ℕ} where
   pub ready-start : n ≤ mostFamilies → k ≤ mostFamilies → Mutual rows n → Ready rows zeros k (2 ^ n - 1) 0
@@ -44,6 +49,13 @@ module _ {rows : List ℕ} {n k : ℕ} where
     below = λ i l. C .below i (member-full n i l);
     apart = λ i j l q. C .apart i j (member-full n i l) (member-full n j q);
   }
+
+  -- the bound by a clique
+  pub raised : {low high : ℕ} → Bounds rows n low high → AtLeast rows (2 ^ n - 1) low k → Bounds rows n k high
+  raised B A = record { by = B .by; plan = B .plan; least = λ j f P. A .needed j f (plan-apart P) (B .least j f P) }
+    where
+      plan-apart : {j : ℕ} {f : ℕ → ℕ} → RowPlan rows n j f → Apart rows j (2 ^ n - 1) f
+      plan-apart P = record { below = λ i m. P .below i (below-n n i m); apart = λ i j m o. P .apart i j (below-n n i m) (below-n n j o) }
 
   -- k timers are enough, or too few
   pub enough : {high : ℕ} → Bounds rows n k high → Completable rows zeros k (2 ^ n - 1) → SmallestOf rows n k

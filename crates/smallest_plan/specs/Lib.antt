@@ -1,2 +1,3 @@
 pub mod RowPlans
 pub mod Search
+pub mod Cliques

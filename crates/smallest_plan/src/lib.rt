@@ -1,5 +1,7 @@
 // The smallest number of timers in any plan that gives meeting families different numbers, by search. At most 20 families: a set of them is a
 // TimerSet, family i in the place of timer i, and row i is the set of those that family i meets.
+mod clique;
+
 ghost use mathlib.Core.Path.{_≡_};
 ghost use mathlib.Core.Bool.{true};
 ghost use Prim.Native.Nat.{ℕ, _-_, _^_, _≤_, _<_, min, max};
@@ -8,6 +10,7 @@ ghost use lib.ListN.{getD};
 ghost use Rattle.timer_set.specs.Members.{member, common, minus};
 ghost use Rattle.smallest_plan.specs.RowPlans.{mostFamilies, Mutual, Bounds, SmallestOf};
 ghost use Rattle.smallest_plan.specs.Search.{Ready, Answers, holding};
+use clique::largest_clique;
 use timer_set::TimerSet;
 
 // The most families that rows are given for.
@@ -81,18 +84,18 @@ fn pick(
 // The family v takes the number c: it is held against each family that v meets.
 fn hold(
     rows: &[u64; MOST_FAMILIES],
-    held: [u64; MOST_FAMILIES],
+    held: &[u64; MOST_FAMILIES],
     v: u8,
     c: usize,
 ) -> [u64; MOST_FAMILIES]
     requires { ⌜ (v < mostFamilies) × (c < mostFamilies) ⌝ }
-    ensures { λ r. ⌜ r ≡ holding (now (rows .entry)) held v c ⌝ }
+    ensures { λ r. ⌜ r ≡ holding (now (rows .entry)) (now (held .entry)) v c ⌝ }
 {
     let against = TimerSet { bits: held[c] };
     let row = TimerSet {
         bits: rows[v as usize],
     };
-    let mut next = held;
+    let mut next = *held;
     next[c] = against.join(row).bits;
     next
 }
@@ -117,17 +120,17 @@ fn takes_nothing(rows: &[u64; MOST_FAMILIES], v: u8, against: TimerSet, part: Ti
 fn conflict(
     rows: &[u64; MOST_FAMILIES],
     k: usize,
-    held: [u64; MOST_FAMILIES],
+    held: &[u64; MOST_FAMILIES],
     unplaced: TimerSet,
     used: usize,
 ) -> TimerSet
-    requires { ⌜ Ready (now rows) held k (unplaced .bits) used ⌝ }
-    ensures { λ r. ⌜ Answers (now (rows .entry)) held k (unplaced .bits) (r .bits) ⌝ }
+    requires { ⌜ Ready (now rows) (now held) k (unplaced .bits) used ⌝ }
+    ensures { λ r. ⌜ Answers (now (rows .entry)) (now (held .entry)) k (unplaced .bits) (r .bits) ⌝ }
 {
     if unplaced.is_empty() {
         return unplaced;
     }
-    let v = pick(rows, &held, unplaced, used);
+    let v = pick(rows, held, unplaced, used);
     let limit = smaller(k, used + 1);
     let mut found = TimerSet::EMPTY.with(v);
     let mut c: usize = 0;
@@ -135,7 +138,7 @@ fn conflict(
         let against = TimerSet { bits: held[c] };
         if !against.has(v) {
             let next = hold(rows, held, v, c);
-            let part = conflict(rows, k, next, unplaced.without(v), larger(used, c + 1));
+            let part = conflict(rows, k, &next, unplaced.without(v), larger(used, c + 1));
             if takes_nothing(rows, v, against, part) {
                 return part;
             }
@@ -156,16 +159,17 @@ fn families_below(n: usize) -> TimerSet
     }
 }
 
-// The smallest number of timers in any plan for n families, which is at least `low` and at most `high`: nothing is searched where these are equal.
+// The smallest number of timers in any plan for n families, which is at least `low` and at most `high`: no number is searched below the size of the
+// largest clique, and nothing where the bounds are equal.
 pub fn smallest(rows: &[u64; MOST_FAMILIES], n: usize, low: usize, high: usize) -> usize
     requires { ⌜ (n ≤ mostFamilies) × (high ≤ mostFamilies) × Mutual (now rows) n × Bounds (now rows) n low high ⌝ }
     ensures { λ r. ⌜ SmallestOf (now (rows .entry)) n r ⌝ }
 {
     let held = [0u64; MOST_FAMILIES];
     let all = families_below(n);
-    let mut k = low;
+    let mut k = largest_clique(rows, all, low);
     while k < high {
-        if conflict(rows, k, held, all, 0).is_empty() {
+        if conflict(rows, k, &held, all, 0).is_empty() {
             return k;
         }
         k += 1;

@@ -1,8 +1,8 @@
 -- `conflict` tries the numbers in turn at the family picked, and calls itself for the others; the measure is the word of the unplaced families.
 -- Assumes nothing.
-use mathlib.Core.Path.{sym, _∙_}
+use mathlib.Core.Path.{_≡_, ap, sym, _∙_}
 use mathlib.Core.Logic.{⊎-elim}
-use Prim.Native.Nat.{ℕ, _-_, _≤_, _<_}
+use Prim.Native.Nat.{ℕ, _-_, _^_, _≤_, _<_}
 use native.Mathlib.Omega.{arith}
 use lib.ListN.{length}
 use borrow.Author.Needs.{needs}
@@ -10,6 +10,7 @@ use borrow.Author.Tests.{eqb-true, eqb-false, not-true, not-false}
 use Rattle.smallest_plan.proofs.Placing.{
   Tried,
   removed-less,
+  holding-length,
   ready-next,
   answers-part,
   tried-none,
@@ -36,21 +37,21 @@ use Rattle.timer_set.proofs.TimerSet.without.Reads as without-reads
 use Rattle.smallest_plan.proofs.+conflict.{statement}
 use Rattle.smallest_plan.proofs.+conflict.Tie.{close}
 
-abbrev μ-conflict : Measures 1 conflict-kinds.ps ℕ
+abbrev μ-conflict : Measures 2 conflict-kinds.ps ℕ
 μ-conflict κs a = a .1 .1 .1 .0 .bits
 
-abbrev conflict-at : ℕ → In 1 conflict-kinds.ps
-conflict-at t = and 1 conflict-kinds.ps (is 1 conflict-kinds.ps μ-conflict t) conflict.Pre
+abbrev conflict-at : ℕ → In 2 conflict-kinds.ps
+conflict-at t = and 2 conflict-kinds.ps (is 2 conflict-kinds.ps μ-conflict t) conflict.Pre
 
-abbrev conflict-below : ℕ → In 1 conflict-kinds.ps
+abbrev conflict-below : ℕ → In 2 conflict-kinds.ps
 conflict-below t =
-    and 1 conflict-kinds.ps (falls 1 conflict-kinds.ps _<_ μ-conflict t) conflict.Pre
+    and 2 conflict-kinds.ps (falls 2 conflict-kinds.ps _<_ μ-conflict t) conflict.Pre
 
 abbrev conflict-Inv-loop : conflict-lts.InvT-loop
-conflict-Inv-loop rows k unplaced used held v limit found₀ c₀ found c = (c ≤ limit) × Tried rows held k (unplaced .bits) v (found .bits) c
+conflict-Inv-loop rows k held unplaced used v limit found₀ c₀ found c = (c ≤ limit) × Tried rows held k (unplaced .bits) v (found .bits) c
 
 abbrev conflict-μ-loop : conflict-lts.MeasureT-loop
-conflict-μ-loop rows k unplaced used held v limit found₀ c₀ found c = limit - c
+conflict-μ-loop rows k held unplaced used v limit found₀ c₀ found c = limit - c
 
 abbrev claims : ℕ → conflict-lts.Claims
 claims t = (
@@ -78,10 +79,19 @@ claims t = (
   join-reads.Learnt,
 )
 
--- the number tried is a place in held
-room : (t : ℕ) (a : conflict-lts.In-loop (claims t) (conflict-at t) conflict.Post conflict-Inv-loop conflict-μ-loop)
-    → a .before .loop .c < length (a .before .before .before .before .before .before .before .before .args .t3)
-room t a = search needs
+-- the number tried is a place in held, which is as long as what `hold` makes of it
+room : (t : ℕ) (h : conflict-lts.After-hold (claims t) (conflict-at t) conflict.Post conflict-Inv-loop conflict-μ-loop)
+    → h .before .before .before .before .before .loop .c
+    < length (h .before .before .before .before .before .before .before .before .before .before .before .args .held .now)
+room t h =
+    let l = h .before .before .before .before .before in
+    let s = l .before .before .before .before .before .before in
+    let long : length (h .hold .result) ≡ 20 = search needs in
+    let kept = holding-length (s .args .rows .now) (s .args .held .now) (l .before .before .before .pick .result) (l .loop .c) in
+    omega (arith, ap length (h .hold .ensures) ∙ kept, long, s .pre .1 .few-numbers)
+
+word : (t : ℕ) (s : conflict-lts.Start (claims t) (conflict-at t) conflict.Post conflict-Inv-loop conflict-μ-loop) → s .args .unplaced .bits < 2 ^ 64
+word t s = omega arith
 
 conflict-is-empty-requires : (t : ℕ) → conflict-lts.Need-is-empty-requires (claims t) (conflict-at t) conflict.Post conflict-Inv-loop conflict-μ-loop
 conflict-is-empty-requires t c κs = search needs
@@ -91,9 +101,8 @@ conflict-returns t c = all-placed (eqb-true _ _ (sym (c .before .is-empty .ensur
 
 conflict-pick-requires : (t : ℕ) → conflict-lts.Need-pick-requires (claims t) (conflict-at t) conflict.Post conflict-Inv-loop conflict-μ-loop
 conflict-pick-requires t c κs =
-    let a = c .before .before in
-    let R = a .before .pre .1 in
-    (omega arith, eqb-false _ _ (sym (a .is-empty .ensures) ∙ c .before .if1 .left), λ i m. omega (arith, R .within i m))
+    let R = c .before .before .pre .1 in
+    (omega arith, eqb-false _ _ (sym (c .before .is-empty .ensures) ∙ c .if1 .left), λ i m. omega (arith, R .within i m))
 
 conflict-add-smaller : (t : ℕ) → conflict-lts.Need-add-smaller (claims t) (conflict-at t) conflict.Post conflict-Inv-loop conflict-μ-loop
 conflict-add-smaller t c = search needs
@@ -107,11 +116,12 @@ conflict-with-requires t c κs = search needs
 conflict-loop-holds : (t : ℕ) → conflict-lts.Need-loop-holds (claims t) (conflict-at t) conflict.Post conflict-Inv-loop conflict-μ-loop
 conflict-loop-holds t c = (search needs, rw (c .with .ensures) (tried-none _ _ _ _ _ (c .before .before .pick .ensures .1)))
 
-conflict-mul-t19 : (t : ℕ) → conflict-lts.Need-mul-t19 (claims t) (conflict-at t) conflict.Post conflict-Inv-loop conflict-μ-loop
-conflict-mul-t19 t c = search needs
+conflict-mul-t17 : (t : ℕ) → conflict-lts.Need-mul-t17 (claims t) (conflict-at t) conflict.Post conflict-Inv-loop conflict-μ-loop
+conflict-mul-t17 t c = search needs
 
-conflict-array-read-t22 : (t : ℕ) → conflict-lts.Need-array-read-t22 (claims t) (conflict-at t) conflict.Post conflict-Inv-loop conflict-μ-loop
-conflict-array-read-t22 t c = search needs
+conflict-element-copy-out-t20 : (t : ℕ)
+    → conflict-lts.Need-element-copy-out-t20 (claims t) (conflict-at t) conflict.Post conflict-Inv-loop conflict-μ-loop
+conflict-element-copy-out-t20 t c = search needs
 
 conflict-has-requires : (t : ℕ) → conflict-lts.Need-has-requires (claims t) (conflict-at t) conflict.Post conflict-Inv-loop conflict-μ-loop
 conflict-has-requires t c κs = search needs
@@ -130,13 +140,14 @@ conflict-larger-requires t c κs = search needs
 
 conflict-conflict-requires : (t : ℕ) → conflict-lts.Need-conflict-requires (claims t) (conflict-at t) conflict.Post conflict-Inv-loop conflict-μ-loop
 conflict-conflict-requires t c κs =
-    let l = c .before .before .before .before .before .before in
+    let h = c .before .before .before in
+    let l = h .before .before .before .before .before in
     let p = l .before .before .before .pick .ensures in
-    let s = l .before .before .before .before .before .before .before in
-    let less = removed-less (s .args .unplaced .bits) (l .before .before .before .pick .result) (omega arith) (omega arith) (p .1) in
-    rw (c .before .without .ensures, c .before .before .hold .ensures, c .larger .ensures) (
+    let s = l .before .before .before .before .before .before in
+    let less = removed-less (s .args .unplaced .bits) (l .before .before .before .pick .result) (word t s) (omega arith) (p .1) in
+    rw (c .before .without .ensures, h .hold .ensures, c .larger .ensures) (
       omega arith,
-      ready-next (s .pre .1) _ (p .1) _ (room t (c .before .before .before .before .before)) (omega arith) (omega arith),
+      ready-next (s .pre .1) _ (p .1) _ (room t h) (omega arith) (omega arith),
     )
 
 conflict-takes-nothing-requires : (t : ℕ)
@@ -145,14 +156,14 @@ conflict-takes-nothing-requires t c κs = search needs
 
 conflict-returns-2 : (t : ℕ) → conflict-lts.Need-returns-2 (claims t) (conflict-at t) conflict.Post conflict-Inv-loop conflict-μ-loop
 conflict-returns-2 t c =
-    let a = c .before .before .before .before in
-    let h = a .before .before .before in
-    let l = h .before .before in
-    let s = l .before .before .before .before .before .before .before in
-    let free = sym (h .has .ensures) ∙ not-true _ (a .before .before .if2 .taken) in
-    let A = rw (a .without .ensures, a .before .hold .ensures) at (c .before .before .conflict .ensures) in
+    let w = c .before .before .before .before in
+    let h = w .before .before in
+    let l = h .before .before .before .before .before in
+    let s = l .before .before .before .before .before .before in
+    let free = sym (h .before .before .has .ensures) ∙ not-true _ (h .before .if2 .taken) in
+    let A = rw (w .without .ensures, h .hold .ensures) at (c .before .before .conflict .ensures) in
     let e = eqb-true _ _ (sym (c .before .takes-nothing .ensures) ∙ c .if3 .taken) in
-    answers-part (s .pre .1) _ (l .before .before .before .pick .ensures .1) _ (room t (h .before)) (omega arith) free e A
+    answers-part (s .pre .1) _ (l .before .before .before .pick .ensures .1) _ (room t h) (omega arith) free e A
 
 conflict-join-requires : (t : ℕ) → conflict-lts.Need-join-requires (claims t) (conflict-at t) conflict.Post conflict-Inv-loop conflict-μ-loop
 conflict-join-requires t c κs = search needs
@@ -165,20 +176,21 @@ conflict-loop-less t c = search needs
 
 conflict-loop-again : (t : ℕ) → conflict-lts.Need-loop-again (claims t) (conflict-at t) conflict.Post conflict-Inv-loop conflict-μ-loop
 conflict-loop-again t c =
-    let l = c .before .before .before in (
+    let l = c .before .before .before .before in (
       omega arith,
       ⊎-elim
           (λ w.
-          let n = eqb-false _ _ (sym (w .5 .ensures) ∙ w .6 .left) in
-          let A = rw (w .2 .ensures, w .1 .ensures) at (w .4 .ensures) in
-          rw (w .8, w .7 .ensures) (tried-more (l .loop .inv .1) (room t (c .before .before)) n A))
+          let n = eqb-false _ _ (sym (w .6 .ensures) ∙ w .7 .left) in
+          let A = rw (w .3 .ensures, w .1 .ensures) at (w .5 .ensures) in
+          let place = room t record { before = record { before = c .before; if2 = w .0 }; hold = w .1 } in
+          rw (w .9, w .8 .ensures) (tried-more (l .loop .inv .1) place n A))
           (λ w. rw (w .1) (tried-held (l .loop .inv .1) (sym (c .before .has .ensures) ∙ not-false _ (w .0 .left)))) (c .if2 .came),
     )
 
 conflict-returns-3 : (t : ℕ) → conflict-lts.Need-returns-3 (claims t) (conflict-at t) conflict.Post conflict-Inv-loop conflict-μ-loop
 conflict-returns-3 t c =
     let l = c .before in
-    tried-all (l .loop .inv .1) (l .before .before .before .before .before .before .before .pre .1) (omega arith)
+    tried-all (l .loop .inv .1) (l .before .before .before .before .before .before .pre .1) (omega arith)
 
 pub +conflict-spec : {M : Type 1} → statement M
 +conflict-spec = close μ-conflict λ t. conflict-lts.spec (claims t)
@@ -193,8 +205,8 @@ pub +conflict-spec : {M : Type 1} → statement M
     (conflict-smaller-requires t)
     (conflict-with-requires t)
     (conflict-loop-holds t)
-    (conflict-mul-t19 t)
-    (conflict-array-read-t22 t)
+    (conflict-mul-t17 t)
+    (conflict-element-copy-out-t20 t)
     (conflict-has-requires t)
     (conflict-hold-requires t)
     (conflict-without-requires t)

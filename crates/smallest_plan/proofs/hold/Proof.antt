@@ -3,17 +3,17 @@ use borrow.Author.Needs.{needs}
 use Rattle.smallest_plan.proofs.hold.Statement.{statement}
 use Rattle.smallest_plan.proofs.hold.Tie as tie
 
-mul-t9 : tie.Need-mul-t9
-mul-t9 c = search needs
+mul-t8 : tie.Need-mul-t8
+mul-t8 c = search needs
 
-array-read-t12 : tie.Need-array-read-t12
-array-read-t12 c = search needs
+element-copy-out-t11 : tie.Need-element-copy-out-t11
+element-copy-out-t11 c = search needs
 
-mul-t13 : tie.Need-mul-t13
-mul-t13 c = search needs
+mul-t12 : tie.Need-mul-t12
+mul-t12 c = search needs
 
-element-copy-out-t12 : tie.Need-element-copy-out-t12
-element-copy-out-t12 c = search needs
+element-copy-out-t11-2 : tie.Need-element-copy-out-t11-2
+element-copy-out-t11-2 c = search needs
 
 join-requires : tie.Need-join-requires
 join-requires c κs = search needs
@@ -31,10 +31,10 @@ pub hold-spec : {M : Type 1} → statement M
 hold-spec =
     tie.close
     (tie.spec
-    mul-t9
-    array-read-t12
-    mul-t13
-    element-copy-out-t12
+    mul-t8
+    element-copy-out-t11
+    mul-t12
+    element-copy-out-t11-2
     join-requires
     mul-next
     array-write-next

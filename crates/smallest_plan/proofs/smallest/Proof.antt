@@ -1,4 +1,4 @@
--- `smallest` tries k = low, low + 1, ..: no plan has fewer than k timers, and one has `high`. Assumes nothing.
+-- `smallest` tries k from the size of the largest clique on: no plan has fewer than k timers, and one has `high`. Assumes nothing.
 use mathlib.Core.Path.{sym, _∙_}
 use Prim.Native.Nat.{_-_}
 use native.Mathlib.Omega.{arith}
@@ -6,7 +6,7 @@ use borrow.Author.Needs.{needs}
 use borrow.Author.Tests.{eqb-true, eqb-false}
 use Rattle.smallest_plan.specs.RowPlans.{Bounds}
 use Rattle.smallest_plan.proofs.Placing.{completes-part}
-use Rattle.smallest_plan.proofs.Whole.{ready-start, enough, too-few, met}
+use Rattle.smallest_plan.proofs.Whole.{ready-start, all-candidates, raised, enough, too-few, met}
 use Rattle.smallest_plan.proofs.smallest.Statement.{statement}
 use Rattle.smallest_plan.proofs.smallest.Tie as tie
 
@@ -19,22 +19,28 @@ abbrev μ-loop : tie.MeasureT-loop
 families-below-requires : tie.Need-families-below-requires Inv-loop μ-loop
 families-below-requires c κs = search needs
 
+largest-clique-requires : tie.Need-largest-clique-requires Inv-loop μ-loop
+largest-clique-requires c κs =
+    let p = c .before .pre in
+    (omega (arith, p .1, p .3 .least _ _ (p .3 .plan)), rw (c .families-below .ensures) (all-candidates (p .0) (p .2)))
+
 loop-holds : tie.Need-loop-holds Inv-loop μ-loop
-loop-holds c = c .before .pre .3
+loop-holds c = let p = c .before .before .pre in raised (p .3) (rw (c .before .families-below .ensures) at (c .largest-clique .ensures))
 
 conflict-requires : tie.Need-conflict-requires Inv-loop μ-loop
 conflict-requires c κs =
-    let p = c .before .before .before .pre in
-    rw (c .before .before .families-below .ensures) (ready-start (p .0) (omega arith) (p .2))
+    let l = c .before .before in
+    let p = l .before .before .before .pre in
+    rw (l .before .before .families-below .ensures) (ready-start (p .0) (omega arith) (p .2))
 
 is-empty-requires : tie.Need-is-empty-requires Inv-loop μ-loop
 is-empty-requires c κs = search needs
 
 returns : tie.Need-returns Inv-loop μ-loop
 returns c =
-    let l = c .before .before .before .before in
+    let l = c .before .before .before .before .before in
     let e = eqb-true _ _ (sym (c .before .is-empty .ensures) ∙ c .if1 .taken) in
-    enough (l .loop .inv) (rw (l .before .families-below .ensures) at (c .before .before .conflict .ensures .none e))
+    enough (l .loop .inv) (rw (l .before .before .families-below .ensures) at (c .before .before .conflict .ensures .none e))
 
 add-k : tie.Need-add-k Inv-loop μ-loop
 add-k c = search needs
@@ -44,8 +50,8 @@ loop-less c = search needs
 
 loop-again : tie.Need-loop-again Inv-loop μ-loop
 loop-again c =
-    let l = c .before .before .before .before in
-    let A = rw (l .before .families-below .ensures) at (c .before .before .conflict .ensures) in
+    let l = c .before .before .before .before .before in
+    let A = rw (l .before .before .families-below .ensures) at (c .before .before .conflict .ensures) in
     let n = eqb-false _ _ (sym (c .before .is-empty .ensures) ∙ c .if1 .left) in
     too-few (l .loop .inv) (λ f C. A .some n f (completes-part (A .within) C))
 
@@ -59,6 +65,7 @@ smallest-spec =
     Inv-loop
     μ-loop
     families-below-requires
+    largest-clique-requires
     loop-holds
     conflict-requires
     is-empty-requires
