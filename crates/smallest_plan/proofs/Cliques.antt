@@ -11,7 +11,8 @@ use lib.ListN.{getD}
 use Rattle.lists.proofs.Bools.{not-both, and-left, and-right}
 use Rattle.timer_set.specs.Members.{member, common}
 use Rattle.timer_set.proofs.Members.{member-common}
-use Rattle.smallest_plan.specs.RowPlans.{mostFamilies, meetIn}
+use Rattle.model.specs.Floor.{mostFamilies}
+use Rattle.smallest_plan.specs.RowPlans.{meetIn}
 use Rattle.smallest_plan.specs.Cliques.{Candidates, Apart, AtLeast}
 use Rattle.smallest_plan.proofs.Exchange.{exchanged, exchanged-same, exchanged-less}
 

@@ -11,7 +11,8 @@ use Rattle.lists.proofs.Bools.{not-both, lt-or-le}
 use Rattle.lists.proofs.Zeros.{getD-zeros}
 use Rattle.timer_set.specs.Members.{member}
 use Rattle.timer_set.proofs.Members.{member-empty, member-full, member-high}
-use Rattle.smallest_plan.specs.RowPlans.{mostFamilies, Mutual, RowPlan, Bounds, SmallestOf}
+use Rattle.model.specs.Floor.{mostFamilies}
+use Rattle.smallest_plan.specs.RowPlans.{Mutual, RowPlan, Bounds, SmallestOf}
 use Rattle.smallest_plan.specs.Search.{Completes, Completable, Ready}
 use Rattle.smallest_plan.specs.Cliques.{Candidates, Apart, AtLeast}
 

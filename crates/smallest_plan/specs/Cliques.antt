@@ -4,7 +4,8 @@ use mathlib.Core.Bool.{true, false}
 use mathlib.Core.List.{List}
 use Prim.Native.Nat.{ℕ, _≤_, _<_}
 use Rattle.timer_set.specs.Members.{member}
-use Rattle.smallest_plan.specs.RowPlans.{mostFamilies, meetIn}
+use Rattle.model.specs.Floor.{mostFamilies}
+use Rattle.smallest_plan.specs.RowPlans.{meetIn}
 
 -- the candidates are families, and none meets itself
 pub record Candidates (rows : List ℕ) (w : ℕ) : Type 0 where

@@ -7,10 +7,6 @@ use Prim.Native.Nat.{ℕ, _≤_, _<_}
 use lib.ListN.{getD}
 use Rattle.timer_set.specs.Members.{member}
 
--- the most families that rows are given for
-abbrev pub mostFamilies : ℕ
-mostFamilies = 20
-
 unfoldable pub meetIn : (rows : List ℕ) (i j : ℕ) → Bool
 meetIn rows i j = member (getD rows i 0) j
 

@@ -6,7 +6,8 @@ use mathlib.Core.List.{List}
 use Prim.Native.Nat.{ℕ, _≤_, _<_}
 use lib.ListN.{getD, set}
 use Rattle.timer_set.specs.Members.{member, joined}
-use Rattle.smallest_plan.specs.RowPlans.{mostFamilies, meetIn, Mutual}
+use Rattle.model.specs.Floor.{mostFamilies}
+use Rattle.smallest_plan.specs.RowPlans.{meetIn, Mutual}
 
 -- f gives the unplaced families numbers below k that are not held against them, and different ones to those that meet
 pub record Completes (rows held : List ℕ) (k unplaced : ℕ) (f : ℕ → ℕ) : Type 0 where

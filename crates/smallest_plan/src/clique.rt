@@ -1,6 +1,6 @@
 // A lower bound by cliques: as many timers as families that meet pairwise are in every plan.
 ghost use Prim.Native.Nat.{_≤_};
-ghost use Rattle.smallest_plan.specs.RowPlans.{mostFamilies};
+ghost use Rattle.model.specs.Floor.{mostFamilies};
 ghost use Rattle.smallest_plan.specs.Cliques.{Candidates, AtLeast};
 use crate::MOST_FAMILIES;
 use crate::smaller;

@@ -10,7 +10,7 @@ use borrow.Fn.PlainCycle.{Measures, is, falls, and}
 use lib.Count.{ones}
 use Rattle.timer_set.specs.Members.{member}
 use Rattle.timer_set.proofs.LowestMember.{lowest-member, without-less}
-use Rattle.smallest_plan.specs.RowPlans.{mostFamilies}
+use Rattle.model.specs.Floor.{mostFamilies}
 use Rattle.smallest_plan.specs.Cliques.{Candidates, AtLeast}
 use Rattle.smallest_plan.proofs.Placing.{removed-in}
 use Rattle.smallest_plan.proofs.Cliques.{candidates-part, few, given, common-in, common-less, one-more}
