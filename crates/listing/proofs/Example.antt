@@ -1,6 +1,8 @@
 -- The texts for charts A and B with K = 16: that for B is the example of document 01 ("What the four parts hand back"); A, whose floor is that of
--- document 02 (P1), has locations with two live timers. Nothing is hard: the definitions compute it. Assumes nothing.
+-- document 02 (P1), has locations with two live timers. And two first lines, whose used, floor and limit differ: with a floor that was searched for,
+-- and with one that was only seen. Nothing is hard: the definitions compute it. Assumes nothing.
 use mathlib.Core.Path.{_≡_, refl}
+use mathlib.Core.Bool.{true, false}
 use mathlib.Core.List.{List, [], _∷_, _++_, filterMap}
 use Prim.Native.Nat.{ℕ}
 use lib.Count.{ones, onesIn}
@@ -45,13 +47,23 @@ linesOfB =
     ++ (97 ∷ 116 ∷ 32 ∷ 50 ∷ 32 ∷ 49 ∷ 62 ∷ 48 ∷ 10 ∷ [])
     ++ (97 ∷ 116 ∷ 32 ∷ 51 ∷ 10 ∷ [])
 
--- one byte K, then the file of the chart
+-- used 3 floor 2 limit 16
+pub lineOfFloor : List ℕ
+lineOfFloor = 117 ∷ 115 ∷ 101 ∷ 100 ∷ 32 ∷ 51 ∷ 32 ∷ 102 ∷ 108 ∷ 111 ∷ 111 ∷ 114 ∷ 32 ∷ 50 ∷ 32 ∷ 108 ∷ 105 ∷ 109 ∷ 105 ∷ 116 ∷ 32 ∷ 49 ∷ 54 ∷ 10 ∷ []
+
+-- used 3 seen 2 limit 16
+pub lineOfSeen : List ℕ
+lineOfSeen = 117 ∷ 115 ∷ 101 ∷ 100 ∷ 32 ∷ 51 ∷ 32 ∷ 115 ∷ 101 ∷ 101 ∷ 110 ∷ 32 ∷ 50 ∷ 32 ∷ 108 ∷ 105 ∷ 109 ∷ 105 ∷ 116 ∷ 32 ∷ 49 ∷ 54 ∷ 10 ∷ []
+
+-- of a text: one byte K, then the file of the chart
 pub record Texts : Type 0 where
   pub text-of-A : textOf (16 ∷ bytesOfA) ≡ linesOfA
   pub text-of-B : textOf (16 ∷ bytesOfB) ≡ linesOfB
+  pub line-of-floor : firstLine 3 2 true 16 ≡ lineOfFloor
+  pub line-of-seen : firstLine 3 2 false 16 ≡ lineOfSeen
 
 pub texts : Texts
-unfolding bytesOfA bytesOfB linesOfA linesOfB
+unfolding bytesOfA bytesOfB linesOfA linesOfB lineOfFloor lineOfSeen
     member joined common minus added everyTimer setOf ones onesIn filterMap
     memb anyOf firstOf lowest gather upTo pick top comparisonOf met
     brings made round roundsOf sameSets changing settled
@@ -63,4 +75,4 @@ unfolding bytesOfA bytesOfB linesOfA linesOfB
     number below many entry rising readComparison readTest readTests recordLength readTransition readTransitions readHeader chartOf readBody
     readFrame judgeFrame readFile chartIn
     decimalIn decimal refusedWord usedWord floorWord seenWord limitWord atWord refusedText firstLine lineOf chartText accepted textOf
-texts = record { text-of-A = refl; text-of-B = refl }
+texts = record { text-of-A = refl; text-of-B = refl; line-of-floor = refl; line-of-seen = refl }
