@@ -19,7 +19,7 @@ use Rattle.timer_set.proofs.Members.{member-empty, member-removed, member-joine
 use Rattle.timer_set.proofs.Machine.{machine-removed}
 use Rattle.timer_set.proofs.LowestMember.{removed-gone}
 use Rattle.smallest_plan.specs.RowPlans.{meetIn}
-use Rattle.smallest_plan.specs.Search.{Completes, Completable, Ready, Answers, holding}
+use Rattle.smallest_plan.specs.Search.{Completes, Ready, Answers, holding}
 use Rattle.smallest_plan.proofs.Exchange.{exchanged, exchanged-to, first-fresh}
 
 -- ---- a set without one of its members

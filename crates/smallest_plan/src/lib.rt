@@ -30,7 +30,7 @@ fn larger(x: usize, y: usize) -> usize
     if x < y { y } else { x }
 }
 
-// How pressing an unplaced family is: by the numbers held against it and the unplaced families that it meets, taken together, then by the former.
+// How pressing an unplaced family is: by the numbers held against it and the unplaced families that it meets, taken together, then by the latter.
 // Where these are fewer than k, a number is left for it whatever the others get, so it comes last. The contract says nothing of that: any choice is
 // right, and this one is quick.
 fn score(
@@ -51,7 +51,7 @@ fn score(
         let against = TimerSet { bits: held[c] };
         c += 1;
         if against.has(v) {
-            s += 65;
+            s += 63;
         }
     }
     s

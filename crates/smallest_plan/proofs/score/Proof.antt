@@ -1,11 +1,11 @@
--- `score` meets its contract, that is, its sum has room: it grows by 65 for each number. Assumes nothing.
+-- `score` meets its contract, that is, its sum has room: it grows by 63 for each number. Assumes nothing.
 use Prim.Native.Nat.{_+_, _-_, _*_, _^_, _≤_}
 use borrow.Author.Needs.{needs}
 use Rattle.smallest_plan.proofs.score.Statement.{statement}
 use Rattle.smallest_plan.proofs.score.Tie as tie
 
 abbrev Inv-loop : tie.InvT-loop
-Inv-loop rows held used v s₀ c₀ s c = (c ≤ used) × (s ≤ 65 * c + 2 ^ 40)
+Inv-loop rows held used v s₀ c₀ s c = (c ≤ used) × (s ≤ 63 * c + 2 ^ 40)
 
 abbrev μ-loop : tie.MeasureT-loop
 μ-loop rows held used v s₀ c₀ s c = used - c
