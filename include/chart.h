@@ -66,9 +66,10 @@ typedef enum chart_refusal {
 } chart_refusal;
 
 /* used: the board timers that the chart takes; it may exceed CHART_MOST_TIMERS.
- * searched: 1 for a chart of at most CHART_MOST_SEARCHED families, else 0.
+ * searched: 1 for a chart of at most CHART_MOST_SEARCHED families, else 0; 0 with a refusal too.
  * floor: if searched is 1, the smallest number of timers in any plan that gives meeting families different numbers; else the timers live at once
- * where most are, and every plan may need more. For the latter the program prints `seen` in place of `floor`. */
+ * where most are: no plan has fewer, and even the smallest may have more. In that case the program prints `seen` in place of `floor`. What families
+ * and plans are: docs/SPECIFICATION.md, sections 4 and 5. Header and library belong together: an answer is written in its whole length. */
 typedef struct chart_analysis {
     uint64_t number;
     uint64_t place;

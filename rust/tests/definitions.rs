@@ -296,13 +296,20 @@ fn dense_charts_follow_the_definitions() {
 #[test]
 fn floors_follow_the_definitions() {
     let mut random = Random::new(6);
+    let (mut above_fullest, mut below_used) = (0, 0);
     for families in (0..=25).chain([18, 19, 20, 21]) {
         for _ in 0..8 {
             let drawing = random_meetings(&mut random, families);
             assert_eq!(Planned::of(&drawing).families.len(), families);
             check_analysis_and_rewriting(&mut random, &drawing);
+            let mut live = [0; 256];
+            let found = analyse(&drawing.file(), &mut live).expect("a chart that is accepted");
+            let fullest = live.iter().map(|set| u64::from(set.count_ones())).max();
+            above_fullest += u64::from(found.searched && Some(found.floor) > fullest);
+            below_used += u64::from(found.searched && found.floor < found.used);
         }
     }
+    assert!(above_fullest > 0 && below_used > 0);
 }
 
 #[test]

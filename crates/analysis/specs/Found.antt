@@ -12,8 +12,8 @@ use Rattle.timer_set.specs.Members.{member}
 use Rattle.model.specs.Chart.{Chart}
 use Rattle.model.specs.Path.{Live}
 use Rattle.model.specs.FirstFit.{numberAt, board}
-use Rattle.model.specs.Floor.{mostFamilies}
-use Rattle.model.specs.SharingPlan.{FewestTimers, FamiliesAtMost}
+use Rattle.model.specs.Floor.{mostSearched}
+use Rattle.sharing_plans.specs.SharingPlan.{FewestTimers, FamiliesAtMost}
 use Rattle.judgement.specs.Charts.{Accepts}
 use Rattle.analysis.specs.Analysing.{AnalysisValues, valuesOf}
 
@@ -32,7 +32,7 @@ pub record FoundValues (bs before after : List ℕ) (f : AnalysisValues) : Type 
   pub accepts : Accepts bs chart
   pub words-are : (q j : ℕ) → q < chart .locations → (member (getD after q 0) j ≡ true) ↔ Live chart q j
   pub beyond : (q : ℕ) → chart .locations ≤ q → getD after q 0 ≡ getD before q 0
-  pub searched-few : (f .searched ≡ true) ↔ FamiliesAtMost mostFamilies chart
+  pub searched-few : (f .searched ≡ true) ↔ FamiliesAtMost mostSearched chart
   pub floor-fewest : f .searched ≡ true → FewestTimers chart (f .floor)
   pub floor-most : (q : ℕ) → q < chart .locations → ones (getD after q 0) ≤ f .floor
   pub floor-reached : f .searched ≡ false → (q : ℕ) × (q < chart .locations) × (ones (getD after q 0) ≡ f .floor)

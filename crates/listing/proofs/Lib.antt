@@ -10,3 +10,4 @@ pub mod Outcomes
 pub mod Digits
 pub mod Refusals
 pub mod Example
+pub mod FloorWord

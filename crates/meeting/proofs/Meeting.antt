@@ -16,7 +16,7 @@ use Rattle.model.specs.Family.{Family, meets}
 use Rattle.allocation.specs.FamiliesAt.{contains}
 use Rattle.allocation.specs.Rows.{inFamily, someIn}
 use Rattle.allocation.proofs.Below.{some-in, some-out}
-use Rattle.meeting.specs.Meeting.{sharing, RowsOf, Asked}
+use Rattle.meeting.specs.Meeting.{meetAt, RowsOf, Asked}
 
 contains-nth : (fs : List Family) (i s : ℕ) {g : Family} → getElem? fs i ≡ some g → contains fs i s ≡ memb s (g .locations)
 unfolding contains
@@ -40,8 +40,8 @@ module _ {fs : List Family} {at : List ℕ} {families low high : ℕ} (a : Asked
       let b = a .inside i (s .0) g e (s .1) in
       some-in at i (λ s. inFamily at j s) (length at) (s .0) b (at-family i (s .0) e b ∙ s .1) (at-family j (s .0) e′ b ∙ s .2))
 
-  pub rows-of : (rows : List ℕ) → ((i : ℕ) → i < families → (j : ℕ) → member (getD rows i 0) j ≡ sharing at i j) → RowsOf fs rows
-  unfolding sharing
+  pub rows-of : (rows : List ℕ) → ((i : ℕ) → i < families → (j : ℕ) → member (getD rows i 0) j ≡ meetAt at i j) → RowsOf fs rows
+  unfolding meetAt
   rows-of rows are = record {
     meet = λ i j g h e e′. are i (omega (arith, below-nth fs i e, a .count-is)) j
         ∙ ap (λ (b : Bool). b && not (eqb j i)) (some-meets i j g h e e′);

@@ -11,13 +11,13 @@ use Rattle.timer_set.specs.Members.{member}
 use Rattle.lists.specs.Lists.{memb}
 use Rattle.model.specs.Family.{Family, meets}
 use Rattle.model.specs.SmallestPlan.{fewest}
-use Rattle.model.specs.Floor.{mostFamilies}
+use Rattle.model.specs.Floor.{mostSearched}
 use Rattle.allocation.specs.FamiliesAt.{FamiliesAt}
 use Rattle.allocation.specs.Rows.{inFamily, someIn}
 
--- i and j are different, and one of the locations has both
-unfoldable pub sharing : (at : List ℕ) → (i j : ℕ) → Bool
-sharing at i j = someIn at i (λ s. inFamily at j s) (length at) && not (eqb j i)
+-- the families i and j are different, and one of the locations has both
+unfoldable pub meetAt : (at : List ℕ) → (i j : ℕ) → Bool
+meetAt at i j = someIn at i (λ s. inFamily at j s) (length at) && not (eqb j i)
 
 -- row i has the families that the i-th meets, without itself
 pub record RowsOf (fs : List Family) (rows : List ℕ) : Type 0 where
@@ -28,7 +28,7 @@ pub record Asked (fs : List Family) (at : List ℕ) (families low high : ℕ) : 
   pub at-are : FamiliesAt fs at
   pub inside : (i s : ℕ) (g : Family) → getElem? fs i ≡ some g → memb s (g .locations) ≡ true → s < length at
   pub count-is : families ≡ length fs
-  pub few : families ≤ mostFamilies
+  pub few : families ≤ mostSearched
   pub low-is : low ≤ fewest fs
   pub high-is : fewest fs ≤ high
   pub high-few : high ≤ families

@@ -5,15 +5,15 @@ ghost use Prim.Native.Nat.{ℕ, _≤_, _<_};
 ghost use Rattle.timer_set.specs.Members.{member};
 ghost use Rattle.model.specs.Family.{Family};
 ghost use Rattle.model.specs.SmallestPlan.{fewest};
-ghost use Rattle.model.specs.Floor.{mostFamilies};
-ghost use Rattle.meeting.specs.Meeting.{sharing, RowsOf, Asked};
-use smallest_plan::MOST_FAMILIES;
+ghost use Rattle.model.specs.Floor.{mostSearched};
+ghost use Rattle.meeting.specs.Meeting.{meetAt, RowsOf, Asked};
+use smallest_plan::MOST_SEARCHED;
 use timer_set::TimerSet;
 
-// The families that share a location with family i, without itself.
+// The families that meet family i, without itself.
 fn row_of(families_at: &[u64], i: u8) -> TimerSet
     requires { ⌜ i < 64 ⌝ }
-    ensures { λ r. ⌜ ((j : ℕ) → member (r .bits) j ≡ sharing (now («families_at» .entry)) i j) ⌝ }
+    ensures { λ r. ⌜ ((j : ℕ) → member (r .bits) j ≡ meetAt (now («families_at» .entry)) i j) ⌝ }
 {
     let mut row = TimerSet::EMPTY;
     let mut s: usize = 0;
@@ -30,11 +30,11 @@ fn row_of(families_at: &[u64], i: u8) -> TimerSet
 }
 
 // The families that each of the n families meets.
-fn meeting_rows(families_at: &[u64], n: usize) -> [u64; MOST_FAMILIES]
-    requires { ⌜ n ≤ mostFamilies ⌝ }
+fn meeting_rows(families_at: &[u64], n: usize) -> [u64; MOST_SEARCHED]
+    requires { ⌜ n ≤ mostSearched ⌝ }
     ensures { λ r. ⌜ ((fs : List Family) (low high : ℕ) → Asked fs (now («families_at» .entry)) n low high → RowsOf fs r) ⌝ }
 {
-    let mut rows = [0u64; MOST_FAMILIES];
+    let mut rows = [0u64; MOST_SEARCHED];
     let mut i: usize = 0;
     while i < n {
         rows[i] = row_of(families_at, i as u8).bits;

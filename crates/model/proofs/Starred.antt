@@ -1,6 +1,7 @@
--- The cases that document 01 marks ★ hold, and those that go wrong unnoticed. Nothing is hard: the definitions compute the replies that it gives.
--- Assumes nothing.
+-- The cases that document 01 marks ★ hold, those that go wrong unnoticed, and which charts are searched. Nothing is hard: the definitions compute
+-- the replies that the documents give. Assumes nothing.
 use mathlib.Core.Path.{_≡_, refl}
+use mathlib.Core.Bool.{true, false}
 use mathlib.Core.List.{_++_, map, filterMap}
 use lib.Count.{ones, onesIn}
 use Rattle.timer_set.specs.Members.{member, joined, common, minus, added, everyTimer, setOf}
@@ -17,7 +18,7 @@ use Rattle.model.specs.Floor.{searched, floor}
 use Rattle.model.specs.Rewrite.{numbering, renamed, newTests, newStarts, newTransition, rewrittenBy}
 use Rattle.model.specs.Judge.{judged, fitted, rewriting}
 use Rattle.model.specs.Player.{arrival, answerOf, tooLarge, countsJudged, stepsOf, played}
-use Rattle.model.specs.Cases.{arrow, onEvent, test, drawn, A, B, C, selfLoop, neverStarted, restart, ownStart, twoEvents, aboveFloor}
+use Rattle.model.specs.Cases.{arrow, onEvent, test, drawn, A, B, C, selfLoop, neverStarted, restart, ownStart, twoEvents, aboveFloor, lone}
 use Rattle.model.specs.Cases.{B′, C′, selfLoop′, twoEvents′, boardNumbers, ask, Case, case, starred, unnoticed}
 
 pub starred-hold : map (λ (x : Case). ask (x .question)) (starred ++ unnoticed) ≡ map (λ (x : Case). x .reply) (starred ++ unnoticed)
@@ -34,3 +35,11 @@ unfolding arrow onEvent test drawn A B C selfLoop neverStarted restart ownStart 
     numbering renamed newTests newStarts newTransition rewrittenBy
     judged fitted rewriting arrival answerOf tooLarge countsJudged stepsOf played
 starred-hold = refl
+
+-- 20 families are searched for, 21 are not
+pub searched-up-to-20 : (searched (lone 20) ≡ true) × (searched (lone 21) ≡ false)
+unfolding arrow test drawn lone
+    member joined common minus added everyTimer setOf memb lowest gather upTo pick
+    brings made round roundsOf sameSets changing settled
+    startsSet testsSet liveFlow liveSets isPair livePairs linkFlow familyOf familyFrom families searched
+searched-up-to-20 = (refl, refl)

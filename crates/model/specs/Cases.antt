@@ -2,9 +2,10 @@
 -- That the definitions give these replies is one statement, `starred-hold` in proofs/Starred. Assumes nothing.
 use mathlib.Core.Bool.{true}
 use mathlib.Core.List.{List, [], _∷_, map, reverse}
-use Prim.Native.Nat.{ℕ}
+use Prim.Native.Nat.{ℕ, suc}
 use Rattle.comparison.specs.declared.Comparison.{Comparison}
 use Rattle.comparison.specs.declared.Comparison.the-variants.{AtMost, Below, AtLeast, Above, Equal}
+use Rattle.lists.specs.Lists.{upTo}
 use Rattle.model.specs.Answer.{Answer, result, refused, nowhere}
 use Rattle.model.specs.Chart.{Test, Transition, Chart}
 use Rattle.model.specs.Live.{liveSets}
@@ -94,6 +95,11 @@ aboveFloor = drawn 5 4 3 (
     ∷ arrow 2 1 [] (test 0 AtMost 3 ∷ test 2 AtMost 9 ∷ [])
     ∷ [])
 
+-- so many families that meet no other: each transition of a chain tests the timer and starts it anew
+unfoldable pub lone : (families : ℕ) → Chart
+lone n = drawn (suc (suc n)) (suc n) 1
+    (arrow 0 1 (0 ∷ []) [] ∷ upTo (λ i. arrow (suc i) (suc (suc i)) (0 ∷ []) (test 0 AtLeast 0 ∷ [])) n)
+
 -- B rewritten: transition 1 tests board timer 0 and then starts it
 unfoldable pub B′ : Chart
 B′ = drawn 4 3 1 (
@@ -170,9 +176,9 @@ starred =
     ∷ case (play B (0 ∷ 0 ∷ []) (0 ∷ 1 ∷ []) (5 ∷ 8 ∷ [])) (played-is (refused 24 1))
     ∷ []
 
--- what "goes wrong unnoticed", beside the cases above: a timer started anew begins a family of its own; first fit's used is not the floor; a start
--- on the same transition does not come before its test, neither where it is judged nor where it is played; and an event is kept, which is 0 in all
--- charts above
+-- what "goes wrong unnoticed", beside the cases above: a timer started anew begins a family of its own; a start on the same transition does not
+-- come before its test, neither where it is judged nor where it is played; an event is kept, which is 0 in all charts above; and, by document 02,
+-- first fit's used is not the floor
 unfoldable pub unnoticed : List Case
 unnoticed =
     case (numbers restart) (given ((64, 0) ∷ (128, 0) ∷ []) 1 1)

@@ -9,12 +9,12 @@ use Rattle.model.specs.Family.{families, livePairs}
 use Rattle.model.specs.SmallestPlan.{fewest}
 
 -- up to so many families the floor is the smallest number of timers in any plan
-abbrev pub mostFamilies : ℕ
-mostFamilies = 20
+abbrev pub mostSearched : ℕ
+mostSearched = 20
 
--- whether the chart has no more
+-- whether the chart has at most so many families
 unfoldable pub searched : Chart → Bool
-searched c = leb (length (families (livePairs c))) mostFamilies
+searched c = leb (length (families (livePairs c))) mostSearched
 
 -- floor: the fewest timers of any plan; with more families the fullest live set, which the program calls `seen`
 unfoldable pub floor : Chart → ℕ

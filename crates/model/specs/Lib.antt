@@ -20,7 +20,6 @@ pub mod Places
 pub mod Chain
 pub mod Placing
 pub mod SharingRule
-pub mod SharingPlan
 pub mod PlayerTerms
 pub mod Comes
 pub mod Examples

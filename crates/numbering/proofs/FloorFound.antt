@@ -16,7 +16,7 @@ use Rattle.model.specs.Valid.{Valid}
 use Rattle.model.specs.Live.{liveSets, fullest}
 use Rattle.model.specs.Family.{Family, familyOf, families, livePairs}
 use Rattle.model.specs.SmallestPlan.{fewest}
-use Rattle.model.specs.Floor.{mostFamilies, searched, floor}
+use Rattle.model.specs.Floor.{mostSearched, searched, floor}
 use Rattle.model.proofs.Families.{family-rising}
 use Rattle.model.proofs.FamilyList.{families-are}
 use Rattle.model.proofs.LivePairs.{live-pairs-formed}
@@ -46,7 +46,7 @@ floor-asked {W} c {m} is {at = at} valid n room = record {
 
 module _ {c : Chart} {live at : List ℕ} {r : Numbered} (a : FloorAsked c live at r) where
   -- at most 20 families
-  module _ (few : r .families ≤ mostFamilies) where
+  module _ (few : r .families ≤ mostSearched) where
     inside : (i s : ℕ) (g : Family) → getElem? (families (livePairs c)) i ≡ some g → memb s (g .locations) ≡ true → s < length at
     unfolding livePairs
     inside i s g e h =
@@ -70,12 +70,12 @@ module _ {c : Chart} {live at : List ℕ} {r : Numbered} (a : FloorAsked c live 
     pub few-found : {m : ℕ} → m ≡ fewest (families (livePairs c)) → (m ≡ floor c) × (true ≡ searched c)
     unfolding searched
     few-found e =
-        let h : searched c ≡ true = le-leb (length (families (livePairs c))) mostFamilies (omega (arith, a .families-is)) in
+        let h : searched c ≡ true = le-leb (length (families (livePairs c))) mostSearched (omega (arith, a .families-is)) in
         (e ∙ sym (floor-searched c h), sym h)
 
   -- more
-  pub many-found : {m : ℕ} → mostFamilies < r .families → m ≡ fullest live → (m ≡ floor c) × (false ≡ searched c)
+  pub many-found : {m : ℕ} → mostSearched < r .families → m ≡ fullest live → (m ≡ floor c) × (false ≡ searched c)
   unfolding searched
   many-found more e =
-      let h : searched c ≡ false = lt-leb (length (families (livePairs c))) mostFamilies (omega (arith, a .families-is)) in
+      let h : searched c ≡ false = lt-leb (length (families (livePairs c))) mostSearched (omega (arith, a .families-is)) in
       (e ∙ ap fullest (a .live-are) ∙ sym (floor-unsearched c h), sym h)

@@ -5,7 +5,7 @@ ghost use Rattle.model.specs.Live.{fullest as Live·fullest};
 ghost use Rattle.model.specs.Floor.{floor as Floor·floor, searched as Floor·searched};
 ghost use Rattle.numbering.specs.FloorAsked.{FloorAsked};
 use crate::Numbered;
-use smallest_plan::MOST_FAMILIES;
+use smallest_plan::MOST_SEARCHED;
 use timer_set::TimerSet;
 
 // A floor, and whether it is the fewest timers of any plan.
@@ -39,7 +39,7 @@ pub fn find_floor(live: &[u64], families_at: &[u64], numbered: Numbered) -> Floo
         → (r .floor ≡ Floor·floor c) × (r .searched ≡ Floor·searched c)) ⌝ }
 {
     let most = fullest(live);
-    if numbered.families > MOST_FAMILIES as u32 {
+    if numbered.families > MOST_SEARCHED as u32 {
         return FloorFound {
             floor: most,
             searched: false,

@@ -1,4 +1,4 @@
-// The live sets and the board numbers of a chart, from its lists, and the judgement of a board's limit.
+// The live sets, the board numbers and the floor of a chart, from its lists or its file, and the judgement of a board's limit.
 ghost use mathlib.Core.Path.{_≡_};
 ghost use Prim.Native.Nat.{_*_, _≤_};
 ghost use lib.ListN.{length};
@@ -140,8 +140,8 @@ fn number_judged<'a>(
     }
 }
 
-// The chart of a file, with its live sets and its board numbers over the fronts of the lists, or a refusal, 1 to 10. Every call that needs the
-// numbers of a file takes them from here.
+// The chart of a file, with its live sets and its board numbers over the fronts of the lists, or a refusal, 1 to 10. The analysis and the program
+// take these from here.
 pub fn number_file(file: &[u8], live: &mut [u64], cells: &mut [u16]) -> FileNumbered
     requires { ⌜ (mostLocations ≤ length (now live)) × (mostCells ≤ length (now cells)) ⌝ }
     ensures answer { λ r. ⌜ fileNumberedAs r ≡ numberedIn (now (file .entry)) ⌝ }

@@ -11,7 +11,7 @@ use Rattle.model.specs.Path.{UnstartedTest}
 use Rattle.model.specs.Rewrite.{Numbering}
 use Rattle.model.specs.Plan.{Plan}
 use Rattle.model.specs.SharingRule.{LiveLink}
-use Rattle.model.specs.SharingPlan.{SharingPlan}
+use Rattle.sharing_plans.specs.SharingPlan.{SharingPlan}
 use Rattle.model.proofs.Paths.{live-here, live-back, live-unstarted}
 use Rattle.sharing_plans.proofs.Fullest.{plan-different-here}
 

@@ -19,7 +19,7 @@ use Rattle.model.specs.SmallestPlan.{fewest}
 use Rattle.model.specs.Rewrite.{Numbering, numbering}
 use Rattle.model.specs.Plan.{Has}
 use Rattle.model.specs.SharingRule.{SameFamily, FamiliesMeet, SharingRule}
-use Rattle.model.specs.SharingPlan.{SharingPlan, FewestTimers}
+use Rattle.sharing_plans.specs.SharingPlan.{SharingPlan, FewestTimers}
 use Rattle.model.proofs.Joined.{joined-refl, joined-pair}
 use Rattle.model.proofs.Families.{family-timer, family-has, family-same}
 use Rattle.model.proofs.FamilyList.{families-have, families-are, families-rising}

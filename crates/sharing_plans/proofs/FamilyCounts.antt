@@ -16,8 +16,8 @@ use Rattle.model.specs.Valid.{Valid}
 use Rattle.model.specs.Family.{Family, meets, familyNumber, families, livePairs, WellFormed}
 use Rattle.model.specs.FirstFit.{Placed, held, free, place, firstFit, usedBy, board, used}
 use Rattle.model.specs.SharingRule.{FamilyNumber}
-use Rattle.model.specs.SharingPlan.{FamiliesAtMost}
-use Rattle.model.specs.Floor.{mostFamilies, searched}
+use Rattle.sharing_plans.specs.SharingPlan.{FamiliesAtMost}
+use Rattle.model.specs.Floor.{mostSearched, searched}
 use Rattle.model.proofs.FirstFit.{free-least}
 use Rattle.model.proofs.FamilyList.{families-have, families-are, families-rising}
 use Rattle.model.proofs.LivePairs.{pair-live, live-pairs-formed}
@@ -87,8 +87,8 @@ module _ {W : ℕ} {c : Chart} (valid : Valid W c) where
           let l = pair-live valid (y .0 .first) (y .0 .timer) .0 (o .pair) in
           a .named _ _ m (rw (ap familyNumber (sym (o .whole)) ∙ y .2) at (family-number valid (y .0 .first) (y .0 .timer) l))
 
-  pub searched-iff : (searched c ≡ true) ↔ FamiliesAtMost mostFamilies c
+  pub searched-iff : (searched c ≡ true) ↔ FamiliesAtMost mostSearched c
   unfolding searched
   searched-iff =
-      let x = families-iff mostFamilies in
+      let x = families-iff mostSearched in
       (λ h. x .0 (leb-true _ _ h), λ a. le-leb _ _ (x .1 a))

@@ -16,7 +16,7 @@ use Rattle.model.specs.FirstFit.{board, used}
 use Rattle.model.specs.Rewrite.{numbering}
 use Rattle.model.specs.SmallestPlan.{fewest}
 use Rattle.model.specs.Floor.{searched, floor}
-use Rattle.model.specs.SharingPlan.{FewestTimers}
+use Rattle.sharing_plans.specs.SharingPlan.{FewestTimers}
 use Rattle.model.proofs.Settled.{length-settled}
 use Rattle.sharing_plans.proofs.ChartPlans.{fewest-timers, first-fit-plan}
 use Rattle.sharing_plans.proofs.Fullest.{fullest-most, fullest-least, fullest-reached, plan-holds-live}
@@ -25,6 +25,7 @@ pub floor-searched : (c : Chart) → searched c ≡ true → floor c ≡ fewest 
 unfolding floor
 floor-searched c h = rw (h, floor)
 
+-- with more families it is the figure of document 01
 pub floor-unsearched : (c : Chart) → searched c ≡ false → floor c ≡ fullest (liveSets c)
 unfolding floor
 floor-unsearched c h = rw (h, floor)
@@ -52,6 +53,13 @@ module _ {W : ℕ} {c : Chart} (valid : Valid W c) where
       go : (searched c ≡ true) ⊎ (searched c ≡ false) → ones (getD (liveSets c) q 0) ≤ floor c
       go (inl h) = omega (arith, floor-searched c h, fullest-fewest, fullest-most (liveSets c) q)
       go (inr h) = omega (arith, floor-unsearched c h, fullest-most (liveSets c) q)
+
+  -- it is no smaller than the figure of document 01, and the same where first fit uses no more than that
+  pub floor-before : fullest (liveSets c) ≤ floor c
+  floor-before = fullest-least (floor c) (liveSets c) (λ q h. floor-most q)
+
+  pub floor-same : used c ≤ fullest (liveSets c) → floor c ≡ fullest (liveSets c)
+  floor-same h = omega (arith, floor-before, floor-used)
 
   -- with at most 20 families it is the fewest timers of any plan
   pub floor-fewest : searched c ≡ true → FewestTimers c (floor c)

@@ -20,7 +20,7 @@ use Rattle.model.specs.Live.{live, liveFlow, liveSets, fullest}
 use Rattle.model.specs.Rewrite.{Numbering}
 use Rattle.model.specs.Plan.{Has}
 use Rattle.model.specs.SharingRule.{SameFamily}
-use Rattle.model.specs.SharingPlan.{SharingPlan}
+use Rattle.sharing_plans.specs.SharingPlan.{SharingPlan}
 use Rattle.model.proofs.Settled.{settled-words}
 use Rattle.model.proofs.LivePaths.{live-shaped, live-iff}
 use Rattle.sharing_plans.proofs.DifferentNumbers.{few-numbers}

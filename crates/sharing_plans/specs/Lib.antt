@@ -1,1 +1,2 @@
+pub mod SharingPlan
 pub mod FamilyPlans

@@ -11,9 +11,9 @@ use lib.ListN.{getD}
 use Rattle.lists.proofs.Bools.{not-both, and-left, and-right}
 use Rattle.timer_set.specs.Members.{member, common}
 use Rattle.timer_set.proofs.Members.{member-common}
-use Rattle.model.specs.Floor.{mostFamilies}
+use Rattle.model.specs.Floor.{mostSearched}
 use Rattle.smallest_plan.specs.RowPlans.{meetIn}
-use Rattle.smallest_plan.specs.Cliques.{Candidates, Apart, AtLeast}
+use Rattle.smallest_plan.specs.Cliques.{Candidates, Apart, NumbersNeeded}
 use Rattle.smallest_plan.proofs.Exchange.{exchanged, exchanged-same, exchanged-less}
 
 -- a part of the candidates
@@ -21,11 +21,11 @@ pub candidates-part : {rows : List ℕ} {w u : ℕ} → ((i : ℕ) → member u 
 candidates-part s C = record { below = λ i m. C .below i (s i m); other = λ i m. C .other i (s i m) }
 
 -- each candidate may have its own number, so that no more than all are ever needed
-pub few : {rows : List ℕ} {w least r : ℕ} → Candidates rows w → AtLeast rows w least r → least ≤ mostFamilies → r ≤ mostFamilies
-few C A l = A .needed mostFamilies (λ i. i) (record { below = C .below; apart = λ i j m o t e. not-both t (rw (sym e) (C .other i m)) }) l
+pub few : {rows : List ℕ} {w least r : ℕ} → Candidates rows w → NumbersNeeded rows w least r → least ≤ mostSearched → r ≤ mostSearched
+few C A l = A .needed mostSearched (λ i. i) (record { below = C .below; apart = λ i j m o t e. not-both t (rw (sym e) (C .other i m)) }) l
 
 -- nothing is tried yet
-pub given : (rows : List ℕ) (w least : ℕ) → AtLeast rows w least least
+pub given : (rows : List ℕ) (w least : ℕ) → NumbersNeeded rows w least least
 given rows w least = record { needed = λ k f P l. l }
 
 pub common-in : (a b i : ℕ) → member (common a b) i ≡ true → member a i ≡ true
@@ -55,8 +55,8 @@ module _ (rows : List ℕ) (left v : ℕ) (m : member left v ≡ true) where
       among = common-in left (getD rows v 0)
 
   -- one more than those need
-  pub one-more : {w least best r : ℕ} → ((i : ℕ) → member left i ≡ true → member w i ≡ true) → AtLeast rows w least best
-      → AtLeast rows (common left (getD rows v 0)) (best - 1) r → AtLeast rows w least (r + 1)
+  pub one-more : {w least best r : ℕ} → ((i : ℕ) → member left i ≡ true → member w i ≡ true) → NumbersNeeded rows w least best
+      → NumbersNeeded rows (common left (getD rows v 0)) (best - 1) r → NumbersNeeded rows w least (r + 1)
   one-more s A B = record {
     needed = λ k f P l.
         let Q : Apart rows k left f = record { below = λ i n. P .below i (s i n); apart = λ i j n o. P .apart i j (s i n) (s j o) } in

@@ -13,7 +13,7 @@ use lib.ListN.{getD}
 use Rattle.lists.proofs.Bools.{not-both}
 use Rattle.timer_set.specs.Members.{member}
 use Rattle.timer_set.proofs.Members.{member-empty}
-use Rattle.smallest_plan.specs.Search.{Completes, Ready}
+use Rattle.smallest_plan.specs.Search.{Completes, SearchReady}
 
 pub exchanged : (a b x : ℕ) → ℕ
 exchanged a b x = cond (eqb x a) b (cond (eqb x b) a x)
@@ -73,8 +73,8 @@ exchanged-keeps P a b x pa pb px = go (cases a b x)
     go (inr (inr e)) = rw (e .2) px
 
 -- if v has a number that is held against none, it may as well have the first such
-pub first-fresh : {rows held : List ℕ} {k w used : ℕ} {f : ℕ → ℕ} (v : ℕ) → Ready rows held k w used → Completes rows held k w f → member w v ≡ true
-    → used ≤ f v → Completes rows held k w (λ i. exchanged used (f v) (f i))
+pub first-fresh : {rows held : List ℕ} {k w used : ℕ} {f : ℕ → ℕ} (v : ℕ) → SearchReady rows held k w used → Completes rows held k w f
+    → member w v ≡ true → used ≤ f v → Completes rows held k w (λ i. exchanged used (f v) (f i))
 first-fresh {held = held} {k = k} {used = used} {f = f} v R C m l = record {
   below = λ i n. exchanged-keeps (λ x. x < k) used (f v) (f i) (omega (arith, C .below v m)) (C .below v m) (C .below i n);
   free = λ i n.

@@ -19,7 +19,7 @@ use Rattle.timer_set.proofs.Members.{member-empty, member-removed, member-joine
 use Rattle.timer_set.proofs.Machine.{machine-removed}
 use Rattle.timer_set.proofs.LowestMember.{removed-gone}
 use Rattle.smallest_plan.specs.RowPlans.{meetIn}
-use Rattle.smallest_plan.specs.Search.{Completes, Ready, Answers, holding}
+use Rattle.smallest_plan.specs.Search.{Completes, SearchReady, Answers, heldAfter}
 use Rattle.smallest_plan.proofs.Exchange.{exchanged, exchanged-to, first-fresh}
 
 -- ---- a set without one of its members
@@ -44,8 +44,8 @@ completes-part s C = record {
   apart = λ i j n o. C .apart i j (s i n) (s j o);
 }
 
-ready-part : {rows held : List ℕ} {k w u used : ℕ} → ((i : ℕ) → member u i ≡ true → member w i ≡ true) → Ready rows held k w used
-    → Ready rows held k u used
+ready-part : {rows held : List ℕ} {k w u used : ℕ} → ((i : ℕ) → member u i ≡ true → member w i ≡ true) → SearchReady rows held k w used
+    → SearchReady rows held k u used
 ready-part s R = record {
   families = R .families;
   few-families = R .few-families;
@@ -75,22 +75,22 @@ put-cases f w v c i m = go (ℕ-discrete i v)
 
 -- ---- v takes c
 
-pub holding-length : (rows held : List ℕ) (v c : ℕ) → length (holding rows held v c) ≡ length held
-holding-length rows held v c = length-set held c _
+pub heldAfter-length : (rows held : List ℕ) (v c : ℕ) → length (heldAfter rows held v c) ≡ length held
+heldAfter-length rows held v c = length-set held c _
 
 module _ (rows held : List ℕ) (v c : ℕ) (l : c < length held) where
   -- against whom a number is held now
-  held-now : (d i : ℕ) → member (getD (holding rows held v c) d 0) i ≡ (member (getD held d 0) i || (eqb d c && meetIn rows v i))
+  held-now : (d i : ℕ) → member (getD (heldAfter rows held v c) d 0) i ≡ (member (getD held d 0) i || (eqb d c && meetIn rows v i))
   unfolding meetIn
   held-now d i = go (ℕ-discrete d c)
     where
-      go : Dec (d ≡ c) → member (getD (holding rows held v c) d 0) i ≡ (member (getD held d 0) i || (eqb d c && member (getD rows v 0) i))
+      go : Dec (d ≡ c) → member (getD (heldAfter rows held v c) d 0) i ≡ (member (getD held d 0) i || (eqb d c && member (getD rows v 0) i))
       go (yes p) = rw (p, eq-eqb c c refl, getD-set-same held c _ 0 l) (member-joined _ _ i)
       go (no n) = rw (ne-eqb d c n, getD-set-other held c d _ 0 n) (sym (or-false _))
 
   -- what completes u before, and gives c to none of u that v meets, completes it after
   completes-after : {k u : ℕ} {f : ℕ → ℕ} → Completes rows held k u f → ((i : ℕ) → member u i ≡ true → meetIn rows v i ≡ true → f i ≡ c → ⊥)
-      → Completes rows (holding rows held v c) k u f
+      → Completes rows (heldAfter rows held v c) k u f
   completes-after {u = u} {f = f} C s = record {
     below = C .below;
     free = λ i n h. free i n (or-cases (member (getD held (f i) 0) i) (sym (held-now (f i) i) ∙ h));
@@ -103,22 +103,22 @@ module _ (rows held : List ℕ) (v c : ℕ) (l : c < length held) where
 
   -- what completes before, with c at v, completes after
   narrow : {k w : ℕ} {f : ℕ → ℕ} → member w v ≡ true → Completes rows held k w f → f v ≡ c
-      → Completes rows (holding rows held v c) k (removed w v) f
+      → Completes rows (heldAfter rows held v c) k (removed w v) f
   narrow {w = w} m C e =
       completes-after (completes-part (removed-in w v) C) (λ i n t q. C .apart v i m (removed-in w v i n) t (e ∙ sym q))
 
   -- c at v takes nothing from the families of u: what completes these before completes them after
   unchanged : {k u : ℕ} {f : ℕ → ℕ} → minus (common (getD rows v 0) u) (getD held c 0) ≡ 0 → Completes rows held k u f
-      → Completes rows (holding rows held v c) k u f
+      → Completes rows (heldAfter rows held v c) k u f
   unfolding meetIn
   unchanged {u = u} e C = completes-after C (λ i n t q. C .free i n (rw q (is-yes _ (lost i n t))))
     where
       lost : (i : ℕ) → member u i ≡ true → member (getD rows v 0) i ≡ true → member (getD held c 0) i ≡ false → ⊥
       lost i n t q = not-both (member-minus _ _ i ∙ and-both (member-common _ u i ∙ and-both t n) (ap not q)) (rw e (member-empty i))
 
-module _ {rows held : List ℕ} {k w used : ℕ} (R : Ready rows held k w used) (v : ℕ) (m : member w v ≡ true) (c : ℕ) (l : c < length held) where
+module _ {rows held : List ℕ} {k w used : ℕ} (R : SearchReady rows held k w used) (v : ℕ) (m : member w v ≡ true) (c : ℕ) (l : c < length held) where
   -- what completes after, with c put at v, completes before
-  widen : {f : ℕ → ℕ} → Completes rows (holding rows held v c) k (removed w v) f → c < k → member (getD held c 0) v ≡ false
+  widen : {f : ℕ → ℕ} → Completes rows (heldAfter rows held v c) k (removed w v) f → c < k → member (getD held c 0) v ≡ false
       → Completes rows held k w (put f v c)
   widen {f} C s h = record {
     below = λ i n. below i (put-cases f w v c i n);
@@ -146,7 +146,7 @@ module _ {rows held : List ℕ} {k w used : ℕ} (R : Ready rows held k w used) 
           clash i (a .0) back (sym (b .1) ∙ sym e ∙ a .1)
       apart i j (inr a) (inr b) t e = C .apart i j (a .0) (b .0) t (sym (a .1) ∙ e ∙ b .1)
 
-  pub ready-next : c < k → c ≤ used → Ready rows (holding rows held v c) k (removed w v) (max used (c + 1))
+  pub ready-next : c < k → c ≤ used → SearchReady rows (heldAfter rows held v c) k (removed w v) (max used (c + 1))
   ready-next s u = record {
     families = R .families;
     few-families = R .few-families;
@@ -159,7 +159,7 @@ module _ {rows held : List ℕ} {k w used : ℕ} (R : Ready rows held k w used) 
 
   -- a conflict from which c at v takes nothing is one whatever v gets
   pub answers-part : {part : ℕ} → c < k → member (getD held c 0) v ≡ false → minus (common (getD rows v 0) part) (getD held c 0) ≡ 0
-      → Answers rows (holding rows held v c) k (removed w v) part → Answers rows held k w part
+      → Answers rows (heldAfter rows held v c) k (removed w v) part → Answers rows held k w part
   answers-part s h e A = record {
     none = λ n. record { by = _; completes = widen (A .none n .completes) s h };
     some = λ n f C. A .some n f (unchanged rows held v c l e C);
@@ -198,7 +198,7 @@ module _ {rows held : List ℕ} {k w v found c : ℕ} (T : Tried rows held k w v
   }
 
   pub tried-more : {part : ℕ} → c < length held → (minus (common (getD rows v 0) part) (getD held c 0) ≡ 0 → ⊥)
-      → Answers rows (holding rows held v c) k (removed w v) part → Tried rows held k w v (joined found part) (c + 1)
+      → Answers rows (heldAfter rows held v c) k (removed w v) part → Tried rows held k w v (joined found part) (c + 1)
   tried-more {part} l n A = record {
     has = left v (T .has);
     within = within;
@@ -221,7 +221,7 @@ module _ {rows held : List ℕ} {k w v found c : ℕ} (T : Tried rows held k w v
           let other = and-right (member w i) (not (eqb i v)) (sym (member-removed w v i) ∙ A .within i m) in
           member-removed (joined found part) v i ∙ and-both (member-joined found part i ∙ or-right (member found i) m) other
 
-  pub tried-all : {used : ℕ} → Ready rows held k w used → min k (used + 1) ≤ c → Answers rows held k w found
+  pub tried-all : {used : ℕ} → SearchReady rows held k w used → min k (used + 1) ≤ c → Answers rows held k w found
   tried-all {used} R q = record {
     none = λ e. absurd (not-both (rw e at (T .has)) (member-empty v));
     some = λ e f C.

@@ -11,10 +11,10 @@ use Rattle.lists.proofs.Bools.{not-both, lt-or-le}
 use Rattle.lists.proofs.Zeros.{getD-zeros}
 use Rattle.timer_set.specs.Members.{member}
 use Rattle.timer_set.proofs.Members.{member-empty, member-full, member-high}
-use Rattle.model.specs.Floor.{mostFamilies}
+use Rattle.model.specs.Floor.{mostSearched}
 use Rattle.smallest_plan.specs.RowPlans.{Mutual, RowPlan, Bounds, SmallestOf}
-use Rattle.smallest_plan.specs.Search.{Completes, Completable, Ready}
-use Rattle.smallest_plan.specs.Cliques.{Candidates, Apart, AtLeast}
+use Rattle.smallest_plan.specs.Search.{Completes, Completable, SearchReady}
+use Rattle.smallest_plan.specs.Cliques.{Candidates, Apart, NumbersNeeded}
 
 abbrev pub zeros : List ℕ
 zeros = replicate 20 0
@@ -23,11 +23,11 @@ below-n : (n i : ℕ) → member (2 ^ n - 1) i ≡ true → i < n
 below-n n i m = ⊎-elim (λ l. l) (λ l. absurd (not-both m (member-high n (2 ^ n - 1) i (omega (arith, pow-pos n)) l))) (lt-or-le i n)
 
 -- all families may be in a clique
-pub all-candidates : {rows : List ℕ} {n : ℕ} → n ≤ mostFamilies → Mutual rows n → Candidates rows (2 ^ n - 1)
+pub all-candidates : {rows : List ℕ} {n : ℕ} → n ≤ mostSearched → Mutual rows n → Candidates rows (2 ^ n - 1)
 all-candidates {n = n} h M = record { below = λ i m. omega (arith, below-n n i m); other = λ i m. M .other i (below-n n i m) }
 
 module _ {rows : List ℕ} {n k : ℕ} where
-  pub ready-start : n ≤ mostFamilies → k ≤ mostFamilies → Mutual rows n → Ready rows zeros k (2 ^ n - 1) 0
+  pub ready-start : n ≤ mostSearched → k ≤ mostSearched → Mutual rows n → SearchReady rows zeros k (2 ^ n - 1) 0
   ready-start h l M = record {
     families = n;
     few-families = h;
@@ -52,7 +52,7 @@ module _ {rows : List ℕ} {n k : ℕ} where
   }
 
   -- the bound by a clique
-  pub raised : {low high : ℕ} → Bounds rows n low high → AtLeast rows (2 ^ n - 1) low k → Bounds rows n k high
+  pub raised : {low high : ℕ} → Bounds rows n low high → NumbersNeeded rows (2 ^ n - 1) low k → Bounds rows n k high
   raised B A = record { by = B .by; plan = B .plan; least = λ j f P. A .needed j f (plan-apart P) (B .least j f P) }
     where
       plan-apart : {j : ℕ} {f : ℕ → ℕ} → RowPlan rows n j f → Apart rows j (2 ^ n - 1) f

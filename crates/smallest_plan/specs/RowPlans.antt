@@ -27,7 +27,5 @@ pub record Bounds (rows : List ℕ) (n low high : ℕ) : Type 0 where
   pub least : (k : ℕ) (f : ℕ → ℕ) → RowPlan rows n k f → low ≤ k
 
 -- m is the smallest number of timers in any plan
-pub record SmallestOf (rows : List ℕ) (n m : ℕ) : Type 0 where
-  pub by : ℕ → ℕ
-  pub plan : RowPlan rows n m by
-  pub least : (k : ℕ) (f : ℕ → ℕ) → RowPlan rows n k f → m ≤ k
+abbrev pub SmallestOf : (rows : List ℕ) → (n m : ℕ) → Type 0
+SmallestOf rows n m = Bounds rows n m m

@@ -6,7 +6,7 @@ use mathlib.Core.List.{List}
 use Prim.Native.Nat.{ℕ, _≤_, _<_}
 use lib.ListN.{getD, set}
 use Rattle.timer_set.specs.Members.{member, joined}
-use Rattle.model.specs.Floor.{mostFamilies}
+use Rattle.model.specs.Floor.{mostSearched}
 use Rattle.smallest_plan.specs.RowPlans.{meetIn, Mutual}
 
 -- f gives the unplaced families numbers below k that are not held against them, and different ones to those that meet
@@ -21,12 +21,12 @@ pub record Completable (rows held : List ℕ) (k unplaced : ℕ) : Type 0 where
   pub completes : Completes rows held k unplaced by
 
 -- what the search asks of its caller: the unplaced families meet mutually, and the numbers from used on are held against none
-pub record Ready (rows held : List ℕ) (k unplaced used : ℕ) : Type 0 where
+pub record SearchReady (rows held : List ℕ) (k unplaced used : ℕ) : Type 0 where
   pub families : ℕ
-  pub few-families : families ≤ mostFamilies
+  pub few-families : families ≤ mostSearched
   pub meetings : Mutual rows families
   pub within : (i : ℕ) → member unplaced i ≡ true → i < families
-  pub few-numbers : k ≤ mostFamilies
+  pub few-numbers : k ≤ mostSearched
   pub used-few : used ≤ k
   pub fresh : (c : ℕ) → used ≤ c → getD held c 0 ≡ 0
 
@@ -37,5 +37,5 @@ pub record Answers (rows held : List ℕ) (k unplaced r : ℕ) : Type 0 where
   pub within : (i : ℕ) → member r i ≡ true → member unplaced i ≡ true
 
 -- family v takes the number c: it is held, besides, against all that v meets
-abbrev pub holding : (rows held : List ℕ) (v c : ℕ) → List ℕ
-holding rows held v c = set held c (joined (getD held c 0) (getD rows v 0))
+abbrev pub heldAfter : (rows held : List ℕ) (v c : ℕ) → List ℕ
+heldAfter rows held v c = set held c (joined (getD held c 0) (getD rows v 0))

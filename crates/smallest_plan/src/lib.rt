@@ -8,14 +8,14 @@ ghost use Prim.Native.Nat.{ℕ, _-_, _^_, _≤_, _<_, min, max};
 ghost use lib.Dec.{eqb};
 ghost use lib.ListN.{getD};
 ghost use Rattle.timer_set.specs.Members.{member, common, minus};
-ghost use Rattle.model.specs.Floor.{mostFamilies};
+ghost use Rattle.model.specs.Floor.{mostSearched};
 ghost use Rattle.smallest_plan.specs.RowPlans.{Mutual, Bounds, SmallestOf};
-ghost use Rattle.smallest_plan.specs.Search.{Ready, Answers, holding};
+ghost use Rattle.smallest_plan.specs.Search.{SearchReady, Answers, heldAfter};
 use clique::largest_clique;
 use timer_set::TimerSet;
 
 // The most families that rows are given for.
-pub const MOST_FAMILIES: usize = 20;
+pub const MOST_SEARCHED: usize = 20;
 
 // The smaller of two numbers, and the larger.
 fn smaller(x: usize, y: usize) -> usize
@@ -34,13 +34,13 @@ fn larger(x: usize, y: usize) -> usize
 // Where these are fewer than k, a number is left for it whatever the others get, so it comes last. The contract says nothing of that: any choice is
 // right, and this one is quick.
 fn score(
-    rows: &[u64; MOST_FAMILIES],
-    held: &[u64; MOST_FAMILIES],
+    rows: &[u64; MOST_SEARCHED],
+    held: &[u64; MOST_SEARCHED],
     unplaced: TimerSet,
     used: usize,
     v: u8,
 ) -> usize
-    requires { ⌜ (used ≤ mostFamilies) × (v < mostFamilies) ⌝ }
+    requires { ⌜ (used ≤ mostSearched) × (v < mostSearched) ⌝ }
 {
     let row = TimerSet {
         bits: rows[v as usize],
@@ -59,13 +59,13 @@ fn score(
 
 // The unplaced family to go on with.
 fn pick(
-    rows: &[u64; MOST_FAMILIES],
-    held: &[u64; MOST_FAMILIES],
+    rows: &[u64; MOST_SEARCHED],
+    held: &[u64; MOST_SEARCHED],
     unplaced: TimerSet,
     used: usize,
 ) -> u8
-    requires { ⌜ (used ≤ mostFamilies) × (unplaced .bits ≡ 0 → ⊥) × ((i : ℕ) → member (unplaced .bits) i ≡ true → i < mostFamilies) ⌝ }
-    ensures { λ r. ⌜ (r < mostFamilies) × (member (unplaced .bits) r ≡ true) ⌝ }
+    requires { ⌜ (used ≤ mostSearched) × (unplaced .bits ≡ 0 → ⊥) × ((i : ℕ) → member (unplaced .bits) i ≡ true → i < mostSearched) ⌝ }
+    ensures { λ r. ⌜ (r < mostSearched) × (member (unplaced .bits) r ≡ true) ⌝ }
 {
     let mut best = unplaced.lowest() as u8;
     let mut most: usize = 0;
@@ -84,13 +84,13 @@ fn pick(
 
 // The family v takes the number c: it is held against each family that v meets.
 fn hold(
-    rows: &[u64; MOST_FAMILIES],
-    held: &[u64; MOST_FAMILIES],
+    rows: &[u64; MOST_SEARCHED],
+    held: &[u64; MOST_SEARCHED],
     v: u8,
     c: usize,
-) -> [u64; MOST_FAMILIES]
-    requires { ⌜ (v < mostFamilies) × (c < mostFamilies) ⌝ }
-    ensures { λ r. ⌜ r ≡ holding (now (rows .entry)) (now (held .entry)) v c ⌝ }
+) -> [u64; MOST_SEARCHED]
+    requires { ⌜ (v < mostSearched) × (c < mostSearched) ⌝ }
+    ensures { λ r. ⌜ r ≡ heldAfter (now (rows .entry)) (now (held .entry)) v c ⌝ }
 {
     let against = TimerSet { bits: held[c] };
     let row = TimerSet {
@@ -103,8 +103,8 @@ fn hold(
 
 // A number is held against the families of `against`. Whether v takes nothing from those of `part` if it gets that number: it is held already against
 // each of them that v meets.
-fn takes_nothing(rows: &[u64; MOST_FAMILIES], v: u8, against: TimerSet, part: TimerSet) -> bool
-    requires { ⌜ v < mostFamilies ⌝ }
+fn takes_nothing(rows: &[u64; MOST_SEARCHED], v: u8, against: TimerSet, part: TimerSet) -> bool
+    requires { ⌜ v < mostSearched ⌝ }
     ensures { λ r. ⌜ r ≡ eqb (minus (common (getD (now (rows .entry)) v 0) (part .bits)) (against .bits)) 0 ⌝ }
 {
     let row = TimerSet {
@@ -117,15 +117,15 @@ fn takes_nothing(rows: &[u64; MOST_FAMILIES], v: u8, against: TimerSet, part: Ti
 // against them. The empty set is answered where all unplaced families can be. held[c] is the set of the families against which c is held; from `used`
 // on no number is held, so all of these are alike and only the first of them is tried. A conflict from which c at v takes nothing is one whatever v
 // gets, so no further number is tried at v (conflict-directed backjumping). Each call within another has one unplaced family fewer, so the recursion
-// is at most 20 deep and one more.
+// is at most 21 calls deep.
 fn conflict(
-    rows: &[u64; MOST_FAMILIES],
+    rows: &[u64; MOST_SEARCHED],
     k: usize,
-    held: &[u64; MOST_FAMILIES],
+    held: &[u64; MOST_SEARCHED],
     unplaced: TimerSet,
     used: usize,
 ) -> TimerSet
-    requires { ⌜ Ready (now rows) (now held) k (unplaced .bits) used ⌝ }
+    requires { ⌜ SearchReady (now rows) (now held) k (unplaced .bits) used ⌝ }
     ensures { λ r. ⌜ Answers (now (rows .entry)) (now (held .entry)) k (unplaced .bits) (r .bits) ⌝ }
 {
     if unplaced.is_empty() {
@@ -152,7 +152,7 @@ fn conflict(
 
 // The set of the families below n.
 fn families_below(n: usize) -> TimerSet
-    requires { ⌜ n ≤ mostFamilies ⌝ }
+    requires { ⌜ n ≤ mostSearched ⌝ }
     ensures { λ r. ⌜ r .bits ≡ 2 ^ n - 1 ⌝ }
 {
     TimerSet {
@@ -162,11 +162,11 @@ fn families_below(n: usize) -> TimerSet
 
 // The smallest number of timers in any plan for n families, which is at least `low` and at most `high`: no number is searched below the size of the
 // largest clique, and nothing where the bounds are equal.
-pub fn smallest(rows: &[u64; MOST_FAMILIES], n: usize, low: usize, high: usize) -> usize
-    requires { ⌜ (n ≤ mostFamilies) × (high ≤ mostFamilies) × Mutual (now rows) n × Bounds (now rows) n low high ⌝ }
+pub fn smallest(rows: &[u64; MOST_SEARCHED], n: usize, low: usize, high: usize) -> usize
+    requires { ⌜ (n ≤ mostSearched) × (high ≤ mostSearched) × Mutual (now rows) n × Bounds (now rows) n low high ⌝ }
     ensures { λ r. ⌜ SmallestOf (now (rows .entry)) n r ⌝ }
 {
-    let held = [0u64; MOST_FAMILIES];
+    let held = [0u64; MOST_SEARCHED];
     let all = families_below(n);
     let mut k = largest_clique(rows, all, low);
     while k < high {

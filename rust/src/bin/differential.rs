@@ -42,6 +42,9 @@ struct Tally {
     /// The program's, the number taken from its text.
     listings: ByNumber,
     floors: Floors,
+    /// Texts of the program with either word.
+    printed_floor: u64,
+    printed_seen: u64,
     steps_taken: u64,
     largest: u64,
 }
@@ -185,6 +188,8 @@ impl Trial {
         }
         let number = expected.strip_prefix("refused ").and_then(|rest| rest.split(' ').next()?.parse().ok());
         self.tally.listings[number.unwrap_or(0)] += 1;
+        self.tally.printed_floor += u64::from(expected.contains(" floor "));
+        self.tally.printed_seen += u64::from(expected.contains(" seen "));
     }
 
     /// All calls on one file, with step lists made for `drawing` where the file is that drawing's.
@@ -424,6 +429,7 @@ fn main() {
     println!("rounds {rounds}, seed {seed}; largest chart {} bytes", tally.largest);
     println!("steps taken: {}", tally.steps_taken);
     println!("analyses with {}", tally.floors);
+    println!("texts with floor: {}, with seen: {}", tally.printed_floor, tally.printed_seen);
     println!("how often each answer came (0: a result)");
     println!("{:>6} {:>10} {:>10} {:>10} {:>10}", "number", "analysis", "rewriting", "player", "program");
     for number in 0..ByNumber::default().len() {
@@ -434,8 +440,9 @@ fn main() {
     }
     let program = trial.program.is_some().then_some(OF_PROGRAM);
     let missing: Vec<usize> = EXPECTED.into_iter().chain(program).filter(|&number| !tally.came(number)).collect();
-    if !missing.is_empty() || !tally.floors.all_came() {
-        println!("never came: {missing:?}, or one of: {}", tally.floors);
+    let words_came = trial.program.is_none() || tally.printed_floor > 0 && tally.printed_seen > 0;
+    if !missing.is_empty() || !tally.floors.all_came() || !words_came {
+        println!("never came: {missing:?}, or one of: {}, or a word of the program", tally.floors);
         exit(2);
     }
     let calls: u64 = tally.all().into_iter().flatten().sum();

@@ -7,16 +7,16 @@ use native.Mathlib.Omega.{arith}
 use lib.ListN.{length, getD, set, length-set}
 use lib.Seq.{getD-set-same, getD-set-other}
 use Rattle.timer_set.specs.Members.{member}
-use Rattle.model.specs.Floor.{mostFamilies}
-use Rattle.meeting.specs.Meeting.{sharing}
+use Rattle.model.specs.Floor.{mostSearched}
+use Rattle.meeting.specs.Meeting.{meetAt}
 use Rattle.meeting.proofs.Meeting.{rows-of}
 use Rattle.meeting.proofs.meeting_rows.Statement.{statement}
 use Rattle.meeting.proofs.meeting_rows.Tie as tie
 
 abbrev Inv-loop : tie.InvT-loop
 Inv-loop families-at n rows₀ i₀ rows i =
-    (i ≤ n) × (n ≤ mostFamilies) × (length rows ≡ mostFamilies)
-    × ((k : ℕ) → k < i → (j : ℕ) → member (getD rows k 0) j ≡ sharing families-at k j)
+    (i ≤ n) × (n ≤ mostSearched) × (length rows ≡ mostSearched)
+    × ((k : ℕ) → k < i → (j : ℕ) → member (getD rows k 0) j ≡ meetAt families-at k j)
 
 abbrev μ-loop : tie.MeasureT-loop
 μ-loop families-at n rows₀ i₀ rows i = n - i
@@ -50,7 +50,7 @@ loop-again c =
       omega arith,
       l .inv .1,
       simp length-set (l .inv .2),
-      below-more (λ (k : ℕ). (j : ℕ) → member (getD (set (l .rows) (l .i) w) k 0) j ≡ sharing (a .families-at .now) k j) (l .i)
+      below-more (λ (k : ℕ). (j : ℕ) → member (getD (set (l .rows) (l .i) w) k 0) j ≡ meetAt (a .families-at .now) k j) (l .i)
           (λ k h j. ap (λ (v : ℕ). member v j) (getD-set-other (l .rows) (l .i) k w 0 (λ p. omega arith)) ∙ l .inv .3 k h j)
           (λ j. ap (λ (v : ℕ). member v j) (getD-set-same (l .rows) (l .i) w 0 (omega arith)) ∙ c .row-of .ensures j),
     )

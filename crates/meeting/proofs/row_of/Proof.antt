@@ -11,7 +11,7 @@ use Rattle.timer_set.specs.Members.{member}
 use Rattle.timer_set.proofs.Members.{member-empty, member-joined, member-removed}
 use Rattle.allocation.specs.Rows.{inFamily, anyBelow, someIn}
 use Rattle.allocation.proofs.Below.{some-yes, some-no}
-use Rattle.meeting.specs.Meeting.{sharing}
+use Rattle.meeting.specs.Meeting.{meetAt}
 use Rattle.meeting.proofs.row_of.Statement.{statement}
 use Rattle.meeting.proofs.row_of.Tie as tie
 
@@ -76,7 +76,7 @@ without-requires : tie.Need-without-requires Inv-loop μ-loop
 without-requires c κs = search needs
 
 returns : tie.Need-returns Inv-loop μ-loop
-unfolding sharing
+unfolding meetAt
 returns c =
     let l = c .before .before .loop in
     let a = c .before .before .before .before .args in

@@ -10,7 +10,7 @@ use borrow.Author.Tests.{eqb-true, eqb-false, not-true, not-false}
 use Rattle.smallest_plan.proofs.Placing.{
   Tried,
   removed-less,
-  holding-length,
+  heldAfter-length,
   ready-next,
   answers-part,
   tried-none,
@@ -87,7 +87,7 @@ room t h =
     let l = h .before .before .before .before .before in
     let s = l .before .before .before .before .before .before in
     let long : length (h .hold .result) ≡ 20 = search needs in
-    let kept = holding-length (s .args .rows .now) (s .args .held .now) (l .before .before .before .pick .result) (l .loop .c) in
+    let kept = heldAfter-length (s .args .rows .now) (s .args .held .now) (l .before .before .before .pick .result) (l .loop .c) in
     omega (arith, ap length (h .hold .ensures) ∙ kept, long, s .pre .1 .few-numbers)
 
 word : (t : ℕ) (s : conflict-lts.Start (claims t) (conflict-at t) conflict.Post conflict-Inv-loop conflict-μ-loop) → s .args .unplaced .bits < 2 ^ 64

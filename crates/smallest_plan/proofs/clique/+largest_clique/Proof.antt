@@ -10,8 +10,8 @@ use borrow.Fn.PlainCycle.{Measures, is, falls, and}
 use lib.Count.{ones}
 use Rattle.timer_set.specs.Members.{member}
 use Rattle.timer_set.proofs.LowestMember.{lowest-member, without-less}
-use Rattle.model.specs.Floor.{mostFamilies}
-use Rattle.smallest_plan.specs.Cliques.{Candidates, AtLeast}
+use Rattle.model.specs.Floor.{mostSearched}
+use Rattle.smallest_plan.specs.Cliques.{Candidates, NumbersNeeded}
 use Rattle.smallest_plan.proofs.Placing.{removed-in}
 use Rattle.smallest_plan.proofs.Cliques.{candidates-part, few, given, common-in, common-less, one-more}
 use Rattle.smallest_plan.proofs.clique.largest_clique.Reads as clique
@@ -36,7 +36,8 @@ clique-below t = and 1 kinds.ps (falls 1 kinds.ps _<_ μ-clique t) clique.Pre
 
 abbrev Inv-loop : lts.InvT-loop
 Inv-loop rows least best₀ left₀ best left =
-    (left .bits ≤ left₀ .bits) × ((i : ℕ) → member (left .bits) i ≡ true → member (left₀ .bits) i ≡ true) × AtLeast rows (left₀ .bits) least best
+    (left .bits ≤ left₀ .bits) × ((i : ℕ) → member (left .bits) i ≡ true → member (left₀ .bits) i ≡ true)
+    × NumbersNeeded rows (left₀ .bits) least best
 
 abbrev μ-loop : lts.MeasureT-loop
 μ-loop rows least best₀ left₀ best left = left .bits
@@ -72,13 +73,13 @@ candidates : (t : ℕ) (a : lts.After-lowest (claims t) (clique-at t) clique.Pos
     → Candidates (a .before .before .before .before .args .rows .now) (a .before .before .before .loop .left .bits)
 candidates t a = let l = a .before .before .before in candidates-part (l .loop .inv .1) (l .before .pre .1 .1)
 
-family : (t : ℕ) (a : lts.After-lowest (claims t) (clique-at t) clique.Post Inv-loop μ-loop) → a .lowest .result < mostFamilies
+family : (t : ℕ) (a : lts.After-lowest (claims t) (clique-at t) clique.Post Inv-loop μ-loop) → a .lowest .result < mostSearched
 family t a = candidates t a .below _ (taken t a)
 
 -- the sum is a bound again
 next : (t : ℕ) (c : lts.After-largest-clique (claims t) (clique-at t) clique.Post Inv-loop μ-loop)
     → let s = c .before .before .before .before .before .before .before .before in
-    AtLeast (s .args .rows .now) (s .args .candidates .bits) (s .args .least) (c .largest-clique .result + 1)
+    NumbersNeeded (s .args .rows .now) (s .args .candidates .bits) (s .args .least) (c .largest-clique .result + 1)
 next t c =
     let a = c .before .before .before .before in
     let l = a .before .before .before in
