@@ -13,6 +13,7 @@ use Rattle.lists.proofs.Bools.{yes-or-no, is-no, not-both, and-right}
 use Rattle.timer_set.specs.Members.{member, added}
 use Rattle.timer_set.proofs.Members.{member-added, member-empty}
 use Rattle.chart_lists.specs.Limits.{mostLocations}
+use Rattle.model.specs.Floor.{mostSearched}
 use Rattle.model.specs.Family.{Family}
 use Rattle.allocation.specs.FamiliesAt.{contains, FamiliesAt}
 use Rattle.allocation.specs.Rows.{inFamily, holding, marked, heldWords, wordPlace}
@@ -21,7 +22,7 @@ use Rattle.allocation.proofs.Filling.{changed-no, changed-here}
 -- ---- one family is marked with its place
 
 module _ (sets : List ℕ) (j place : ℕ) (before : List ℕ) (s i : ℕ) where
-  pub marked-past : 64 ≤ place → i < 64 → member (getD before s 0) i ≡ marked sets j place before s i
+  pub marked-past : mostSearched ≤ place → i < mostSearched → member (getD before s 0) i ≡ marked sets j place before s i
   unfolding marked
   marked-past h k = rw (ne-eqb i place (λ e. omega arith)) (sym (or-false _))
 
@@ -63,7 +64,7 @@ contains-last f (g ∷ gs) (suc i) s = rw (eqb·suc-suc i (length gs)) (contains
 module _ {fs : List Family} {at : List ℕ} (so : FamiliesAt fs at) (sets : List ℕ) (long : length at ≡ length sets) where
   pub at-more : (f : Family) (j : ℕ) {place : ℕ} → ((s : ℕ) → inFamily sets j s ≡ memb s (f .locations)) → place ≡ length fs → (after : List ℕ)
       → length after ≡ length sets
-      → ((s i : ℕ) → s < length sets → i < 64 → member (getD after s 0) i ≡ marked sets j place at s i) → FamiliesAt (fs ++ (f ∷ [])) after
+      → ((s i : ℕ) → s < length sets → i < mostSearched → member (getD after s 0) i ≡ marked sets j place at s i) → FamiliesAt (fs ++ (f ∷ [])) after
   unfolding marked
   at-more f j its is after wide marks = record {
     holds = λ s i h k. marks s i (omega (arith, h, wide)) k

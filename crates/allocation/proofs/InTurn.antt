@@ -7,6 +7,7 @@ use native.Mathlib.Omega.{arith}
 use lib.ListN.{length, getD}
 use Rattle.lists.specs.Lists.{lowest}
 use Rattle.timer_set.specs.Members.{member}
+use Rattle.model.specs.Floor.{mostSearched}
 use Rattle.model.specs.Family.{Pairs, isPair, familyOf, WellFormed}
 use Rattle.allocation.specs.Rows.{taken, given, marked, Unnumbered, cellPlace}
 use Rattle.allocation.specs.Turns.{isRoot, NumberedTo, Roots}
@@ -40,7 +41,7 @@ module _ {p : Pairs} {q roots : ℕ} {sets : List ℕ} (g : Roots p q roots sets
       → (after : List ℕ) → length after ≡ 64 * length sets
       → ((s i : ℕ) → s < length sets → i < 64 → getD after (64 * s + i) 0 ≡ given sets j number cells s i)
       → length at ≡ length sets → (words : List ℕ) → length words ≡ length sets
-      → ((s i : ℕ) → s < length sets → i < 64 → member (getD words s 0) i ≡ marked sets j count at s i)
+      → ((s i : ℕ) → s < length sets → i < mostSearched → member (getD words s 0) i ≡ marked sets j count at s i)
       → NumberedTo p (64 * q + (j + 1)) after words (max used (number + 1)) (count + 1)
   turn-yes e few number is after long gave at-long words words-long marks =
       let b : isRoot p (64 * q + j) ≡ true = sym (g .timers j h) ∙ e in

@@ -14,6 +14,7 @@ use Rattle.lists.specs.Lists.{memb, gather, lowest, top}
 use Rattle.lists.proofs.Bools.{same-bool, same-number, not-both, is-no, and-left, and-right, and-both}
 use Rattle.lists.proofs.Membership.{any-memb-in, any-memb-out}
 use Rattle.lists.proofs.Lowest.{lowest-is}
+use Rattle.model.specs.Floor.{mostSearched}
 use Rattle.model.specs.Family.{Pairs, isPair, Joined, Family, familyOf, familyFrom, meets, WellFormed}
 use Rattle.model.specs.FirstFit.{Placed, held, free, place, usedBy, numberAt}
 use Rattle.model.specs.Rewrite.{numbering}
@@ -278,7 +279,7 @@ module _ {p : Pairs} (formed : WellFormed p) where
                 ∙ ap (λ (b : Bool). cell (elim b [ true ↦ some (next x .number) | false ↦ numberAt (placedTo x) s i ])) (has-here s i)
 
         pub numbered-yes : isRoot p x ≡ true → length at ≡ length sets → (words : List ℕ) → length words ≡ length sets
-            → ((s i : ℕ) → s < length sets → i < 64 → member (getD words s 0) i ≡ marked sets j count at s i)
+            → ((s i : ℕ) → s < length sets → i < mostSearched → member (getD words s 0) i ≡ marked sets j count at s i)
             → NumberedTo p (x + 1) after words (max used (number + 1)) (count + 1)
         numbered-yes e at-long words words-long marks = rw add-one (record {
           cells-are = rw (step-yes x e) given-cells;

@@ -1,4 +1,4 @@
-// Board numbers by first fit over families, and which of the first 64 families contain each location.
+// Board numbers by first fit over families, and which of the first 20 families contain each location.
 mod free;
 mod place;
 
@@ -102,7 +102,7 @@ fn number_locations<'a>(
     counts
 }
 
-// The board number of each pair (q, j), at 64 q + j, and of each location, which of the first 64 families contain it, by their places in the order
+// The board number of each pair (q, j), at 64 q + j, and of each location, which of the first 20 families contain it, by their places in the order
 // of families. How many numbers are used, and how many families there are.
 pub fn allocate<'a>(
     sources: &'a [u16],

@@ -1,4 +1,4 @@
-// Gives families their numbers: in the rows of cells of their locations, and in the words of held numbers. Marks the first 64 there by their places.
+// Gives families their numbers: in the rows of cells of their locations, and in the words of held numbers. Marks the first 20 there by their places.
 ghost use mathlib.Core.Path.{_≡_};
 ghost use mathlib.Core.Bool.{not};
 ghost use Prim.Native.Nat.{ℕ, _+_, _*_, _≤_, _<_, max};
@@ -6,6 +6,7 @@ ghost use lib.ListN.{length, getD};
 ghost use Rattle.lists.specs.Lists.{lowest};
 ghost use Rattle.timer_set.specs.Members.{member};
 ghost use Rattle.model.specs.Family.{Pairs};
+ghost use Rattle.model.specs.Floor.{mostSearched};
 ghost use Rattle.chart_lists.specs.Limits.{mostLocations};
 ghost use Rattle.allocation.specs.Cells.{mostCells};
 ghost use Rattle.allocation.specs.Rows.{heldWords};
@@ -13,6 +14,7 @@ ghost use Rattle.allocation.specs.Rows.{Lengths, WordsAgree, Within, Unn
 ghost use Rattle.allocation.specs.Turns.{NumberedTo, Roots};
 use crate::Allocated;
 use crate::free::lowest_free;
+use smallest_plan::MOST_SEARCHED;
 use timer_set::TimerSet;
 
 fn larger(x: u32, y: u32) -> u32
@@ -56,13 +58,13 @@ fn hold(sets: &[u64], from: usize, end: usize, j: u8, w: usize, x: u8, words: &m
     }
 }
 
-// Marks the family of timer j at its locations as the one of this place in the order of families, where it is one of the first 64.
+// Marks the family of timer j at its locations as the one of this place in the order of families, where it is one of the first 20.
 fn mark(sets: &[u64], from: usize, end: usize, j: u8, place: u32, families_at: &mut [u64])
     requires { ⌜ (length (now sets) ≤ mostLocations) × (length (now «families_at») ≡ length (now sets)) × Within (now sets) j from end ⌝ }
-    ensures { λ _. ⌜ ((s i : ℕ) → s < length (now (sets .entry)) → i < 64
+    ensures { λ _. ⌜ ((s i : ℕ) → s < length (now (sets .entry)) → i < mostSearched
         → member (getD (now («families_at» .exit)) s 0) i ≡ marked (now (sets .entry)) j place (now («families_at» .entry)) s i) ⌝ }
 {
-    if place < 64 {
+    if place < MOST_SEARCHED as u32 {
         hold(sets, from, end, j, 0, place as u8, families_at);
     }
 }

@@ -1,4 +1,4 @@
--- What numbering leaves of a chart: its live sets, the cells of its board numbers and how many of these are used, which of its first 64 families
+-- What numbering leaves of a chart: its live sets, the cells of its board numbers and how many of these are used, which of its first 20 families
 -- contain each location and how many families there are. Assumes nothing.
 use mathlib.Core.Path.{_≡_}
 use mathlib.Core.List.{List}

@@ -50,7 +50,7 @@ pub enum FileNumbered {
 }
 
 // The live set of each location over the front of `live`, the board number of each pair (q, j) at 64 q + j over the front of `cells`, and over the
-// front of `families_at` of each location which of the first 64 families contain it. How many numbers are used, and how many families there are.
+// front of `families_at` of each location which of the first 20 families contain it. How many numbers are used, and how many families there are.
 pub fn number_chart<'a>(
     header: Header,
     sources: &'a [u16],

@@ -1,9 +1,12 @@
--- `mark` meets its contract: a family of the first 64 goes into the word of each of its locations. Assumes nothing.
+-- `mark` meets its contract: a family of the first 20 goes into the word of each of its locations. Assumes nothing.
 use borrow.Author.Needs.{needs}
 use native.Mathlib.Omega.{arith}
 use Rattle.allocation.proofs.FamiliesAt.{marked-past, marked-held}
 use Rattle.allocation.proofs.place.mark.Statement.{statement}
 use Rattle.allocation.proofs.place.mark.Tie as tie
+
+cast-if1 : tie.Need-cast-if1
+cast-if1 c = search needs
 
 cast-hold : tie.Need-cast-hold
 cast-hold c = search needs
@@ -26,4 +29,4 @@ returns-2 c =
     λ s i l k. marked-past (a .sets .now) (a .j) (a .place) (a .families-at .now) s i (omega (arith, c .if1 .left)) k
 
 pub mark-spec : {M : Type 1} → statement M
-mark-spec = tie.close (tie.spec cast-hold hold-requires same-length returns returns-2)
+mark-spec = tie.close (tie.spec cast-if1 cast-hold hold-requires same-length returns returns-2)
