@@ -100,18 +100,23 @@ header-trip =
 -- ---- the body
 
 -- the body without the condition that nothing follows it
-abbrev pub readChart : (W : ℕ) → List ℕ → Parsed Chart
-readChart W bs = bind (readHeader bs) (λ h b₁. bind (readTransitions W (h .locations) (h .timers) (h .count) b₁) (λ rs b₂. value (chartOf h rs) b₂))
+abbrev pub readChart : (version W : ℕ) → List ℕ → Parsed Chart
+readChart version W bs =
+    bind (readHeader bs) (λ h b₁. bind (readTransitions W (h .locations) (h .timers) (h .count) b₁) (λ rs b₂. value (chartOf version h rs) b₂))
+
+-- a chart of that version, valid for constants of W bytes
+abbrev pub ValidOf : (version W : ℕ) → Chart → Type 0
+ValidOf version W c = (c .version ≡ version) × Valid W c
 
 -- the chart's transitions are valid after that header
 abbrev ValidAfter : (W : ℕ) → Chart → FileHeader → Type 0
 ValidAfter W c h = All (ValidTransition W (h .locations) (h .timers)) (c .transitions)
 
-chart-trip : (W : ℕ) → W ≤ 8 → RoundTrip (Valid W) (writeBody W) (readChart W)
+chart-trip : (version W : ℕ) → W ≤ 8 → RoundTrip (ValidOf version W) (writeBody W) (readChart version W)
 unfolding writeBody writeHeader chartOf
-chart-trip W narrow =
+chart-trip version W narrow =
     restated
-    (λ c p. let v = p .1 .0 in record {
+    (λ c p. let v = p .1 .0 in (p .0, record {
       some-location = v .some-location;
       few-locations = v .few-locations;
       initial = v .initial;
@@ -119,9 +124,9 @@ chart-trip W narrow =
       accepting = v .accepting;
       few-transitions = v .few-transitions;
       transitions = p .1 .1 .0;
-    })
-    (λ c v. (
-      tt,
+    }))
+    (λ c p. let v = p .1 in (
+      p .0,
       (
         record {
           some-location = v .some-location;
@@ -135,14 +140,15 @@ chart-trip W narrow =
       ),
     ))
     (λ c. simp append-nil)
-    (field (λ c. Unit {0}) headerOf _ header-trip
+    (field (λ c. c .version ≡ version) headerOf _ header-trip
     (λ h v. field-as _ (λ (c : Chart). c .transitions) (λ c. ValidAfter W c (headerOf c)) _
     (λ c q p. subst (ValidAfter W c) (sym (q .1)) (p .1))
     (λ c q p. (ap (λ (h : FileHeader). h .count) (q .1), subst (ValidAfter W c) (q .1) p))
     (transitions-trip W (h .locations) (h .timers) narrow (v .few-locations) (v .few-timers) (h .count))
-    (λ rs p. end _ (chartOf h rs)
-    ((tt, λ j. record { locations = h .locations; initial = h .initial; timers = h .timers; accepting = h .accepting; count = p .0 j }), refl)
+    (λ rs p. end _ (chartOf version h rs)
+    ((refl, λ j. record { locations = h .locations; initial = h .initial; timers = h .timers; accepting = h .accepting; count = p .0 j }), refl)
     (λ c q j. record {
+      version = q .0 .0 j;
       locations = (q .0 .1 j) .locations;
       initial = (q .0 .1 j) .initial;
       timers = (q .0 .1 j) .timers;
@@ -155,9 +161,10 @@ pub bind-assoc : {A B C : Type 0} (x : Parsed A) (k : A → List ℕ → Parsed 
 bind-assoc (value a t) k g = refl
 bind-assoc (refusal n p) k g = refl
 
-pub body-is : (W : ℕ) (bs : List ℕ) → bind (readChart W bs) (λ c t. guard (isEnd t) 3 nowhere (value c t)) ≡ readBody W bs
+pub body-is : (version W : ℕ) (bs : List ℕ)
+    → bind (readChart version W bs) (λ c t. guard (isEnd t) 3 nowhere (value c t)) ≡ readBody version W bs
 unfolding readBody
-body-is W bs = simp bind-assoc
+body-is version W bs = simp bind-assoc
 
 -- what is read to the end leaves nothing
 ended : (x : Parsed Chart) (c : Chart) (t : List ℕ) → bind x (λ c t. guard (isEnd t) 3 nowhere (value c t)) ≡ value c t → x ≡ value c []
@@ -166,12 +173,14 @@ ended (value d (b ∷ u)) c t e = absurd (value-refused e refl)
 ended (refusal n p) c t e = absurd (value-refused e refl)
 
 module _ (W : ℕ) (narrow : W ≤ 8) where
-  pub body-reads : (c : Chart) → Valid W c → readBody W (writeBody W c) ≡ value c []
+  pub body-reads : (c : Chart) → Valid W c → readBody (c .version) W (writeBody W c) ≡ value c []
   body-reads c v =
-      let e : readChart W (writeBody W c) ≡ value c [] = rw append-nil at (chart-trip W narrow .reads c [] v) in
-      sym (body-is W (writeBody W c)) ∙ rw e
+      let e : readChart (c .version) W (writeBody W c) ≡ value c [] =
+      rw append-nil at (chart-trip (c .version) W narrow .reads c [] (refl, v)) in
+      sym (body-is (c .version) W (writeBody W c)) ∙ rw e
 
-  pub body-written : (bs : List ℕ) (c : Chart) (t : List ℕ) → Bytes bs → readBody W bs ≡ value c t → Valid W c × (bs ≡ writeBody W c)
-  body-written bs c t by e =
-      let i = chart-trip W narrow .written bs c [] by (ended (readChart W bs) c t (body-is W bs ∙ e)) in
+  pub body-written : (version : ℕ) (bs : List ℕ) (c : Chart) (t : List ℕ) → Bytes bs → readBody version W bs ≡ value c t
+      → ValidOf version W c × (bs ≡ writeBody W c)
+  body-written version bs c t by e =
+      let i = chart-trip version W narrow .written bs c [] by (ended (readChart version W bs) c t (body-is version W bs ∙ e)) in
       (i .0, rw append-nil at (i .1))

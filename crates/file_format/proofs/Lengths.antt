@@ -54,9 +54,9 @@ pub length-body : (W : ℕ) (c : Chart) → length (writeBody W c) ≡ bodyLengt
 unfolding writeBody bodyLength
 length-body W c = rw (length-append, length-header, length-all (writeTransition W) (transitionLength W) (length-transition W))
 
-pub length-file : (version W : ℕ) (c : Chart) → length (writeFile version W c) ≡ fileLength W c
+pub length-file : (W : ℕ) (c : Chart) → length (writeFile W c) ≡ fileLength W c
 unfolding writeFile fileLength
-length-file version W c = simp (length-append, length-digits, length-body) (omega arith)
+length-file W c = simp (length-append, length-digits, length-body) (omega arith)
 
 -- ---- at most
 

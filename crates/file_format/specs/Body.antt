@@ -1,5 +1,5 @@
 -- The body of a chart file, its constants in W bytes (document 01, "The chart file"): how it is read, with the refusals 3 to 8 and their
--- places, and how it is written. Assumes nothing.
+-- places, and how it is written. The version is that of the chart; the body does not hold it. Assumes nothing.
 use mathlib.Core.Bool.{Bool, true, false}
 use mathlib.Core.Option.{Option, none, some}
 use mathlib.Core.List.{List, [], _∷_, _++_}
@@ -81,17 +81,24 @@ readHeader bs =
     bind (below 2 513 4 nowhere b₅) (λ count b₆.
     value (record { locations = locations; initial = initial; timers = timers; accepting = accepting; count = count }) b₆)))))))
 
--- the chart of a header and its transitions
-unfoldable pub chartOf : FileHeader → List Transition → Chart
-chartOf h rs = record { locations = h .locations; initial = h .initial; timers = h .timers; accepting = h .accepting; transitions = rs }
+-- the chart of a file of that version, by its header and its transitions
+unfoldable pub chartOf : (version : ℕ) → FileHeader → List Transition → Chart
+chartOf version h rs = record {
+  version = version;
+  locations = h .locations;
+  initial = h .initial;
+  timers = h .timers;
+  accepting = h .accepting;
+  transitions = rs;
+}
 
 -- 3, bytes remain after the last transition
-unfoldable pub readBody : (W : ℕ) → List ℕ → Parsed Chart
-readBody W bs =
+unfoldable pub readBody : (version W : ℕ) → List ℕ → Parsed Chart
+readBody version W bs =
     bind (readHeader bs) (λ h b₁.
     bind (readTransitions W (h .locations) (h .timers) (h .count) b₁) (λ transitions b₂.
     guard (isEnd b₂) 3 nowhere (
-    value (chartOf h transitions) b₂)))
+    value (chartOf version h transitions) b₂)))
 
 -- ---- the same written
 

@@ -1,5 +1,5 @@
--- How many bytes the parts of a chart file have, its constants in W bytes, and the largest file. That what is written has these lengths is shown in
--- proofs/Lengths, that the largest file is that of the chart here in proofs/LargestFile. Assumes nothing.
+-- How many bytes the parts of a chart file have, its constants in W bytes, and the largest files. That what is written has these lengths is shown
+-- in proofs/Lengths, that the largest file of a version is that of the chart here in proofs/LargestFile. Assumes nothing.
 use mathlib.Core.Path.{_≡_}
 use mathlib.Core.List.{List, map}
 use Prim.Native.Nat.{ℕ, _+_, _*_, _≤_}
@@ -24,9 +24,13 @@ bodyLength W c = 9 + 2 * length (c .accepting) + sumOf (map (transitionLength W)
 unfoldable pub fileLength : (W : ℕ) → Chart → ℕ
 fileLength W c = 5 + bodyLength W c
 
--- the bytes of the largest file that the reader accepts
+-- the bytes of the largest file that the reader accepts, one of version 2 (document 02, P2)
 abbrev pub largestFile : ℕ
-largestFile = 54286
+largestFile = 62478
+
+-- the bytes of the largest of version 1 (document 01, "The chart file")
+abbrev pub largestOfVersion1 : ℕ
+largestOfVersion1 = 54286
 
 -- a transition with as much as a chart's limits allow: it starts all 64 timers and has 8 tests
 unfoldable pub fullTransition : Transition
@@ -39,11 +43,18 @@ fullTransition = record {
 }
 
 -- a chart with as much as its limits allow: 256 locations, all accepting, 64 timers, 512 such transitions
-unfoldable pub fullChart : Chart
-fullChart = record { locations = 256; initial = 0; timers = 64; accepting = upTo (λ q. q) 256; transitions = replicate 512 fullTransition }
+unfoldable pub fullChart : (version : ℕ) → Chart
+fullChart version = record {
+  version = version;
+  locations = 256;
+  initial = 0;
+  timers = 64;
+  accepting = upTo (λ q. q) 256;
+  transitions = replicate 512 fullTransition;
+}
 
--- the largest file that the reader accepts has n bytes: none has more, and that of the full chart is accepted and has as many
-pub record LargestFile (n : ℕ) : Type 0 where
-  pub most : (bs : List ℕ) (c : Chart) → Bytes bs → chartIn bs ≡ result c → length bs ≤ n
-  pub reads : chartIn (fileOf fullChart) ≡ result fullChart
-  pub reached : length (fileOf fullChart) ≡ n
+-- the largest file of that version that the reader accepts has n bytes: none has more, and that of the full chart is accepted and has as many
+pub record LargestFile (version n : ℕ) : Type 0 where
+  pub most : (bs : List ℕ) (c : Chart) → Bytes bs → chartIn bs ≡ result c → c .version ≡ version → length bs ≤ n
+  pub reads : chartIn (fileOf (fullChart version)) ≡ result (fullChart version)
+  pub reached : length (fileOf (fullChart version)) ≡ n

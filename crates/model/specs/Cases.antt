@@ -27,9 +27,9 @@ onEvent e r = record { source = r .source; target = r .target; event = e; starts
 unfoldable pub test : ℕ → Comparison → ℕ → Test
 test j x k = record { timer = j; comparison = x; constant = k }
 
--- "location 0 is initial and the last one accepts"
+-- "location 0 is initial and the last one accepts"; of version 1
 unfoldable pub drawn : (locations last timers : ℕ) → List Transition → Chart
-drawn n last m rs = record { locations = n; initial = 0; timers = m; accepting = last ∷ []; transitions = rs }
+drawn n last m rs = record { version = 1; locations = n; initial = 0; timers = m; accepting = last ∷ []; transitions = rs }
 
 -- chart A of the document
 unfoldable pub A : Chart

@@ -23,8 +23,9 @@ pub record Transition : Type 0 where
   pub starts : List ℕ
   pub tests : List Test
 
--- as it is drawn: accepting locations rise, and so do the starts of a transition (`Valid`)
+-- as it is drawn: accepting locations rise, and so do the starts of a transition (`Valid`); with the version of its file
 pub record Chart : Type 0 where
+  pub version : ℕ
   pub locations : ℕ
   pub initial : ℕ
   pub timers : ℕ

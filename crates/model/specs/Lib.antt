@@ -1,5 +1,6 @@
 pub mod Answer
 pub mod Chart
+pub mod Version
 pub mod Valid
 pub mod Run
 pub mod Path

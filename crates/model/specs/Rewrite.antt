@@ -40,9 +40,10 @@ newTransition N r = record {
   tests = newTests N (r .source) (r .tests);
 }
 
--- the chart rewritten by any numbering
+-- the chart rewritten by any numbering; it has the version of the chart drawn
 unfoldable pub rewrittenBy : Numbering → Chart → Chart
 rewrittenBy N c = record {
+  version = c .version;
   locations = c .locations;
   initial = c .initial;
   timers = N .used;

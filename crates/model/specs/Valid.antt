@@ -1,9 +1,12 @@
--- The charts that a file can hold, its constants in W bytes: exactly those that the reader yields and the writer takes (limits: document 01,
--- "The chart"; a version 1 file has W = 2). Assumes nothing.
+-- The charts that a file can hold: exactly those that the reader yields and the writer writes. Its constants have W bytes, as many as its version
+-- gives them (limits: document 01, "The chart"; versions: document 02, P2). Assumes nothing.
+use mathlib.Core.Path.{_≡_}
+use mathlib.Core.Bool.{true}
 use Prim.Native.Nat.{ℕ, _≤_, _<_, _^_}
 use lib.ListN.{length}
 use Rattle.lists.specs.Rising.{Rising, All}
 use Rattle.model.specs.Chart.{Test, Transition, Chart}
+use Rattle.model.specs.Version.{knownVersion, widthOf}
 
 -- the timer is one of the chart's, the constant fits its bytes
 pub record ValidTest (W timers : ℕ) (t : Test) : Type 0 where
@@ -28,3 +31,8 @@ pub record Valid (W : ℕ) (c : Chart) : Type 0 where
   pub accepting : Rising (c .locations) 0 (c .accepting)
   pub few-transitions : length (c .transitions) ≤ 512
   pub transitions : All (ValidTransition W (c .locations) (c .timers)) (c .transitions)
+
+-- a file of the chart's own version can hold it
+pub record Storable (c : Chart) : Type 0 where
+  pub known : knownVersion (c .version) ≡ true
+  pub valid : Valid (widthOf (c .version)) c
