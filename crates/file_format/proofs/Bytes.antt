@@ -7,11 +7,12 @@ use native.Mathlib.Omega.{arith}
 use lib.ListN.{length}
 use Rattle.comparison.specs.Comparison.{codeOf}
 use Rattle.model.specs.Chart.{Test, Transition, Chart}
-use Rattle.model.specs.Valid.{Valid}
+use Rattle.model.specs.Version.{widthOf}
+use Rattle.model.specs.Valid.{Storable}
 use Rattle.file_format.specs.Parse.{digits, writeAll, Bytes}
 use Rattle.file_format.specs.Body.{recordLength, writeTest, writeTransition, writeHeader, writeBody}
 use Rattle.file_format.specs.File.{writeFile, fileOf, ReadFrom}
-use Rattle.file_format.proofs.File.{chart-survives, reads-valid}
+use Rattle.file_format.proofs.File.{chart-survives, reads-storable}
 
 bytes-append : (xs ys : List ℕ) → Bytes xs → Bytes ys → Bytes (xs ++ ys)
 bytes-append [] ys h k = k
@@ -56,16 +57,16 @@ header-bytes c =
     (bytes-append (writeAll (digits 2) (c .accepting)) _ (all-bytes (digits 2) (digits-bytes 2) (c .accepting))
     (digits-bytes 2 (length (c .transitions)))))))
 
-pub file-bytes : (version W : ℕ) (c : Chart) → Bytes (writeFile version W c)
+pub file-bytes : (W : ℕ) (c : Chart) → Bytes (writeFile W c)
 unfolding writeFile writeBody
-file-bytes version W c =
-    after-digits 1 version _
+file-bytes W c =
+    after-digits 1 (c .version) _
     (after-digits 4 (length (writeBody W c)) _
     (bytes-append (writeHeader c) _ (header-bytes c) (all-bytes (writeTransition W) (transition-bytes W) (c .transitions))))
 
-pub valid-iff-read : (c : Chart) → Valid 2 c ↔ ReadFrom c
+pub storable-iff-read : (c : Chart) → Storable c ↔ ReadFrom c
 unfolding fileOf
-valid-iff-read c = (
-  λ v. record { file = fileOf c; bytes = file-bytes 1 2 c; reads = chart-survives c v },
-  λ r. reads-valid (r .file) c (r .bytes) (r .reads),
+storable-iff-read c = (
+  λ s. record { file = fileOf c; bytes = file-bytes (widthOf (c .version)) c; reads = chart-survives c s },
+  λ r. reads-storable (r .file) c (r .bytes) (r .reads),
 )

@@ -1,6 +1,8 @@
 -- Reading and writing a chart file undo one another: what is written for a chart that a file can hold is read as that chart, and a file
--- that is read as a chart is the one that is written for it. Hard: the length in the frame must hold the body's: four bytes do. Assumes nothing.
+-- that is read as a chart is the one that is written for it. Both for any versions and any widths of their constants, then for the versions there
+-- are. Hard: the length in the frame must hold the body's: four bytes do. Assumes nothing.
 use mathlib.Core.Path.{_≡_, refl, sym, ap, _∙_, subst}
+use mathlib.Core.Bool.{Bool, true}
 use mathlib.Core.List.{List, _++_, append-assoc, append-nil}
 use Prim.Native.Nat.{ℕ, _^_, _≤_, _<_}
 use native.Mathlib.Omega.{arith}
@@ -9,10 +11,12 @@ use lib.ListN.{length}
 use Rattle.lists.proofs.Bools.{eqb-self, same-number}
 use Rattle.model.specs.Answer.{result, nowhere}
 use Rattle.model.specs.Chart.{Chart}
-use Rattle.model.specs.Valid.{Valid}
+use Rattle.model.specs.Version.{knownVersion, widthOf}
+use Rattle.model.specs.Valid.{Valid, Storable}
+use Rattle.model.proofs.Versions.{known-most, width-most}
 use Rattle.file_format.specs.Parse.{Parsed, value, refusal, digits, Bytes}
 use Rattle.file_format.specs.Body.{readBody, writeBody}
-use Rattle.file_format.specs.File.{Frame, readFrame, judgeFrame, readFile, writeFile, chartIn, fileOf}
+use Rattle.file_format.specs.File.{Frame, Versioned, readFrame, judgeFrame, readFile, writeFile, chartIn, fileOf}
 use Rattle.file_format.specs.Lengths.{fileLength}
 use Rattle.file_format.proofs.Answers.{result-refused, then-result, unless-result, answered-result}
 use Rattle.file_format.proofs.RoundTrip.{bytes-rest, RoundTrip, restated, field, end}
@@ -38,59 +42,88 @@ frame-trip =
     (λ follow q. end _ (record { version = version; follow = follow }) ((tt, refl), refl)
     (λ f c j. record { version = c .0 .1 j; follow = c .1 j }))))
 
--- a frame that lets the body be read: its length is that of the body, its version the reader's
-judged-frame : (version : ℕ) (x : Parsed Frame) {body : List ℕ} → judgeFrame version x ≡ result body
-    → (f : Frame) × (x ≡ value f body) × (f .follow ≡ length body) × (f .version ≡ version)
-unfolding judgeFrame
-judged-frame version (refusal n p) e = absurd (result-refused e refl)
-judged-frame version (value f b) {body} e =
-    let g = unless-result (eqb (f .follow) (length b)) 1 nowhere _ e in
-    let g′ = unless-result (eqb (f .version) version) 2 nowhere (result b) (g .1) in
-    let q : b ≡ body = cc in
-    (f, ap (value f) q, same-number (g .0) ∙ ap length q, same-number (g′ .0))
+-- what a frame says that lets the body be read
+record FrameReads (known : ℕ → Bool) (x : Parsed Frame) (b : Versioned) : Type 0 where
+  pub frame : Frame
+  pub reads : x ≡ value frame (b .body)
+  pub follow : frame .follow ≡ length (b .body)
+  pub version : frame .version ≡ b .version
+  pub is-known : known (b .version) ≡ true
 
--- ---- the file, for any version byte and constants of W bytes
+judged-frame : (known : ℕ → Bool) (x : Parsed Frame) {b : Versioned} → judgeFrame known x ≡ result b → FrameReads known x b
+unfolding judgeFrame
+judged-frame known (refusal n p) e = absurd (result-refused e refl)
+judged-frame known (value f body) {b} e =
+    let g = unless-result (eqb (f .follow) (length body)) 1 nowhere _ e in
+    let g′ = unless-result (known (f .version)) 2 nowhere _ (g .1) in
+    let q : record { version = f .version; body = body } ≡ b = cc in
+    let v : f .version ≡ b .version = ap (λ (b : Versioned). b .version) q in
+    let s : body ≡ b .body = ap (λ (b : Versioned). b .body) q in
+    record { frame = f; reads = ap (value f) s; follow = same-number (g .0) ∙ ap length s; version = v; is-known = rw (← v) (g′ .0) }
+
+-- ---- the file, for any versions and widths
 
 body-fits : (W : ℕ) → W ≤ 8 → (c : Chart) → Valid W c → length (writeBody W c) < 256 ^ 4
 unfolding fileLength
 body-fits W narrow c v = omega (arith, length-body W c, file-most W c v)
 
-pub read-written : (version W : ℕ) → version < 256 → W ≤ 8 → (c : Chart) → Valid W c → readFile version W (writeFile version W c) ≡ result c
-unfolding readFile writeFile judgeFrame
-read-written version W h narrow c v =
-    let frame : Frame = record { version = version; follow = length (writeBody W c) } in
-    let e : readFrame (digits 1 version ++ (digits 4 (length (writeBody W c)) ++ writeBody W c)) ≡ value frame (writeBody W c) =
-    rw append-assoc at (frame-trip .reads frame (writeBody W c) (record { version = h; follow = body-fits W narrow c v })) in
-    rw (e, eqb-self (length (writeBody W c)), eqb-self version, body-reads W narrow c v)
+module _ (known : ℕ → Bool) (width : ℕ → ℕ) where
+  pub read-written : (c : Chart) → known (c .version) ≡ true → c .version < 256 → width (c .version) ≤ 8 → Valid (width (c .version)) c
+      → readFile known width (writeFile (width (c .version)) c) ≡ result c
+  unfolding readFile writeFile judgeFrame
+  read-written c k h narrow v =
+      let W = width (c .version) in
+      let frame : Frame = record { version = c .version; follow = length (writeBody W c) } in
+      let e : readFrame (digits 1 (c .version) ++ (digits 4 (length (writeBody W c)) ++ writeBody W c)) ≡ value frame (writeBody W c) =
+      rw append-assoc at (frame-trip .reads frame (writeBody W c) (record { version = h; follow = body-fits W narrow c v })) in
+      rw (e, eqb-self (length (writeBody W c)), k, body-reads W narrow c v)
 
-pub written-read : (version W : ℕ) → W ≤ 8 → (bs : List ℕ) (c : Chart) → Bytes bs → readFile version W bs ≡ result c
-    → Valid W c × (bs ≡ writeFile version W c)
-unfolding readFile writeFile
-written-read version W narrow bs c by e =
-    let i = then-result (judgeFrame version (readFrame bs)) _ e in
-    let f = judged-frame version (readFrame bs) (i .1) in
-    let j = frame-trip .written bs (f .0) (i .0) by (f .1) in
-    let b = answered-result (readBody W (i .0)) (i .2) in
-    let k = body-written W narrow (i .0) c (b .0) (bytes-rest (writeFrame (f .0)) (i .0) (subst Bytes (j .1) by)) (b .1) in
-    (k .0, joined (f .0) (i .0) (f .2) (f .3) (j .1) (k .1))
-  where
-    joined : (f : Frame) (body : List ℕ) → f .follow ≡ length body → f .version ≡ version → bs ≡ writeFrame f ++ body → body ≡ writeBody W c
-        → bs ≡ digits 1 version ++ (digits 4 (length (writeBody W c)) ++ writeBody W c)
-    joined f body l v e q = rw (← q, ← l, ← v, ← append-assoc) e
+  -- what a file is that is read as a chart
+  pub record ReadAs (bs : List ℕ) (c : Chart) : Type 0 where
+    pub is-known : known (c .version) ≡ true
+    pub valid : Valid (width (c .version)) c
+    pub written : bs ≡ writeFile (width (c .version)) c
 
--- ---- version 1
+  pub written-read : ((version : ℕ) → width version ≤ 8) → (bs : List ℕ) (c : Chart) → Bytes bs → readFile known width bs ≡ result c → ReadAs bs c
+  unfolding readFile writeFile
+  written-read narrow bs c by e =
+      let i = then-result (judgeFrame known (readFrame bs)) _ e in
+      let b = i .0 in
+      let W = width (b .version) in
+      let f = judged-frame known (readFrame bs) (i .1) in
+      let j = frame-trip .written bs (f .frame) (b .body) by (f .reads) in
+      let r = answered-result (readBody (b .version) W (b .body)) (i .2) in
+      let rest = bytes-rest (writeFrame (f .frame)) (b .body) (subst Bytes (j .1) by) in
+      let k = body-written W (narrow (b .version)) (b .version) (b .body) c (r .0) rest (r .1) in
+      let v : c .version ≡ b .version = k .0 .0 in
+      record {
+        is-known = ap known v ∙ f .is-known;
+        valid = subst (λ x. Valid (width x) c) (sym v) (k .0 .1);
+        written = subst (λ x. bs ≡ writeFile (width x) c) (sym v) (joined (f .frame) (b .body) W (f .follow) (f .version ∙ sym v) (j .1) (k .1));
+      }
+    where
+      joined : (f : Frame) (body : List ℕ) (W : ℕ) → f .follow ≡ length body → f .version ≡ c .version → bs ≡ writeFrame f ++ body
+          → body ≡ writeBody W c → bs ≡ digits 1 (c .version) ++ (digits 4 (length (writeBody W c)) ++ writeBody W c)
+      joined f body W l v e q = rw (← q, ← l, ← v, ← append-assoc) e
+
+-- ---- the versions there are
 
 -- what is written for a chart that a file can hold is read as that chart
-pub chart-survives : (c : Chart) → Valid 2 c → chartIn (fileOf c) ≡ result c
+pub chart-survives : (c : Chart) → Storable c → chartIn (fileOf c) ≡ result c
 unfolding chartIn fileOf
-chart-survives c v = read-written 1 2 (omega arith) (omega arith) c v
+chart-survives c s =
+    read-written knownVersion widthOf c (s .known)
+    (omega (arith, known-most (c .version) (s .known))) (omega (arith, width-most (c .version))) (s .valid)
 
 module _ (bs : List ℕ) (c : Chart) (by : Bytes bs) (e : chartIn bs ≡ result c) where
+  read-as : ReadAs knownVersion widthOf bs c
+  unfolding chartIn
+  read-as = written-read knownVersion widthOf (λ v. omega (arith, width-most v)) bs c by e
+
   -- a file that is read as a chart is the one that is written for it, byte for byte
   pub file-survives : fileOf c ≡ bs
-  unfolding chartIn fileOf
-  file-survives = sym (written-read 1 2 (omega arith) bs c by e .1)
+  unfolding fileOf
+  file-survives = sym (read-as .written)
 
-  pub reads-valid : Valid 2 c
-  unfolding chartIn
-  reads-valid = written-read 1 2 (omega arith) bs c by e .0
+  pub reads-storable : Storable c
+  reads-storable = record { known = read-as .is-known; valid = read-as .valid }

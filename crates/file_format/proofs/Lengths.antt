@@ -10,7 +10,9 @@ use lib.ListN.{length, length-append}
 use Rattle.lists.specs.Lists.{sumOf}
 use Rattle.lists.proofs.Sums.{sum-same, sum-most}
 use Rattle.model.specs.Chart.{Test, Transition, Chart}
-use Rattle.model.specs.Valid.{ValidTransition, Valid}
+use Rattle.model.specs.Version.{widthOf}
+use Rattle.model.specs.Valid.{ValidTransition, Valid, Storable}
+use Rattle.model.proofs.Versions.{width-most}
 use Rattle.file_format.specs.Parse.{digits, writeAll}
 use Rattle.file_format.specs.Body.{recordLength, writeTest, writeTransition, writeHeader, writeBody}
 use Rattle.file_format.specs.File.{writeFile, fileOf}
@@ -75,6 +77,8 @@ file-most W c v =
     let m : (73 + (2 + W) * 8) * length (c .transitions) ≤ (73 + (2 + W) * 8) * 512 = mul-le-mul (le-refl _) (v .few-transitions) in
     omega (arith, few, sum-most (transitionLength W) (73 + (2 + W) * 8) _ each (c .transitions) (v .transitions))
 
-pub largest-file : (c : Chart) → Valid 2 c → length (fileOf c) ≤ largestFile
+pub largest-file : (c : Chart) → Storable c → length (fileOf c) ≤ largestFile
 unfolding fileOf
-largest-file c v = omega (arith, length-file 1 2 c, file-most 2 c v)
+largest-file c s =
+    let W = widthOf (c .version) in
+    omega (arith, length-file W c, file-most W c (s .valid), width-most (c .version))

@@ -15,6 +15,7 @@ use Rattle.comparison.specs.declared.Comparison.{Comparison}
 use Rattle.comparison.specs.Comparison.{comparisonOf}
 use Rattle.model.specs.Answer.{Answer, result, refused, then, unless, nowhere}
 use Rattle.model.specs.Chart.{Test, Transition}
+use Rattle.model.specs.Version.{knownVersion, widthOf}
 use Rattle.file_format.specs.Parse.{Parsed, value, refusal, bind, guard, byte, number, below, many, entry, rising}
 use Rattle.file_format.specs.Body.{FileHeader, readHeader, chartOf, isEnd, readBody}
 use Rattle.file_format.specs.Body.{known, readComparison, readTest, readTests, recordLength, readTransition, readTransitions}
@@ -140,47 +141,48 @@ header-refuses bs =
     (λ accepting b₅ u₅. at-bind (below 2 513 4 nowhere b₅) (at-below nowhere (inl refl) 2 513 4 (omega arith) (omega arith) b₅)
     (λ count b₆ u₆. found _ b₆ u₆)))))))
 
-body-refuses : (W : ℕ) (bs : List ℕ) → Reads Some (readBody W bs)
+body-refuses : (version W : ℕ) (bs : List ℕ) → Reads Some (readBody version W bs)
 unfolding readBody readTransitions
-body-refuses W bs =
+body-refuses version W bs =
     at-bind (readHeader bs) (header-refuses bs)
     (λ h b₁ u₁. at-bind (readTransitions W (h .locations) (h .timers) (h .count) b₁)
     (at-many (λ (i : ℕ) (r : Transition). suc i) (readTransition W (h .locations) (h .timers)) (λ i n. i + n ≤ 512)
     (λ i n bs l. transition-refuses i (omega arith) W (h .locations) (h .timers) bs) (λ i n r l. omega arith) 0 (h .count) b₁ (omega arith))
-    (λ rs b₂ u₂. at-guard (isEnd b₂) cut (λ c. found (chartOf h rs) b₂ tt)))
+    (λ rs b₂ u₂. at-guard (isEnd b₂) cut (λ c. found (chartOf version h rs) b₂ tt)))
 
-pub refusals-of-readBody : (W : ℕ) (bs : List ℕ) (n p : ℕ) → readBody W bs ≡ refusal n p → RefusalOfBody n p
-refusals-of-readBody W bs n p e = body-refuses W bs .refuses n p e
+pub refusals-of-readBody : (version W : ℕ) (bs : List ℕ) (n p : ℕ) → readBody version W bs ≡ refusal n p → RefusalOfBody n p
+refusals-of-readBody version W bs n p e = body-refuses version W bs .refuses n p e
 
 -- ---- the file
 
 -- 1 and 2 come before the body and have no place
-module _ (version W n p : ℕ) where
+module _ (known : ℕ → Bool) (width : ℕ → ℕ) (n p : ℕ) where
   before-body : {A : Type 0} (m : ℕ) → 1 ≤ m → m ≤ 2 → _≡_ {A = Answer A} (refused m nowhere) (refused n p) → RefusalOfFile n p
   before-body m h l e = let f : n ≡ m = cc in record { first-number = omega arith; last-number = omega arith; place = inl (cc) }
 
   -- 1, 2, or what the rest refuses
-  at-unless : {A : Type 0} (c : Bool) (m : ℕ) → 1 ≤ m → m ≤ 2 → (x : Answer (List ℕ)) (k : List ℕ → Answer A)
+  at-unless : {A B : Type 0} (c : Bool) (m : ℕ) → 1 ≤ m → m ≤ 2 → (x : Answer A) (k : A → Answer B)
       → (then x k ≡ refused n p → RefusalOfFile n p) → then (unless c m nowhere x) k ≡ refused n p → RefusalOfFile n p
   at-unless true m h l x k rest e = rest e
   at-unless false m h l x k rest e = before-body m h l e
 
-  in-body : (body : List ℕ) → answered (readBody W body) ≡ refused n p → RefusalOfFile n p
-  in-body body e =
-      let r = refusals-of-readBody W body n p (answered-refused (readBody W body) e) in
+  in-body : (version W : ℕ) (body : List ℕ) → answered (readBody version W body) ≡ refused n p → RefusalOfFile n p
+  in-body version W body e =
+      let r = refusals-of-readBody version W body n p (answered-refused (readBody version W body) e) in
       record { first-number = omega (arith, r .first-number); last-number = r .last-number; place = r .place }
 
-  at-frame : (x : Parsed Frame) → then (judgeFrame version x) (λ body. answered (readBody W body)) ≡ refused n p → RefusalOfFile n p
+  at-frame : (x : Parsed Frame)
+      → then (judgeFrame known x) (λ b. answered (readBody (b .version) (width (b .version)) (b .body))) ≡ refused n p → RefusalOfFile n p
   unfolding judgeFrame
   at-frame (refusal m q) e = before-body 1 (omega arith) (omega arith) e
   at-frame (value f body) e =
       at-unless (eqb (f .follow) (length body)) 1 (omega arith) (omega arith) _ _
-      (at-unless (eqb (f .version) version) 2 (omega arith) (omega arith) (result body) _ (in-body body)) e
+      (at-unless (known (f .version)) 2 (omega arith) (omega arith) _ _ (in-body (f .version) (width (f .version)) body)) e
 
-pub refusals-of-readFile : (version W : ℕ) (bs : List ℕ) (n p : ℕ) → readFile version W bs ≡ refused n p → RefusalOfFile n p
-unfolding readFile
-refusals-of-readFile version W bs n p e = at-frame version W n p (readFrame bs) e
+  pub refusals-of-readFile : (bs : List ℕ) → readFile known width bs ≡ refused n p → RefusalOfFile n p
+  unfolding readFile
+  refusals-of-readFile bs e = at-frame (readFrame bs) e
 
 pub refusals-of-chartIn : (bs : List ℕ) (n p : ℕ) → chartIn bs ≡ refused n p → RefusalOfFile n p
 unfolding chartIn
-refusals-of-chartIn bs n p e = refusals-of-readFile 1 2 bs n p e
+refusals-of-chartIn bs n p e = refusals-of-readFile knownVersion widthOf n p bs e

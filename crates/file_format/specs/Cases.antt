@@ -1,6 +1,6 @@
--- Files with what document 01 makes of them ("The chart file"). The bytes of charts A and B, which have every code of a comparison. And files that
--- fail in two ways, or whose place or order is easily mistaken, each with its refusal: the first field that fails ends the reading, a record's
--- length is judged at its g, leftover bytes at the end, and of one field's refusals the lower number counts.
+-- Files with what documents 01 ("The chart file") and 02 (P2) make of them. The bytes of charts A and B, which have every code of a comparison, and
+-- of B as version 2. And files that fail in two ways, or whose place or order is easily mistaken, each with its refusal: the first field that fails
+-- ends the reading, a record's length is judged at its g, leftover bytes at the end, and of one field's refusals the lower number counts.
 -- That reading gives these charts and these refusals is shown in proofs/Cases. Assumes nothing.
 use mathlib.Core.List.{List, [], _∷_, _++_}
 use Prim.Native.Nat.{ℕ}
@@ -23,6 +23,13 @@ bytesOfB =
     ∷ 0 ∷ 0 ∷ 0 ∷ 12 ∷ 0 ∷ 1 ∷ 0 ∷ 2 ∷ 0 ∷ 1 ∷ 1 ∷ 1 ∷ 0 ∷ 0 ∷ 0 ∷ 2 ∷ 0 ∷ 11 ∷ 0 ∷ 2 ∷ 0 ∷ 3 ∷ 0 ∷ 0
     ∷ 1 ∷ 1 ∷ 2 ∷ 0 ∷ 1 ∷ []
 
+-- the file of chart B as version 2: its two constants have four bytes each
+unfoldable pub bytesOfB2 : List ℕ
+bytesOfB2 =
+    2 ∷ 0 ∷ 0 ∷ 0 ∷ 52 ∷ 0 ∷ 4 ∷ 0 ∷ 0 ∷ 2 ∷ 0 ∷ 1 ∷ 0 ∷ 3 ∷ 0 ∷ 3 ∷ 0 ∷ 8 ∷ 0 ∷ 0 ∷ 0 ∷ 1 ∷ 0 ∷ 1
+    ∷ 0 ∷ 0 ∷ 0 ∷ 14 ∷ 0 ∷ 1 ∷ 0 ∷ 2 ∷ 0 ∷ 1 ∷ 1 ∷ 1 ∷ 0 ∷ 0 ∷ 0 ∷ 0 ∷ 0 ∷ 2 ∷ 0 ∷ 13 ∷ 0 ∷ 2 ∷ 0 ∷ 3
+    ∷ 0 ∷ 0 ∷ 1 ∷ 1 ∷ 2 ∷ 0 ∷ 0 ∷ 0 ∷ 1 ∷ []
+
 -- a file with its refusal
 pub record FileCase : Type 0 where
   pub file : List ℕ
@@ -34,8 +41,12 @@ unfoldable pub framed : (version : ℕ) → (body : List ℕ) → List ℕ
 framed version body = version ∷ 0 ∷ 0 ∷ 0 ∷ length body ∷ body
 
 -- one location, one timer, no accepting location, so many transitions
+unfoldable pub oneLocationOf : (version count : ℕ) → (records : List ℕ) → List ℕ
+oneLocationOf version count records = framed version (0 ∷ 1 ∷ 0 ∷ 0 ∷ 1 ∷ 0 ∷ 0 ∷ 0 ∷ count ∷ records)
+
+-- of version 1
 unfoldable pub oneLocation : (count : ℕ) → (records : List ℕ) → List ℕ
-oneLocation count records = framed 1 (0 ∷ 1 ∷ 0 ∷ 0 ∷ 1 ∷ 0 ∷ 0 ∷ 0 ∷ count ∷ records)
+oneLocation count records = oneLocationOf 1 count records
 
 -- a record up to its count of starts: of that length, from that source to that target, on event 0
 unfoldable pub recordToS : (len source target s : ℕ) → List ℕ
@@ -53,11 +64,15 @@ fileCase file number place = record { file = file; number = number; place = plac
 unfoldable pub fileCases : List FileCase
 fileCases =
     -- fewer than 5 bytes, a wrong version
-    fileCase (2 ∷ []) 1 nowhere
+    fileCase (3 ∷ []) 1 nowhere
     -- a wrong length, a wrong version
-    ∷ fileCase (2 ∷ 0 ∷ 0 ∷ 0 ∷ 1 ∷ []) 1 nowhere
+    ∷ fileCase (3 ∷ 0 ∷ 0 ∷ 0 ∷ 1 ∷ []) 1 nowhere
     -- a wrong version, no locations
-    ∷ fileCase (framed 2 (0 ∷ 0 ∷ [])) 2 nowhere
+    ∷ fileCase (framed 3 (0 ∷ 0 ∷ [])) 2 nowhere
+    -- version 0, no locations
+    ∷ fileCase (framed 0 (0 ∷ 0 ∷ [])) 2 nowhere
+    -- version 2, no locations
+    ∷ fileCase (framed 2 (0 ∷ 0 ∷ [])) 4 nowhere
     -- no locations, a bad initial location
     ∷ fileCase (framed 1 (0 ∷ 0 ∷ 0 ∷ 0 ∷ [])) 4 nowhere
     -- 257 locations, a bad initial location
@@ -104,6 +119,18 @@ fileCases =
     ∷ fileCase (oneLocation 1 (recordToG 42 0 9)) 3 nowhere
     -- a wrong length of the record, a bad timer
     ∷ fileCase (oneLocation 1 (recordToG 12 0 1 ++ (1 ∷ 0 ∷ 0 ∷ 0 ∷ []))) 3 nowhere
+    -- version 2, the length that version 1 has for a test of a bad timer
+    ∷ fileCase (oneLocationOf 2 1 (recordToG 11 0 1 ++ (1 ∷ 0 ∷ 0 ∷ 0 ∷ []))) 3 nowhere
+    -- version 1, the length that version 2 has for it
+    ∷ fileCase (oneLocation 1 (recordToG 13 0 1 ++ (1 ∷ 0 ∷ 0 ∷ 0 ∷ 0 ∷ 0 ∷ []))) 3 nowhere
+    -- version 2, a wrong length of the record, 9 tests
+    ∷ fileCase (oneLocationOf 2 1 (recordToG 43 0 9)) 3 nowhere
+    -- version 2, 9 tests, the file ends before the first
+    ∷ fileCase (oneLocationOf 2 1 (recordToG 61 0 9)) 4 0
+    -- version 2, the file ends inside the constant
+    ∷ fileCase (oneLocationOf 2 1 (recordToG 13 0 1 ++ (0 ∷ 0 ∷ 0 ∷ 0 ∷ 0 ∷ []))) 3 nowhere
+    -- version 2, a bad timer, a code over 4
+    ∷ fileCase (oneLocationOf 2 1 (recordToG 13 0 1 ++ (1 ∷ 5 ∷ 0 ∷ 0 ∷ 0 ∷ 0 ∷ []))) 6 0
     -- 9 tests, the file ends before the first
     ∷ fileCase (oneLocation 1 (recordToG 43 0 9)) 4 0
     -- 9 tests, the first of a bad timer

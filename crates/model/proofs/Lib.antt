@@ -31,6 +31,7 @@ pub mod Agree
 pub mod EqualRuns
 pub mod RewrittenPaths
 pub mod RewrittenValid
+pub mod Versions
 pub mod PlayerNumbers
 pub mod PlayerLaws
 pub mod PlayerAnswer

@@ -1,8 +1,9 @@
--- The versions of a chart file and the bytes that a constant has in each (document 02, P2). Assumes nothing.
+-- The versions of a chart file, the bytes that a constant has in each, and which charts version 1 does not hold (document 02, P2). Assumes nothing.
 use mathlib.Core.Bool.{Bool, true, false, _&&_}
 use Prim.Native.Nat.{ℕ}
-use lib.Dec.{leb, eqb}
-use Rattle.model.specs.Chart.{Chart}
+use lib.Dec.{leb, ltb, eqb}
+use Rattle.lists.specs.Lists.{anyOf}
+use Rattle.model.specs.Chart.{Test, Transition, Chart}
 
 -- the versions that there are, 1 and 2: those that 2 spares
 unfoldable pub knownVersion : (version : ℕ) → Bool
@@ -12,7 +13,7 @@ knownVersion version = leb 1 version && leb version 2
 unfoldable pub widthOf : (version : ℕ) → ℕ
 widthOf version = elim (eqb version 1) [ true ↦ 2 | false ↦ 4 ]
 
--- the same chart in a file of that version
+-- the same chart as one of that version
 unfoldable pub inVersion : (version : ℕ) → Chart → Chart
 inVersion version c = record {
   version = version;
@@ -22,3 +23,15 @@ inVersion version c = record {
   accepting = c .accepting;
   transitions = c .transitions;
 }
+
+-- a constant over 65,535
+unfoldable pub isLarge : Test → Bool
+isLarge t = ltb 65535 (t .constant)
+
+-- some test has one
+unfoldable pub largeConstant : Chart → Bool
+largeConstant c = anyOf (λ (r : Transition). anyOf isLarge (r .tests)) (c .transitions)
+
+-- 17: such a chart is to be written as version 1
+unfoldable pub largeInVersion1 : Chart → Bool
+largeInVersion1 c = eqb (c .version) 1 && largeConstant c
