@@ -5,6 +5,7 @@ use Rattle.chart_lists.specs.declared.Header.{Header}
 
 unfoldable pub headerOf : Chart → Header
 headerOf c = record {
+  version = c .version;
   locations = c .locations;
   initial = c .initial;
   timers = c .timers;

@@ -1,8 +1,9 @@
 // How a chart is handed over in lent lists (docs/LISTS.md): its header in one struct by value, the rest in nine lists.
 use refusal::Refusal;
 
-// The numbers of locations, of timers, of accepting locations and of transitions, and the initial location.
+// The version of its file, the numbers of locations, of timers, of accepting locations and of transitions, and the initial location.
 pub struct Header {
+    pub version: u8,
     pub locations: u16,
     pub initial: u16,
     pub timers: u8,

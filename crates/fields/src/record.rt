@@ -2,6 +2,7 @@
 ghost use mathlib.Core.Path.{_≡_};
 ghost use Prim.Native.Nat.{_≤_};
 ghost use lib.ListN.{drop};
+ghost use Rattle.model.specs.Version.{widthOf};
 ghost use Rattle.fields.specs.Parts.{readEnds, readStarts, readTestCount, readHead};
 ghost use Rattle.fields.specs.Meaning.{fieldAs, endsAs, headAs, endsRefusal, headRefusal};
 use crate::Field;
@@ -85,15 +86,16 @@ fn ends_at(s: &[u8], at: usize, locations: u16, place: u64) -> EndsField
 }
 
 // The number of a record's tests, at most 8, where the record's length is that of n started timers and so many tests.
-fn test_count_at(s: &[u8], at: usize, length: u16, n: u64, place: u64) -> Field
+fn test_count_at(s: &[u8], at: usize, version: u8, length: u16, n: u64, place: u64) -> Field
     requires { ⌜ n ≤ 64 ⌝ }
-    ensures { λ r. ⌜ fieldAs (now (s .entry)) r ≡ readTestCount 2 length n place (drop at (now (s .entry))) ⌝ }
+    ensures { λ r. ⌜ fieldAs (now (s .entry)) r ≡ readTestCount (widthOf version) length n place (drop at (now (s .entry))) ⌝ }
 {
     let a = byte_at(s, at);
     let Field::Value(g, _) = a else {
         return a;
     };
-    if length as u64 != 7 + n + 4 * g {
+    let width = file_format::width_of(version);
+    if length as u64 != 7 + n + (2 + width) * g {
         return Field::Refused(refusal::CUT_OFF);
     }
     if g > 8 {
@@ -134,9 +136,16 @@ pub fn head_refusal(a: HeadField) -> Refusal
     }
 }
 
-pub fn head_at(s: &[u8], at: usize, locations: u16, timers: u8, place: u64) -> HeadField
+pub fn head_at(
+    s: &[u8],
+    at: usize,
+    version: u8,
+    locations: u16,
+    timers: u8,
+    place: u64,
+) -> HeadField
     requires { ⌜ timers ≤ 64 ⌝ }
-    ensures { λ r. ⌜ headAs (now (s .entry)) r ≡ readHead 2 locations timers place (drop at (now (s .entry))) ⌝ }
+    ensures { λ r. ⌜ headAs (now (s .entry)) r ≡ readHead (widthOf version) locations timers place (drop at (now (s .entry))) ⌝ }
 {
     let a = ends_at(s, at, locations, place);
     let EndsField::Found(length, source, target, event, at1) = a else {
@@ -150,7 +159,7 @@ pub fn head_at(s: &[u8], at: usize, locations: u16, timers: u8, place: u64) -> H
     let Field::Value(starts, at3) = d else {
         return HeadField::Refused(refusal_of(d));
     };
-    let e = test_count_at(s, at3, length, n, place);
+    let e = test_count_at(s, at3, version, length, n, place);
     let Field::Value(g, next) = e else {
         return HeadField::Refused(refusal_of(e));
     };

@@ -1,12 +1,14 @@
 // One test of a transition's record.
 ghost use mathlib.Core.Path.{_≡_};
 ghost use lib.ListN.{drop};
+ghost use Rattle.model.specs.Version.{widthOf};
 ghost use Rattle.file_format.specs.Body.{readTest};
-ghost use Rattle.fields.specs.Meaning.{testAs, testRefusal};
+ghost use Rattle.fields.specs.Meaning.{NumberAt, testAs, testRefusal};
 use crate::Field;
 use crate::byte_at;
 use crate::byte_below;
 use crate::pair_at;
+use crate::quad_at;
 use crate::refusal_of;
 use comparison::Comparison;
 use comparison::Decoded;
@@ -17,7 +19,7 @@ pub enum TestField {
     Found {
         timer: u8,
         comparison: Comparison,
-        constant: u16,
+        constant: u32,
         next: usize,
     },
     Refused(Refusal),
@@ -40,8 +42,19 @@ pub fn test_refusal(a: TestField) -> Refusal
     }
 }
 
-pub fn test_at(s: &[u8], at: usize, timers: u8, place: u64) -> TestField
-    ensures { λ r. ⌜ testAs (now (s .entry)) r ≡ readTest 2 timers place (drop at (now (s .entry))) ⌝ }
+// A constant, in as many bytes as the version gives it.
+fn constant_at(s: &[u8], at: usize, version: u8) -> Field
+    ensures { λ r. ⌜ NumberAt (widthOf version) (now (s .entry)) at r ⌝ }
+{
+    if file_format::width_of(version) == 2 {
+        pair_at(s, at)
+    } else {
+        quad_at(s, at)
+    }
+}
+
+pub fn test_at(s: &[u8], at: usize, version: u8, timers: u8, place: u64) -> TestField
+    ensures { λ r. ⌜ testAs (now (s .entry)) r ≡ readTest (widthOf version) timers place (drop at (now (s .entry))) ⌝ }
 {
     let a = byte_below(s, at, timers as u64, 6, place);
     let Field::Value(timer, at1) = a else {
@@ -55,14 +68,14 @@ pub fn test_at(s: &[u8], at: usize, timers: u8, place: u64) -> TestField
     let Decoded::Known(comparison) = d else {
         return TestField::Refused(Refusal { number: 8, place });
     };
-    let e = pair_at(s, at2);
+    let e = constant_at(s, at2, version);
     let Field::Value(constant, next) = e else {
         return TestField::Refused(refusal_of(e));
     };
     TestField::Found {
         timer: timer as u8,
         comparison,
-        constant: constant as u16,
+        constant: constant as u32,
         next,
     }
 }

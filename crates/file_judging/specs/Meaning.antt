@@ -11,7 +11,7 @@ use Rattle.chart_lists.specs.declared.Header.{Header}
 use Rattle.chart_lists.specs.Header.{headerOf}
 use Rattle.chart_lists.specs.Lists.{allTests}
 use Rattle.file_format.specs.Parse.{Parsed, value}
-use Rattle.file_format.specs.File.{chartIn}
+use Rattle.file_format.specs.File.{Versioned, chartIn}
 use Rattle.fields.specs.declared.Field.{Field}
 use Rattle.fields.specs.declared.Field.the-variants as field
 use Rattle.fields.specs.Meaning.{refusalAs}
@@ -23,9 +23,9 @@ use Rattle.file_judging.specs.declared.JudgedFile.{JudgedFile}
 use Rattle.file_judging.specs.declared.JudgedFile.the-variants as file
 use Rattle.file_judging.specs.Parts.{Limits}
 
--- the body of the file, from the next place on
-abbrev pub frameAs : List ℕ → Field → Answer (List ℕ)
-frameAs s (field.Value x next) = result (drop next s)
+-- the version, and the body of the file from the next place on
+abbrev pub frameAs : List ℕ → Field → Answer Versioned
+frameAs s (field.Value version next) = result (record { version = version; body = drop next s })
 frameAs s (field.Refused f) = refusedAs f
 
 abbrev pub limitsAs : List ℕ → LimitsField → Parsed Limits

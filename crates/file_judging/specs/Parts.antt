@@ -32,14 +32,21 @@ unfoldable pub skipAccepting : (locations n : ℕ) → List ℕ → Parsed ℕ
 skipAccepting locations n bs = bind (rising 2 locations 5 nowhere n bs) (λ xs t. value (length xs) t)
 
 -- the number of transitions, with the numbers before it
-unfoldable pub readCount : (locations initial timers accepting : ℕ) → List ℕ → Parsed Header
-readCount locations initial timers accepting bs =
-    bind (below 2 513 4 nowhere bs) (λ count t.
-    value (record { locations = locations; initial = initial; timers = timers; accepting = accepting; transitions = count }) t)
+unfoldable pub readCount : (version locations initial timers accepting : ℕ) → List ℕ → Parsed Header
+readCount version locations initial timers accepting bs =
+    bind (below 2 513 4 nowhere bs) (λ count t. value (record {
+      version = version;
+      locations = locations;
+      initial = initial;
+      timers = timers;
+      accepting = accepting;
+      transitions = count;
+    }) t)
 
 -- a file's header as that of its chart
-unfoldable pub chartHeader : FileHeader → Header
-chartHeader h = record {
+unfoldable pub chartHeader : (version : ℕ) → FileHeader → Header
+chartHeader version h = record {
+  version = version;
   locations = h .locations;
   initial = h .initial;
   timers = h .timers;
@@ -48,8 +55,8 @@ chartHeader h = record {
 }
 
 -- the whole header, its accepting locations skipped
-unfoldable pub skipHeader : List ℕ → Parsed Header
-skipHeader bs = bind (readHeader bs) (λ h t. value (chartHeader h) t)
+unfoldable pub skipHeader : (version : ℕ) → List ℕ → Parsed Header
+skipHeader version bs = bind (readHeader bs) (λ h t. value (chartHeader version h) t)
 
 -- ---- the transitions
 

@@ -126,18 +126,21 @@ pub fn header_refusal(a: HeaderField) -> Refusal
 pub fn count_at(
     s: &[u8],
     at: usize,
+    version: u8,
     locations: u16,
     initial: u16,
     timers: u8,
     accepting: u16,
 ) -> HeaderField
-    ensures { λ r. ⌜ headerAs (now (s .entry)) r ≡ readCount locations initial timers accepting (drop at (now (s .entry))) ⌝ }
+    ensures { λ r. ⌜ headerAs (now (s .entry)) r
+        ≡ readCount version locations initial timers accepting (drop at (now (s .entry))) ⌝ }
 {
     let a = fields::pair_below(s, at, 513, 4, refusal::NOWHERE);
     let Field::Value(count, next) = a else {
         return HeaderField::Refused(fields::refusal_of(a));
     };
     let header = Header {
+        version,
         locations,
         initial,
         timers,
@@ -147,8 +150,9 @@ pub fn count_at(
     HeaderField::Found(header, next)
 }
 
-pub fn header_at(s: &[u8], at: usize) -> HeaderField
-    ensures { λ r. ⌜ headerAs (now (s .entry)) r ≡ skipHeader (drop at (now (s .entry))) ⌝ }
+// The whole header, for a chart of that version.
+pub fn header_at(s: &[u8], at: usize, version: u8) -> HeaderField
+    ensures { λ r. ⌜ headerAs (now (s .entry)) r ≡ skipHeader version (drop at (now (s .entry))) ⌝ }
 {
     let a = limits_at(s, at);
     let LimitsField::Found {
@@ -165,5 +169,7 @@ pub fn header_at(s: &[u8], at: usize) -> HeaderField
     let Field::Value(_, after) = b else {
         return HeaderField::Refused(fields::refusal_of(b));
     };
-    count_at(s, after, locations, initial, timers, accepting)
+    count_at(
+        s, after, version, locations, initial, timers, accepting,
+    )
 }

@@ -3,6 +3,7 @@ pub mod header;
 mod records;
 
 ghost use mathlib.Core.Path.{_≡_};
+ghost use Rattle.model.specs.Version.{knownVersion};
 ghost use Rattle.file_format.specs.File.{readFrame, judgeFrame};
 ghost use Rattle.file_judging.specs.Meaning.{frameAs, JudgesFile, judgedRefusal};
 use crate::header::HeaderField;
@@ -10,9 +11,9 @@ use chart_lists::Header;
 use fields::Field;
 use refusal::Refusal;
 
-// The version byte and the length: the place where the body begins. Compared as 64-bit numbers, so that nothing is cut.
+// The version byte and the length: the version, with the place where the body begins. Compared as 64-bit numbers, so that nothing is cut.
 pub fn frame(s: &[u8]) -> Field
-    ensures { λ r. ⌜ frameAs (now (s .entry)) r ≡ judgeFrame 1 (readFrame (now (s .entry))) ⌝ }
+    ensures { λ r. ⌜ frameAs (now (s .entry)) r ≡ judgeFrame knownVersion (readFrame (now (s .entry))) ⌝ }
 {
     let a = fields::byte_at(s, 0);
     let Field::Value(version, at) = a else {
@@ -25,10 +26,10 @@ pub fn frame(s: &[u8]) -> Field
     if follow + 5 != s.len() as u64 {
         return Field::Refused(refusal::WRONG_LENGTH);
     }
-    if version != 1 {
+    if !file_format::known_version(version) {
         return Field::Refused(refusal::WRONG_VERSION);
     }
-    Field::Value(follow, body)
+    Field::Value(version, body)
 }
 
 // The whole file, judged: its chart's header and the number of its tests.
@@ -53,16 +54,17 @@ pub fn judge_file(s: &[u8]) -> JudgedFile
     ensures { λ r. ⌜ JudgesFile (now (s .entry)) r ⌝ }
 {
     let a = frame(s);
-    let Field::Value(_, body) = a else {
+    let Field::Value(version, body) = a else {
         return JudgedFile::Refused(fields::refusal_of(a));
     };
-    let b = header::header_at(s, body);
+    let b = header::header_at(s, body, version as u8);
     let HeaderField::Found(header, transitions) = b else {
         return JudgedFile::Refused(header::header_refusal(b));
     };
     let d = records::skip_records(
         s,
         transitions,
+        header.version,
         header.transitions,
         header.locations,
         header.timers,

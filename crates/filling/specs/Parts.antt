@@ -30,15 +30,15 @@ pub record Enough (n a b c : ℕ) : Type 0 where
   pub codes : n ≤ b
   pub constants : n ≤ c
 
--- they have room for the tests of the transition that bs begins with, behind the first base entries
-pub record RecordFits (locations timers k base : ℕ) (bs : List ℕ) (a b c : ℕ) : Type 0 where
-  pub fits : (h : Head) (t : List ℕ) → readHead 2 locations timers k bs ≡ value h t → Enough (base + h .tests) a b c
+-- they have room for the tests of the transition that bs begins with, its constants in W bytes, behind the first base entries
+pub record RecordFits (W locations timers k base : ℕ) (bs : List ℕ) (a b c : ℕ) : Type 0 where
+  pub fits : (h : Head) (t : List ℕ) → readHead W locations timers k bs ≡ value h t → Enough (base + h .tests) a b c
 
 -- they have room for 8 tests of each of n transitions, or for those of the transitions that bs begins with
-pub data TestsFit (locations timers n : ℕ) (bs : List ℕ) (a b c : ℕ) : Type 0 where
-  of-any : Enough (8 * n) a b c → TestsFit locations timers n bs a b c
-  of-these : (rs : List Transition) (t : List ℕ) → readTransitions 2 locations timers n bs ≡ value rs t → Enough (length (allTests rs)) a b c
-      → TestsFit locations timers n bs a b c
+pub data TestsFit (W locations timers n : ℕ) (bs : List ℕ) (a b c : ℕ) : Type 0 where
+  of-any : Enough (8 * n) a b c → TestsFit W locations timers n bs a b c
+  of-these : (rs : List Transition) (t : List ℕ) → readTransitions W locations timers n bs ≡ value rs t → Enough (length (allTests rs)) a b c
+      → TestsFit W locations timers n bs a b c
 
 -- ---- what is stored
 

@@ -50,9 +50,9 @@ fn fill_accepting(s: &[u8], at: usize, n: u16, locations: u16, accepting: &mut [
 }
 
 // The header, its accepting locations stored.
-fn fill_header(s: &[u8], at: usize, accepting: &mut [u16]) -> HeaderField
+fn fill_header(s: &[u8], at: usize, version: u8, accepting: &mut [u16]) -> HeaderField
     requires { ⌜ AcceptingFit (drop at (now s)) (length (now accepting)) ⌝ }
-    ensures read { λ r. ⌜ headerAs (now (s .entry)) r ≡ skipHeader (drop at (now (s .entry))) ⌝ }
+    ensures read { λ r. ⌜ headerAs (now (s .entry)) r ≡ skipHeader version (drop at (now (s .entry))) ⌝ }
     ensures stored { λ _. ⌜ ((h : FileHeader) (t : List ℕ) → readHeader (drop at (now (s .entry))) ≡ value h t
         → now (accepting .exit) ≡ put (h .accepting) (now (accepting .entry))) ⌝ }
 {
@@ -71,7 +71,7 @@ fn fill_header(s: &[u8], at: usize, accepting: &mut [u16]) -> HeaderField
     let Field::Value(_, after) = b else {
         return HeaderField::Refused(fields::refusal_of(b));
     };
-    file_judging::header::count_at(s, after, locations, initial, timers, count)
+    file_judging::header::count_at(s, after, version, locations, initial, timers, count)
 }
 
 // What the end of the walk comes to: the transitions' refusal, 3 if bytes are left, else the chart's header.
@@ -98,7 +98,7 @@ pub fn fill(
     test_counts: &mut [u8],
     timers: &mut [u8],
     codes: &mut [u8],
-    constants: &mut [u16],
+    constants: &mut [u32],
 ) -> Read
     requires { ⌜ RoomToFill (now file) (passed accepting sources targets events starts «test_counts» timers codes constants) ⌝ }
     ensures answer { λ r. ⌜ readAs r ≡ headerRead (now (file .entry)) ⌝ }
@@ -107,16 +107,17 @@ pub fn fill(
         ≡ putLists (listsOf c) (atEntry accepting sources targets events starts «test_counts» timers codes constants)) ⌝ }
 {
     let a = file_judging::frame(file);
-    let Field::Value(_, body) = a else {
+    let Field::Value(version, body) = a else {
         return Read::Refused(fields::refusal_of(a));
     };
-    let b = fill_header(file, body, accepting);
+    let b = fill_header(file, body, version as u8, accepting);
     let HeaderField::Found(header, transitions) = b else {
         return Read::Refused(file_judging::header::header_refusal(b));
     };
     let d = records::fill_records(
         file,
         transitions,
+        header.version,
         header.transitions,
         header.locations,
         header.timers,

@@ -5,6 +5,7 @@ ghost use mathlib.Core.List.{List};
 ghost use Prim.Native.Nat.{ℕ, _+_, _≤_, _<_};
 ghost use lib.ListN.{length, drop};
 ghost use Rattle.model.specs.Chart.{Test, Transition};
+ghost use Rattle.model.specs.Version.{widthOf};
 ghost use Rattle.chart_lists.specs.Lists.{allTests};
 ghost use Rattle.file_format.specs.Parse.{value};
 ghost use Rattle.file_format.specs.Body.{readTests, readTransition, readTransitions};
@@ -19,24 +20,25 @@ use fields::test::TestField;
 fn fill_tests(
     s: &[u8],
     at: usize,
+    version: u8,
     g: u8,
     limit: u8,
     place: u64,
     base: usize,
     timers: &mut [u8],
     codes: &mut [u8],
-    constants: &mut [u16],
+    constants: &mut [u32],
 ) -> Field
     requires { ⌜ (base + g ≤ length (now timers)) × (base + g ≤ length (now codes)) × (base + g ≤ length (now constants)) ⌝ }
-    ensures read { λ r. ⌜ fieldAs (now (s .entry)) r ≡ skipTests 2 limit place g (drop at (now (s .entry))) ⌝ }
-    ensures stored { λ _. ⌜ ((ts : List Test) (t : List ℕ) → readTests 2 limit place g (drop at (now (s .entry))) ≡ value ts t
+    ensures read { λ r. ⌜ fieldAs (now (s .entry)) r ≡ skipTests (widthOf version) limit place g (drop at (now (s .entry))) ⌝ }
+    ensures stored { λ _. ⌜ ((ts : List Test) (t : List ℕ) → readTests (widthOf version) limit place g (drop at (now (s .entry))) ≡ value ts t
         → TestsStored ts base (now (timers .entry)) (now (codes .entry)) (now (constants .entry))
         (now (timers .exit)) (now (codes .exit)) (now (constants .exit))) ⌝ }
 {
     let mut here = at;
     let mut k: u8 = 0;
     while k < g {
-        let a = fields::test::test_at(s, here, limit, place);
+        let a = fields::test::test_at(s, here, version, limit, place);
         let TestField::Found {
             timer,
             comparison,
@@ -60,6 +62,7 @@ fn fill_tests(
 fn fill_record(
     s: &[u8],
     at: usize,
+    version: u8,
     locations: u16,
     limit: u8,
     k: usize,
@@ -71,19 +74,19 @@ fn fill_record(
     test_counts: &mut [u8],
     timers: &mut [u8],
     codes: &mut [u8],
-    constants: &mut [u16],
+    constants: &mut [u32],
 ) -> Field
     requires { ⌜ (limit ≤ 64) × (k < length (now sources)) × (k < length (now targets)) × (k < length (now events))
         × (k < length (now starts)) × (k < length (now «test_counts»)) ⌝ }
-    requires { ⌜ RecordFits locations limit k base (drop at (now s)) (length (now timers)) (length (now codes)) (length (now constants)) ⌝ }
-    ensures read { λ r. ⌜ fieldAs (now (s .entry)) r ≡ skipTransition 2 locations limit k (drop at (now (s .entry))) ⌝ }
-    ensures stored { λ _. ⌜ ((r : Transition) (t : List ℕ) → readTransition 2 locations limit k (drop at (now (s .entry))) ≡ value r t
+    requires { ⌜ RecordFits (widthOf version) locations limit k base (drop at (now s)) (length (now timers)) (length (now codes)) (length (now constants)) ⌝ }
+    ensures read { λ r. ⌜ fieldAs (now (s .entry)) r ≡ skipTransition (widthOf version) locations limit k (drop at (now (s .entry))) ⌝ }
+    ensures stored { λ _. ⌜ ((r : Transition) (t : List ℕ) → readTransition (widthOf version) locations limit k (drop at (now (s .entry))) ≡ value r t
         → HeadStored r k (now (sources .entry)) (now (targets .entry)) (now (events .entry)) (now (starts .entry)) (now («test_counts» .entry))
         (now (sources .exit)) (now (targets .exit)) (now (events .exit)) (now (starts .exit)) (now («test_counts» .exit))
         × TestsStored (r .tests) base (now (timers .entry)) (now (codes .entry)) (now (constants .entry))
         (now (timers .exit)) (now (codes .exit)) (now (constants .exit))) ⌝ }
 {
-    let a = fields::record::head_at(s, at, locations, limit, k as u64);
+    let a = fields::record::head_at(s, at, version, locations, limit, k as u64);
     let HeadField::Found {
         source,
         target,
@@ -103,6 +106,7 @@ fn fill_record(
     fill_tests(
         s,
         next,
+        version,
         tests,
         limit,
         k as u64,
@@ -117,6 +121,7 @@ fn fill_record(
 pub fn fill_records(
     s: &[u8],
     at: usize,
+    version: u8,
     n: u16,
     locations: u16,
     limit: u8,
@@ -127,13 +132,13 @@ pub fn fill_records(
     test_counts: &mut [u8],
     timers: &mut [u8],
     codes: &mut [u8],
-    constants: &mut [u16],
+    constants: &mut [u32],
 ) -> Field
     requires { ⌜ (limit ≤ 64) × (n ≤ length (now sources)) × (n ≤ length (now targets)) × (n ≤ length (now events))
         × (n ≤ length (now starts)) × (n ≤ length (now «test_counts»)) ⌝ }
-    requires { ⌜ TestsFit locations limit n (drop at (now s)) (length (now timers)) (length (now codes)) (length (now constants)) ⌝ }
-    ensures read { λ r. ⌜ fieldAs (now (s .entry)) r ≡ skipTransitions 2 locations limit n (drop at (now (s .entry))) ⌝ }
-    ensures stored { λ _. ⌜ ((rs : List Transition) (t : List ℕ) → readTransitions 2 locations limit n (drop at (now (s .entry))) ≡ value rs t
+    requires { ⌜ TestsFit (widthOf version) locations limit n (drop at (now s)) (length (now timers)) (length (now codes)) (length (now constants)) ⌝ }
+    ensures read { λ r. ⌜ fieldAs (now (s .entry)) r ≡ skipTransitions (widthOf version) locations limit n (drop at (now (s .entry))) ⌝ }
+    ensures stored { λ _. ⌜ ((rs : List Transition) (t : List ℕ) → readTransitions (widthOf version) locations limit n (drop at (now (s .entry))) ≡ value rs t
         → HeadsStored rs (now (sources .entry)) (now (targets .entry)) (now (events .entry)) (now (starts .entry)) (now («test_counts» .entry))
         (now (sources .exit)) (now (targets .exit)) (now (events .exit)) (now (starts .exit)) (now («test_counts» .exit))
         × TestsStored (allTests rs) 0 (now (timers .entry)) (now (codes .entry)) (now (constants .entry))
@@ -146,6 +151,7 @@ pub fn fill_records(
         let a = fill_record(
             s,
             here,
+            version,
             locations,
             limit,
             k,

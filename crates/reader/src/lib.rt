@@ -62,7 +62,7 @@ pub fn read_chart(
     test_counts: &mut [u8],
     timers: &mut [u8],
     codes: &mut [u8],
-    constants: &mut [u16],
+    constants: &mut [u32],
 ) -> Read
     ensures answer { λ r. ⌜ readAs r
         ≡ readAnswer (atEntry accepting sources targets events starts «test_counts» timers codes constants) (now (file .entry)) ⌝ }

@@ -17,7 +17,7 @@ pub const WRONG_LENGTH: Refusal = Refusal {
     place: NOWHERE,
 };
 
-// A version byte other than 1.
+// A version that there is not.
 pub const WRONG_VERSION: Refusal = Refusal {
     number: 2,
     place: NOWHERE,
@@ -68,6 +68,12 @@ pub const UNEQUAL_LISTS: Refusal = Refusal {
 // An input of the program over 65,536 bytes.
 pub const INPUT_TOO_LONG: Refusal = Refusal {
     number: 16,
+    place: NOWHERE,
+};
+
+// A constant over 65,535 in a chart that is to be written as version 1.
+pub const CONSTANT_TOO_LARGE: Refusal = Refusal {
+    number: 17,
     place: NOWHERE,
 };
 
