@@ -116,15 +116,18 @@ chart-trip : (version W : ℕ) → W ≤ 8 → RoundTrip (ValidOf version W) (wr
 unfolding writeBody writeHeader chartOf
 chart-trip version W narrow =
     restated
-    (λ c p. let v = p .1 .0 in (p .0, record {
-      some-location = v .some-location;
-      few-locations = v .few-locations;
-      initial = v .initial;
-      few-timers = v .few-timers;
-      accepting = v .accepting;
-      few-transitions = v .few-transitions;
-      transitions = p .1 .1 .0;
-    }))
+    (λ c p. let v = p .1 .0 in (
+      p .0,
+      record {
+        some-location = v .some-location;
+        few-locations = v .few-locations;
+        initial = v .initial;
+        few-timers = v .few-timers;
+        accepting = v .accepting;
+        few-transitions = v .few-transitions;
+        transitions = p .1 .1 .0;
+      },
+    ))
     (λ c p. let v = p .1 in (
       p .0,
       (

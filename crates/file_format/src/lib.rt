@@ -19,9 +19,5 @@ pub fn known_version(version: u64) -> bool
 pub fn width_of(version: u8) -> u64
     ensures { λ r. ⌜ r ≡ widthOf version ⌝ }
 {
-    if version == 1 {
-        2
-    } else {
-        4
-    }
+    if version == 1 { 2 } else { 4 }
 }

@@ -1,11 +1,12 @@
--- The chart file whose fields are the entries of nine lists, whatever they hold; it ends before the first field that no list has (document 01,
--- "The chart file"). Of lists the writer refuses what the reader refuses of this file: proofs/FieldOrder. Assumes nothing.
+-- The chart file whose fields are the entries of nine lists, its constants in W bytes; it ends before the first field that no list has (document 01,
+-- "The chart file"). Of lists the writer refuses what the reader refuses of this file, if its constants fit: proofs/FieldOrder. Assumes nothing.
 use mathlib.Core.Option.{Option, none, some, Option·map}
 use mathlib.Core.List.{List, [], _∷_, _++_}
 use Prim.Native.Nat.{ℕ, _+_}
 use lib.ListN.{length, take, getD, getElem?}
 use Rattle.lists.specs.Lists.{gather, upTo, sumOf}
 use Rattle.timer_set.specs.Members.{members}
+use Rattle.model.specs.Version.{widthOf}
 use Rattle.file_format.specs.Parse.{digits, writeAll}
 use Rattle.file_format.specs.Body.{recordLength}
 use Rattle.chart_lists.specs.Lists.{Lists}
@@ -30,31 +31,31 @@ unfoldable pub startsField : List ℕ → (i : ℕ) → FieldBytes
 startsField l i = Option·map (λ w. digits 1 (length (members w)) ++ writeAll (digits 1) (members w)) (getElem? l i)
 
 -- the test at place k: timer, code, constant
-unfoldable pub testFields : Lists → (k : ℕ) → List FieldBytes
-testFields l k = entryField 1 (l .timers) k ∷ entryField 1 (l .codes) k ∷ entryField 2 (l .constants) k ∷ []
+unfoldable pub testFields : (W : ℕ) → Lists → (k : ℕ) → List FieldBytes
+testFields W l k = entryField 1 (l .timers) k ∷ entryField 1 (l .codes) k ∷ entryField W (l .constants) k ∷ []
 
 -- the length of the record of transition i; it is judged only where the lists have the entries that it comes from
-unfoldable pub lengthAt : Lists → (i : ℕ) → ℕ
-lengthAt l i = recordLength 2 (length (members (getD (l .starts) i 0))) (getD (l .test-counts) i 0)
+unfoldable pub lengthAt : (W : ℕ) → Lists → (i : ℕ) → ℕ
+lengthAt W l i = recordLength W (length (members (getD (l .starts) i 0))) (getD (l .test-counts) i 0)
 
 -- transition i, its tests from place k on
-unfoldable pub transitionFields : Lists → (i k : ℕ) → List FieldBytes
-transitionFields l i k =
-    some (digits 2 (lengthAt l i))
+unfoldable pub transitionFields : (W : ℕ) → Lists → (i k : ℕ) → List FieldBytes
+transitionFields W l i k =
+    some (digits 2 (lengthAt W l i))
     ∷ entryField 2 (l .sources) i
     ∷ entryField 2 (l .targets) i
     ∷ entryField 1 (l .events) i
     ∷ startsField (l .starts) i
     ∷ entryField 1 (l .test-counts) i
-    ∷ gather (λ t. testFields l (k + t)) (getD (l .test-counts) i 0)
+    ∷ gather (λ t. testFields W l (k + t)) (getD (l .test-counts) i 0)
 
 -- how many tests the first n transitions have: the place of the next one's first test
 unfoldable pub testsBefore : Lists → (n : ℕ) → ℕ
 testsBefore l n = sumOf (take n (l .test-counts))
 
 -- the first n transitions
-unfoldable pub recordFields : Lists → (n : ℕ) → List FieldBytes
-recordFields l n = gather (λ i. transitionFields l i (testsBefore l i)) n
+unfoldable pub recordFields : (W : ℕ) → Lists → (n : ℕ) → List FieldBytes
+recordFields W l n = gather (λ i. transitionFields W l i (testsBefore l i)) n
 
 -- what stands before the transitions, with their count
 unfoldable pub headerFields : Header → Lists → List FieldBytes
@@ -66,9 +67,9 @@ headerFields m l =
     ∷ (upTo (entryField 2 (l .accepting)) (m .accepting) ++ (some (digits 2 (m .transitions)) ∷ []))
 
 -- the header, then the transitions
-unfoldable pub bodyFrom : Header → Lists → List ℕ
-bodyFrom m l = bytesOf (headerFields m l ++ recordFields l (m .transitions))
+unfoldable pub bodyFrom : (W : ℕ) → Header → Lists → List ℕ
+bodyFrom W m l = bytesOf (headerFields m l ++ recordFields W l (m .transitions))
 
--- version 1, the number of bytes that follow, and these
+-- the version, the number of bytes that follow, and these, by the version's width
 unfoldable pub fileFrom : Header → Lists → List ℕ
-fileFrom m l = let body = bodyFrom m l in digits 1 1 ++ (digits 4 (length body) ++ body)
+fileFrom m l = let body = bodyFrom (widthOf (m .version)) m l in digits 1 (m .version) ++ (digits 4 (length body) ++ body)

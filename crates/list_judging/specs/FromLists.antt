@@ -1,5 +1,6 @@
--- The chart that nine lists describe beside its header, or its refusal: 3 to 8 in the order of the file's fields (document 01,
--- "Turned down .."). Assumes nothing.
+-- The chart that nine lists describe beside its header, or its refusal: 2, then 3 to 8 in the order of the file's fields, then 17 (document 01,
+-- "Turned down .."; document 02, P2). Assumes nothing.
+use mathlib.Core.Bool.{not}
 use mathlib.Core.Option.{Option, none, some}
 use mathlib.Core.List.{List, [], _∷_}
 use Prim.Native.Nat.{ℕ, zero, suc, _+_}
@@ -9,6 +10,7 @@ use Rattle.timer_set.specs.Members.{members, allBelow}
 use Rattle.comparison.specs.Comparison.{comparisonOf}
 use Rattle.model.specs.Answer.{Answer, result, refused, then, unless, nowhere}
 use Rattle.model.specs.Chart.{Test, Transition, Chart}
+use Rattle.model.specs.Version.{knownVersion, largeInVersion1}
 use Rattle.chart_lists.specs.Lists.{Lists}
 use Rattle.chart_lists.specs.declared.Header.{Header}
 
@@ -76,9 +78,10 @@ transitionsFrom l locations timers i k (suc n) =
     then (transitionsFrom l locations timers (suc i) (k + length (r .tests)) n) (λ rs.
     result (r ∷ rs)))
 
--- the chart, or the refusal of its first field that fails
-unfoldable pub chartFrom : Header → Lists → Answer Chart
-chartFrom m l =
+-- 2, then 3 to 8 in the order of the fields: the chart, whatever its constants are
+unfoldable pub fieldsFrom : Header → Lists → Answer Chart
+fieldsFrom m l =
+    unless (knownVersion (m .version)) 2 nowhere (
     unless (ltb (m .locations) 257) 4 nowhere (
     unless (leb 1 (m .locations)) 4 nowhere (
     unless (ltb (m .initial) (m .locations)) 5 nowhere (
@@ -87,9 +90,14 @@ chartFrom m l =
     unless (ltb (m .transitions) 513) 4 nowhere (
     then (transitionsFrom l (m .locations) (m .timers) 0 0 (m .transitions)) (λ transitions.
     result (record {
+      version = m .version;
       locations = m .locations;
       initial = m .initial;
       timers = m .timers;
       accepting = accepting;
       transitions = transitions;
-    }))))))))
+    })))))))))
+
+-- 17 after all of these: the chart that a file of its version can hold
+unfoldable pub chartFrom : Header → Lists → Answer Chart
+chartFrom m l = then (fieldsFrom m l) (λ c. unless (not (largeInVersion1 c)) 17 nowhere (result c))

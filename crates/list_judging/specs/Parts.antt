@@ -1,29 +1,31 @@
 -- The parts of a chart in lists that the code judges one after another, and what it keeps of each. That they make up `chartFrom` is
 -- shown in proofs/Parts. Assumes nothing.
+use mathlib.Core.Bool.{Bool}
 use mathlib.Core.List.{List, map}
 use Prim.Native.Nat.{ℕ}
 use lib.Dec.{leb, ltb}
-use lib.ListN.{length}
-use Rattle.lists.specs.Lists.{sumOf}
+use lib.ListN.{length, take}
+use Rattle.lists.specs.Lists.{anyOf, sumOf}
 use Rattle.timer_set.specs.Members.{members, allBelow}
 use Rattle.comparison.specs.Comparison.{comparisonOf}
 use Rattle.model.specs.Answer.{Answer, result, then, unless, nowhere}
 use Rattle.model.specs.Chart.{Transition}
+use Rattle.model.specs.Version.{knownVersion, isLarge}
 use Rattle.file_format.specs.File.{fileOf}
-use Rattle.file_format.specs.Lengths.{transitionLength}
 use Rattle.chart_lists.specs.Lists.{Lists}
 use Rattle.chart_lists.specs.declared.Header.{Header}
 use Rattle.list_judging.specs.FromLists.{orRefused, entryAt, entryBelow, acceptingFrom}
 use Rattle.list_judging.specs.FromLists.{testFrom, testsFrom, transitionFrom, transitionsFrom, chartFrom}
 
--- the numbers of locations and timers and the initial location
+-- the version, the numbers of locations and timers and the initial location
 unfoldable pub checkHeader : Header → Answer ℕ
 checkHeader m =
+    unless (knownVersion (m .version)) 2 nowhere (
     unless (ltb (m .locations) 257) 4 nowhere (
     unless (leb 1 (m .locations)) 4 nowhere (
     unless (ltb (m .initial) (m .locations)) 5 nowhere (
     unless (ltb (m .timers) 65) 4 nowhere (
-    result 0))))
+    result 0)))))
 
 -- the accepting locations: how many
 unfoldable pub checkAccepting : (locations : ℕ) → List ℕ → (n : ℕ) → Answer ℕ
@@ -66,9 +68,20 @@ sizesOf r = record { starts = length (r .starts); tests = length (r .tests) }
 unfoldable pub checkTransition : Lists → (locations timers i k : ℕ) → Answer Sizes
 checkTransition l locations timers i k = then (transitionFrom l locations timers i k) (λ r. result (sizesOf r))
 
--- n transitions: how many bytes their records have
-unfoldable pub checkTransitions : Lists → (locations timers n : ℕ) → Answer ℕ
-checkTransitions l locations timers n = then (transitionsFrom l locations timers 0 0 n) (λ rs. result (sumOf (map (transitionLength 2) rs)))
+-- of transitions together
+unfoldable pub totalSizes : List Transition → Sizes
+totalSizes rs = record {
+  starts = sumOf (map (λ (r : Transition). length (r .starts)) rs);
+  tests = sumOf (map (λ (r : Transition). length (r .tests)) rs);
+}
+
+-- n transitions: their sizes together
+unfoldable pub checkTransitions : Lists → (locations timers n : ℕ) → Answer Sizes
+checkTransitions l locations timers n = then (transitionsFrom l locations timers 0 0 n) (λ rs. result (totalSizes rs))
+
+-- one of the first n constants is over 65,535
+unfoldable pub largeAmong : (n : ℕ) → (constants : List ℕ) → Bool
+largeAmong n constants = anyOf isLarge (take n constants)
 
 -- the whole chart: the length of its file
 unfoldable pub checkChart : Header → Lists → Answer ℕ

@@ -4,7 +4,7 @@ use Rattle.lists.specs.Rising.{All}
 use Rattle.chart_lists.specs.Lists.{Lists}
 use Rattle.chart_lists.specs.declared.Header.{Header}
 
--- bytes, pairs of bytes and words
+-- bytes, two bytes, four bytes and words
 pub record Typed (l : Lists) : Type 0 where
   pub accepting : All (λ x. x < 65536) (l .accepting)
   pub sources : All (λ x. x < 65536) (l .sources)
@@ -14,10 +14,11 @@ pub record Typed (l : Lists) : Type 0 where
   pub test-counts : All (λ x. x < 256) (l .test-counts)
   pub timers : All (λ x. x < 256) (l .timers)
   pub codes : All (λ x. x < 256) (l .codes)
-  pub constants : All (λ x. x < 65536) (l .constants)
+  pub constants : All (λ x. x < 256 ^ 4) (l .constants)
 
--- the number of timers is a byte, the others are pairs of bytes
+-- the version and the number of timers are bytes, the others have two
 pub record TypedHeader (m : Header) : Type 0 where
+  pub version : m .version < 256
   pub locations : m .locations < 65536
   pub initial : m .initial < 65536
   pub timers : m .timers < 256

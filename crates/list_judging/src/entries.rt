@@ -23,7 +23,7 @@ pub fn refusal_of(a: Entry) -> Refusal
     }
 }
 
-// An entry of a list of bytes, pairs or words; 3 where the list has ended.
+// An entry of a list of numbers of one, two, four or eight bytes; 3 where the list has ended.
 pub fn byte_at(l: &[u8], k: usize) -> Entry
     ensures { λ r. ⌜ entryAs r ≡ entryAt (now (l .entry)) k ⌝ }
 {
@@ -35,6 +35,16 @@ pub fn byte_at(l: &[u8], k: usize) -> Entry
 }
 
 pub fn pair_at(l: &[u16], k: usize) -> Entry
+    ensures { λ r. ⌜ entryAs r ≡ entryAt (now (l .entry)) k ⌝ }
+{
+    if k < l.len() {
+        Entry::Value(l[k] as u64)
+    } else {
+        Entry::Refused(refusal::CUT_OFF)
+    }
+}
+
+pub fn quad_at(l: &[u32], k: usize) -> Entry
     ensures { λ r. ⌜ entryAs r ≡ entryAt (now (l .entry)) k ⌝ }
 {
     if k < l.len() {

@@ -1,8 +1,13 @@
 // Judges a chart that stands in lists (docs/LISTS.md), all of it and in the order of the file's fields.
 ghost use mathlib.Core.Path.{_≡_};
+ghost use mathlib.Core.Bool.{_&&_};
+ghost use Prim.Native.Nat.{_+_, _*_, _≤_, _<_};
+ghost use lib.Dec.{eqb};
+ghost use lib.ListN.{length};
+ghost use Rattle.model.specs.Version.{widthOf};
 ghost use Rattle.chart_lists.specs.Lent.{atEntry};
-ghost use Rattle.list_judging.specs.Parts.{checkHeader, checkAccepting, checkTransitions, checkChart};
-ghost use Rattle.list_judging.specs.Meaning.{judgedAs, entryAs};
+ghost use Rattle.list_judging.specs.Parts.{checkHeader, checkAccepting, checkTransitions, largeAmong, checkChart};
+ghost use Rattle.list_judging.specs.Meaning.{judgedAs, entryAs, sizesAs};
 ghost use Rattle.list_judging.specs.Lent.{transitionsAtEntry};
 
 mod entries;
@@ -24,10 +29,13 @@ pub enum Judged {
     Refused(Refusal),
 }
 
-// The numbers of locations and timers, and the initial location.
+// The version, the numbers of locations and timers, and the initial location.
 fn judge_header(header: Header) -> Entry
     ensures { λ r. ⌜ entryAs r ≡ checkHeader header ⌝ }
 {
+    if !file_format::known_version(header.version as u64) {
+        return Entry::Refused(refusal::WRONG_VERSION);
+    }
     if header.locations as usize > chart_lists::MOST_LOCATIONS {
         return Entry::Refused(refusal::TOO_MANY);
     }
@@ -68,7 +76,7 @@ fn judge_accepting(accepting: &[u16], locations: u16, n: u16) -> Entry
     Entry::Value(k as u64)
 }
 
-// All transitions: how many bytes their records have.
+// All transitions: their sizes together.
 fn judge_transitions(
     header: Header,
     sources: &[u16],
@@ -78,14 +86,14 @@ fn judge_transitions(
     test_counts: &[u8],
     timers: &[u8],
     codes: &[u8],
-    constants: &[u16],
-) -> Entry
-    ensures { λ r. ⌜ entryAs r
+    constants: &[u32],
+) -> Record
+    ensures { λ r. ⌜ sizesAs r
         ≡ checkTransitions (transitionsAtEntry sources targets events starts «test_counts» timers codes constants)
         (header .locations) (header .timers) (header .transitions) ⌝ }
 {
     let n = header.transitions as usize;
-    let mut bytes: u64 = 0;
+    let mut started: u64 = 0;
     let mut k: usize = 0;
     let mut i: usize = 0;
     while i < n {
@@ -107,13 +115,43 @@ fn judge_transitions(
             tests: g,
         } = a
         else {
-            return Entry::Refused(record_refusal(a));
+            return a;
         };
-        bytes += 9 + s + 4 * g;
+        started += s;
         k += g as usize;
         i += 1;
     }
-    Entry::Value(bytes)
+    Record::Found {
+        starts: started,
+        tests: k as u64,
+    }
+}
+
+// 17: version 1, and one of the first n constants is over 65,535.
+fn too_large(version: u8, constants: &[u32], n: usize) -> bool
+    requires { ⌜ n ≤ length (now constants) ⌝ }
+    ensures { λ r. ⌜ r ≡ (eqb version 1 && largeAmong n (now (constants .entry))) ⌝ }
+{
+    if version != 1 {
+        return false;
+    }
+    let mut k: usize = 0;
+    while k < n {
+        if constants[k] > 65535 {
+            return true;
+        }
+        k += 1;
+    }
+    false
+}
+
+// The length of a file of that version, by what its chart has: accepting locations, transitions, started timers and tests.
+fn file_length(version: u8, accepting: u64, transitions: u16, started: u64, tests: u64) -> u64
+    requires { ⌜ (accepting < 65536) × (started < 4294967296) × (tests < 4294967296) ⌝ }
+    ensures { λ r. ⌜ r ≡ 14 + 2 * accepting + (9 * transitions + started + (2 + widthOf version) * tests) ⌝ }
+{
+    let width = file_format::width_of(version);
+    14 + 2 * accepting + (9 * (transitions as u64) + started + (2 + width) * tests)
 }
 
 // All of the chart: the length of its file.
@@ -127,7 +165,7 @@ pub fn judge(
     test_counts: &[u8],
     timers: &[u8],
     codes: &[u8],
-    constants: &[u16],
+    constants: &[u32],
 ) -> Judged
     ensures { λ r. ⌜ judgedAs r
         ≡ checkChart header (atEntry accepting sources targets events starts «test_counts» timers codes constants) ⌝ }
@@ -154,8 +192,16 @@ pub fn judge(
         codes,
         constants,
     );
-    let Entry::Value(bytes) = d else {
-        return Judged::Refused(refusal_of(d));
+    let Record::Found {
+        starts: started,
+        tests,
+    } = d
+    else {
+        return Judged::Refused(record_refusal(d));
     };
-    Judged::File(14 + 2 * (n as usize) + bytes as usize)
+    if too_large(header.version, constants, tests as usize) {
+        return Judged::Refused(refusal::CONSTANT_TOO_LARGE);
+    }
+    let bytes = file_length(header.version, n, header.transitions, started, tests);
+    Judged::File(bytes as usize)
 }

@@ -9,6 +9,7 @@ use crate::entries::Entry;
 use crate::entries::below;
 use crate::entries::byte_at;
 use crate::entries::pair_at;
+use crate::entries::quad_at;
 use crate::entries::refusal_of;
 use crate::entries::word_at;
 use chart_lists::Header;
@@ -16,7 +17,7 @@ use comparison::Decoded;
 use refusal::Refusal;
 use timer_set::TimerSet;
 
-// A transition that was judged: how many timers it starts and how many tests it has; or its refusal.
+// A transition that was judged, or several: how many timers they start and how many tests they have; or the refusal.
 pub enum Record {
     Found { starts: u64, tests: u64 },
     Refused(Refusal),
@@ -56,7 +57,7 @@ fn judge_code(codes: &[u8], place: u64, k: usize) -> Entry
 fn judge_test(
     timers: &[u8],
     codes: &[u8],
-    constants: &[u16],
+    constants: &[u32],
     limit: u8,
     place: u64,
     k: usize,
@@ -71,14 +72,14 @@ fn judge_test(
     let Entry::Value(_) = b else {
         return b;
     };
-    pair_at(constants, k)
+    quad_at(constants, k)
 }
 
 // g tests from place k on: how many.
 fn judge_tests(
     timers: &[u8],
     codes: &[u8],
-    constants: &[u16],
+    constants: &[u32],
     limit: u8,
     place: u64,
     k: usize,
@@ -105,7 +106,7 @@ fn judge_count(
     test_counts: &[u8],
     timers: &[u8],
     codes: &[u8],
-    constants: &[u16],
+    constants: &[u32],
     limit: u8,
     i: usize,
     k: usize,
@@ -171,7 +172,7 @@ pub fn judge_transition(
     test_counts: &[u8],
     timers: &[u8],
     codes: &[u8],
-    constants: &[u16],
+    constants: &[u32],
     i: usize,
     k: usize,
 ) -> Record

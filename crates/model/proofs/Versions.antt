@@ -50,15 +50,17 @@ module _ (W W′ : ℕ) (Q : Test → Type 0) (fits : (t : Test) → Q t → t .
   transitions-as : (locations timers : ℕ) (rs : List Transition) → All (λ (r : Transition). All Q (r .tests)) rs
       → All (ValidTransition W locations timers) rs → All (ValidTransition W′ locations timers) rs
   transitions-as locations timers [] q x = tt
-  transitions-as locations timers (r ∷ rs) q x =
-      (record {
-        source = x .0 .source;
-        target = x .0 .target;
-        event = x .0 .event;
-        starts = x .0 .starts;
-        few-tests = x .0 .few-tests;
-        tests = tests-as timers (r .tests) (q .0) (x .0 .tests);
-      }, transitions-as locations timers rs (q .1) (x .1))
+  transitions-as locations timers (r ∷ rs) q x = (
+    record {
+      source = x .0 .source;
+      target = x .0 .target;
+      event = x .0 .event;
+      starts = x .0 .starts;
+      few-tests = x .0 .few-tests;
+      tests = tests-as timers (r .tests) (q .0) (x .0 .tests);
+    },
+    transitions-as locations timers rs (q .1) (x .1),
+  )
 
   valid-as : (c : Chart) → All (λ (r : Transition). All Q (r .tests)) (c .transitions) → Valid W c → Valid W′ c
   valid-as c q x = record {
@@ -100,9 +102,9 @@ module _ {A : Type 0} (f : A → Bool) where
 pub narrowed : (c : Chart) → largeConstant c ≡ false → Valid 4 c → Valid 2 c
 unfolding largeConstant isLarge
 narrowed c e v =
-    valid-as 4 2 (λ t. isLarge t ≡ false) (λ t q h. omega (arith, ltb-false 65535 (t .constant) q)) c
-    (all-as (λ (r : Transition) q. none-passes isLarge (r .tests) q) (c .transitions)
-    (none-passes (λ (r : Transition). anyOf isLarge (r .tests)) (c .transitions) e)) v
+    valid-as 4 2 (λ t. isLarge (t .constant) ≡ false) (λ t q h. omega (arith, ltb-false 65535 (t .constant) q)) c
+    (all-as (λ (r : Transition) q. none-passes (λ (t : Test). isLarge (t .constant)) (r .tests) q) (c .transitions)
+    (none-passes (λ (r : Transition). anyOf (λ (t : Test). isLarge (t .constant)) (r .tests)) (c .transitions) e)) v
   where
     all-as : {A : Type 0} {P Q : A → Type 0} → ((a : A) → P a → Q a) → (l : List A) → All P l → All Q l
     all-as h [] x = tt
@@ -111,8 +113,9 @@ narrowed c e v =
 pub narrow-small : (c : Chart) → Valid 2 c → largeConstant c ≡ false
 unfolding largeConstant isLarge
 narrow-small c v =
-    each-fails (λ (r : Transition). anyOf isLarge (r .tests)) (ValidTransition 2 (c .locations) (c .timers))
-    (λ r x. each-fails isLarge (ValidTest 2 (c .timers)) (λ t y. le-ltb 65535 (t .constant) (omega (arith, y .constant))) (r .tests) (x .tests))
+    each-fails (λ (r : Transition). anyOf (λ (t : Test). isLarge (t .constant)) (r .tests)) (ValidTransition 2 (c .locations) (c .timers))
+    (λ r x. each-fails (λ (t : Test). isLarge (t .constant)) (ValidTest 2 (c .timers))
+    (λ t y. le-ltb 65535 (t .constant) (omega (arith, y .constant))) (r .tests) (x .tests))
     (c .transitions) (v .transitions)
 
 pub widened : (c : Chart) → Valid 2 c → Valid 4 c

@@ -25,12 +25,12 @@ inVersion version c = record {
 }
 
 -- a constant over 65,535
-unfoldable pub isLarge : Test → Bool
-isLarge t = ltb 65535 (t .constant)
+unfoldable pub isLarge : (constant : ℕ) → Bool
+isLarge constant = ltb 65535 constant
 
 -- some test has one
 unfoldable pub largeConstant : Chart → Bool
-largeConstant c = anyOf (λ (r : Transition). anyOf isLarge (r .tests)) (c .transitions)
+largeConstant c = anyOf (λ (r : Transition). anyOf (λ (t : Test). isLarge (t .constant)) (r .tests)) (c .transitions)
 
 -- 17: such a chart is to be written as version 1
 unfoldable pub largeInVersion1 : Chart → Bool

@@ -46,7 +46,7 @@ fn put_front(out: &mut [u8], size: u32, header: Header)
     requires { ⌜ 12 ≤ length (now out) ⌝ }
     ensures { λ _. ⌜ now (out .exit) ≡ put (frontBytes size header) (now (out .entry)) ⌝ }
 {
-    put_byte(out, 1);
+    put_byte(out, header.version);
     put_quad(&mut out[1..], size);
     put_triple(
         &mut out[5..],
@@ -70,7 +70,7 @@ fn write_file<'a>(
     test_counts: &'a [u8],
     timers: &'a [u8],
     codes: &'a [u8],
-    constants: &'a [u16],
+    constants: &'a [u32],
 )
     requires { ⌜ Writable header (passed accepting sources targets events starts «test_counts» timers codes constants)
         n (length (now out)) ⌝ }
@@ -108,7 +108,7 @@ pub fn write<'a>(
     test_counts: &'a [u8],
     timers: &'a [u8],
     codes: &'a [u8],
-    constants: &'a [u16],
+    constants: &'a [u32],
     out: &mut [u8],
 ) -> Written
     ensures answer { λ r. ⌜ writtenAs r ≡ writeAnswer (length (now (out .entry))) header
