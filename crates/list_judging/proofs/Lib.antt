@@ -2,6 +2,7 @@ pub mod Answers
 pub mod Items
 pub mod ListEntries
 pub mod Parts
+pub mod LargeAmong
 pub mod Judging
 pub mod TransitionOf
 pub mod Turns
@@ -10,6 +11,7 @@ pub mod Beginnings
 pub mod Starts
 pub mod FromValid
 pub mod FromHolds
+pub mod WholeChart
 pub mod ValidFrom
 pub mod FieldsGive
 pub mod FieldLengths
