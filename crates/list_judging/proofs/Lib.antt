@@ -7,6 +7,7 @@ pub mod Judging
 pub mod TransitionOf
 pub mod Turns
 pub mod ChartOf
+pub mod Version
 pub mod Beginnings
 pub mod Starts
 pub mod FromValid
