@@ -127,3 +127,7 @@ module _ (bs : List ℕ) (c : Chart) (by : Bytes bs) (e : chartIn bs ≡ result 
 
   pub reads-storable : Storable c
   reads-storable = record { known = read-as .is-known; valid = read-as .valid }
+
+  -- valid for the constants of its version
+  pub reads-valid : Valid (widthOf (c .version)) c
+  reads-valid = reads-storable .valid

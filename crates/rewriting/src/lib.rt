@@ -46,7 +46,7 @@ fn write_renamed<'a>(
     test_counts: &'a [u8; MOST_TRANSITIONS],
     timers: &'a [u8; MOST_TESTS],
     codes: &'a [u8; MOST_TESTS],
-    constants: &'a [u16; MOST_TESTS],
+    constants: &'a [u32; MOST_TESTS],
     used: u8,
     cells: &'a [u16; MOST_CELLS],
     out: &mut [u8],
@@ -99,7 +99,7 @@ fn fit<'a>(
     test_counts: &'a [u8; MOST_TRANSITIONS],
     timers: &'a [u8; MOST_TESTS],
     codes: &'a [u8; MOST_TESTS],
-    constants: &'a [u16; MOST_TESTS],
+    constants: &'a [u32; MOST_TESTS],
     tested: &'a [u64; MOST_TRANSITIONS],
     k: u32,
     out: &mut [u8],
@@ -165,7 +165,7 @@ fn rewrite_judged<'a>(
     test_counts: &'a [u8; MOST_TRANSITIONS],
     timers: &'a [u8; MOST_TESTS],
     codes: &'a [u8; MOST_TESTS],
-    constants: &'a [u16; MOST_TESTS],
+    constants: &'a [u32; MOST_TESTS],
     tested: &'a [u64; MOST_TRANSITIONS],
     k: u32,
     out: &mut [u8],
@@ -213,7 +213,7 @@ pub fn rewrite(file: &[u8], k: u32, out: &mut [u8]) -> Rewritten
     let mut test_counts = [0u8; MOST_TRANSITIONS];
     let mut timers = [0u8; MOST_TESTS];
     let mut codes = [0u8; MOST_TESTS];
-    let mut constants = [0u16; MOST_TESTS];
+    let mut constants = [0u32; MOST_TESTS];
     let mut tested = [0u64; MOST_TRANSITIONS];
     let answer = judgement::judge(
         file,
