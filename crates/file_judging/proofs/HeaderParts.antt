@@ -125,6 +125,7 @@ module _ (v : ℕ) (bs : List ℕ) where
   unfolding skipHeader
   header-never e h t k = let z : refusal _ _ ≡ value (chartHeader v h) t = rw k at e in value-refused refl (sym z)
 
+module _ (bs : List ℕ) where
   -- the accepting locations of a header that was read
   pub header-entries : {l : Limits} {b₁ : List ℕ} → readLimits bs ≡ value l b₁ → (h : FileHeader) (t : List ℕ) → readHeader bs ≡ value h t
       → (b₂ : List ℕ) × (rising 2 (l .locations) 5 nowhere (l .accepting) b₁ ≡ value (h .accepting) b₂)

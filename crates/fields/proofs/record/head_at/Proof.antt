@@ -47,7 +47,8 @@ starts-at c = told (fieldAs (now (first (second (third c)) .args .s))) (c .befor
 
 tests-at : (c : tie.After-known-told4) → let d = fourth c in let a = first (second (third d)) .args in let g = c .before .e .given .0 in
     let h = third d .before .b .given .0 in let f = second (third d) .before .a .given .0 in
-    readTestCount (widthOf (a .version)) (f .0) (h .0) (a .place) (drop (d .before .d .given .0 .1 .0) (now (a .s))) ≡ value (g .0) (drop (g .1 .0) (now (a .s)))
+    readTestCount (widthOf (a .version)) (f .0) (h .0) (a .place) (drop (d .before .d .given .0 .1 .0) (now (a .s)))
+    ≡ value (g .0) (drop (g .1 .0) (now (a .s)))
 tests-at c =
     told (fieldAs (now (first (second (third (fourth c))) .args .s))) (c .before .e .given .1) (c .before .before .before .test-count-at .ensures)
 

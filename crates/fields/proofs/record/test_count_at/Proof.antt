@@ -63,7 +63,9 @@ mul-if1 : tie.Need-mul-if1
 mul-if1 c = record { fits = omega (arith, product-small (start (c .before) .args .version) (c .width-of .ensures) (small-at (c .before))) }
 
 add-if1-3 : tie.Need-add-if1-3
-add-if1-3 c = record { fits = omega (arith, start (c .before) .pre, product-small (start (c .before) .args .version) (c .width-of .ensures) (small-at (c .before))) }
+add-if1-3 c =
+    let m = product-small (start (c .before) .args .version) (c .width-of .ensures) (small-at (c .before)) in
+    record { fits = omega (arith, start (c .before) .pre, m) }
 
 -- the width that the code has is the version's
 as-wide : (c : tie.After-width-of) → let a = start (c .before) .args in let g = c .before .before .a .given .0 .0 in

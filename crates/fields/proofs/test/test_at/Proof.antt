@@ -47,7 +47,8 @@ comparison-at c = sym (c .before .before .before .decode .ensures) ∙ ap decode
 constant-there : (c : tie.After-known-told4) → let d = third (fourth c) in let a = first (second d) .args in let g = c .before .e .given .0 in
     number (widthOf (a .version)) (drop (d .before .b .given .0 .1 .0) (now (a .s))) ≡ value (g .0) (drop (g .1 .0) (now (a .s)))
 constant-there c =
-    told (fieldAs (now (first (second (third (fourth c))) .args .s))) (c .before .e .given .1) (c .before .before .before .constant-at .ensures .reads)
+    let k = c .before .before .before .constant-at .ensures in
+    told (fieldAs (now (first (second (third (fourth c))) .args .s))) (c .before .e .given .1) (k .reads)
 
 -- ----
 
@@ -126,7 +127,8 @@ returns-4 c =
     let c₂ = third c₃ in
     let c₁ = second c₂ in
     let a = first c₁ .args in
-    let e = turned (now (a .s)) (c .before .enum-told4 .given .1) (c .refusal-of3 .ensures) (c .before .before .before .constant-at .ensures .reads) in
+    let k = c .before .before .before .constant-at .ensures in
+    let e = turned (now (a .s)) (c .before .enum-told4 .given .1) (c .refusal-of3 .ensures) (k .reads) in
     test-constant (widthOf (a .version)) (a .timers) (a .place) _ (timer-at c₁) (code-at c₂) (comparison-at c₃) e
 
 cast-t20 : tie.Need-cast-t20
@@ -135,7 +137,9 @@ cast-t20 c =
     record { fits = omega (arith, below-limit _ _ _ _ _ (timer-at d), first d .good) }
 
 cast-t23 : tie.Need-cast-t23
-cast-t23 c = record { fits = omega (arith, width-fits (first (second (third (fourth c))) .args .version), c .before .before .before .constant-at .ensures .small _ _ (c .before .e .given .1)) }
+cast-t23 c =
+    let most = width-fits (first (second (third (fourth c))) .args .version) in
+    record { fits = omega (arith, most, c .before .before .before .constant-at .ensures .small _ _ (c .before .e .given .1)) }
 
 returns-5 : tie.Need-returns-5
 returns-5 c =

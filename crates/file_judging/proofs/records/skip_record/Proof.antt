@@ -34,8 +34,8 @@ returns-2 : tie.Need-returns-2
 returns-2 c =
     let d = c .before .before .before .before in
     let a = d .before .before .args in
-    c .skip-tests .ensures
-    ∙ skip-tests-left (widthOf (a .version)) (a .locations) (a .timers) (a .place) _ (told (headAs (now (a .s))) (c .before .before .a .given .1) (d .head-at .ensures))
+    let h = told (headAs (now (a .s))) (c .before .before .a .given .1) (d .head-at .ensures) in
+    c .skip-tests .ensures ∙ skip-tests-left (widthOf (a .version)) (a .locations) (a .timers) (a .place) _ h
 
 pub skip-record-spec : {M : Type 1} → statement M
 skip-record-spec =

@@ -14,7 +14,8 @@ use Rattle.file_judging.proofs.records.skip_records.Statement.{statemen
 use Rattle.file_judging.proofs.records.skip_records.Tie as tie
 
 abbrev Inv-loop : tie.InvT-loop
-Inv-loop s at version n locations timers here₀ tests₀ i₀ here tests i = TestsCounted (widthOf version) locations timers n i tests (drop at s) (drop here s)
+Inv-loop s at version n locations timers here₀ tests₀ i₀ here tests i =
+    TestsCounted (widthOf version) locations timers n i tests (drop at s) (drop here s)
 
 abbrev μ-loop : tie.MeasureT-loop
 μ-loop s at version n locations timers here₀ tests₀ i₀ here tests i = n - i
