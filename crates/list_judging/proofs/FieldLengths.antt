@@ -77,7 +77,9 @@ module _ (W : ℕ) (narrow : W ≤ 8) (l : Lists) (typed : Typed l) where
       few w = simp (length-append, length-digits, length-numbers) (omega (arith, members-few w))
 
       byte : (w : ℕ) → Bytes (digits 1 (length (members w)) ++ writeAll (digits 1) (members w))
-      byte w = bytes-append (digits 1 (length (members w))) _ (digits-bytes 1 (length (members w))) (all-bytes (digits 1) (digits-bytes 1) (members w))
+      byte w =
+          bytes-append (digits 1 (length (members w))) _ (digits-bytes 1 (length (members w)))
+          (all-bytes (digits 1) (digits-bytes 1) (members w))
 
   most-test : (k : ℕ) → Most (testFields W l k) 10
   unfolding testFields entryField

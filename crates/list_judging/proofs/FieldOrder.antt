@@ -71,7 +71,7 @@ constant-read : (W : ℕ) → 1 ≤ W → (l : List ℕ) (k : ℕ) → All (λ x
 constant-read zero wide l k fits = absurd (omega arith)
 constant-read (suc w) wide l k fits = entry-read w l k fits
 
-module _ (W : ℕ) (wide : 1 ≤ W) (l : Lists) (typed : Typed l) (fit : All (λ x. x < 256 ^ W) (l .constants)) (timers : ℕ) where
+module _ (W : ℕ) (wide : 1 ≤ W) (l : Lists) (typed : Typed l) (constants-fit : All (λ x. x < 256 ^ W) (l .constants)) (timers : ℕ) where
   code-read : (i k : ℕ)
       → FieldsGive (entryField 1 (l .codes) k ∷ []) (readComparison i) (then (entryAt (l .codes) k) (λ code. orRefused 8 i (comparisonOf code)))
   unfolding readComparison
@@ -87,7 +87,7 @@ module _ (W : ℕ) (wide : 1 ≤ W) (l : Lists) (typed : Typed l) (fit : All (λ
       reads-then (entryField 1 (l .timers) k ∷ []) (below-read 0 (l .timers) k timers 6 i (typed .timers)) (λ j e.
       reads-regrouped (entryAt (l .codes) k) (λ code. orRefused 8 i (comparisonOf code)) _
       (reads-then (entryField 1 (l .codes) k ∷ []) (code-read i k) (λ x e.
-      reads-last _ (constant-read W wide (l .constants) k fit))))
+      reads-last _ (constant-read W wide (l .constants) k constants-fit))))
 
   tests-read : (i k g : ℕ) → FieldsGive (gather (λ t. testFields W l (k + t)) g) (readTests W timers i g) (testsFrom l timers i k g)
   unfolding readTests
@@ -145,7 +145,7 @@ sum-next [] i e = absurd (Option·none-ne-some _ e)
 sum-next (y ∷ l) zero e = omega (arith, Option·some-injective _ _ e)
 sum-next (y ∷ l) (suc i) e = omega (arith, sum-next l i e)
 
-module _ (W : ℕ) (wide : 1 ≤ W) (narrow : W ≤ 8) (l : Lists) (typed : Typed l) (fit : All (λ x. x < 256 ^ W) (l .constants))
+module _ (W : ℕ) (wide : 1 ≤ W) (narrow : W ≤ 8) (l : Lists) (typed : Typed l) (constants-fit : All (λ x. x < 256 ^ W) (l .constants))
     (locations timers : ℕ) where
   length-fits : (i : ℕ) → lengthAt W l i < 256 ^ 2
   unfolding lengthAt recordLength
@@ -177,7 +177,7 @@ module _ (W : ℕ) (wide : 1 ≤ W) (narrow : W ≤ 8) (l : Lists) (typed : Type
 
       tests : (g : ℕ) → getD (l .test-counts) i 0 ≡ g
           → FieldsGive (gather (λ t. testFields W l (k + t)) (getD (l .test-counts) i 0)) (readTests W timers i g) (testsFrom l timers i k g)
-      tests g f = rw f (tests-read W wide l typed fit timers i k g)
+      tests g f = rw f (tests-read W wide l typed constants-fit timers i k g)
 
   transitions-read : (n : ℕ) → FieldsGive (recordFields W l n) (readTransitions W locations timers n) (transitionsFrom l locations timers 0 0 n)
   unfolding recordFields readTransitions testsBefore sumOf
@@ -196,7 +196,7 @@ reads-known : {A : Type 0} {fs : List FieldBytes} {read : List ℕ → Parsed A}
 reads-known n p e h = rw e h
 
 module _ (W : ℕ) (wide : 1 ≤ W) (narrow : W ≤ 8) (m : Header) (l : Lists) (fits : TypedHeader m) (typed : Typed l)
-    (fit : All (λ x. x < 256 ^ W) (l .constants)) (known : knownVersion (m .version) ≡ true) where
+    (constants-fit : All (λ x. x < 256 ^ W) (l .constants)) (known : knownVersion (m .version) ≡ true) where
   chart-read : FieldsGive (headerFields m l ++ recordFields W l (m .transitions)) (λ bs. readChart (m .version) W bs) (fieldsFrom m l)
   unfolding headerFields readHeader fieldsFrom chartOf
   chart-read =
@@ -210,7 +210,7 @@ module _ (W : ℕ) (wide : 1 ≤ W) (narrow : W ≤ 8) (m : Header) (l : Lists) 
       (reads-then (upTo (entryField 2 (l .accepting)) (m .accepting))
       (accepting-read (m .locations) (l .accepting) (m .accepting) (typed .accepting)) (λ accepting e.
       limit-read 2 (m .transitions) (fits .transitions) 513 4 nowhere _
-      (reads-last _ (transitions-read W wide narrow l typed fit (m .locations) (m .timers) (m .transitions)))))))))))
+      (reads-last _ (transitions-read W wide narrow l typed constants-fit (m .locations) (m .timers) (m .transitions)))))))))))
 
   pub body-order : answered (readBody (m .version) W (bodyFrom W m l)) ≡ fieldsFrom m l
   unfolding bodyFrom bytesOf
@@ -236,7 +236,8 @@ unknown-refused : (m : Header) (l : Lists) → knownVersion (m .version) ≡ fal
 unfolding fieldsFrom
 unknown-refused m l e = rw e
 
-module _ (m : Header) (l : Lists) (fits : TypedHeader m) (typed : Typed l) (fit : All (λ x. x < 256 ^ widthOf (m .version)) (l .constants)) where
+module _ (m : Header) (l : Lists) (fits : TypedHeader m) (typed : Typed l)
+    (constants-fit : All (λ x. x < 256 ^ widthOf (m .version)) (l .constants)) where
   -- 2, then 3 to 8
   pub fields-order : chartIn (fileFrom m l) ≡ fieldsFrom m l
   unfolding chartIn readFile fileFrom readFrame judgeFrame
@@ -255,7 +256,7 @@ module _ (m : Header) (l : Lists) (fits : TypedHeader m) (typed : Typed l) (fit 
           → then (unless b 2 nowhere (result (record { version = m .version; body = bodyFrom (widthOf (m .version)) m l })))
           (λ (f : Versioned). answered (readBody (f .version) (widthOf (f .version)) (f .body)))
           ≡ fieldsFrom m l
-      go true e = body-order (widthOf (m .version)) (width-some (m .version)) (omega (arith, width-most (m .version))) m l fits typed fit e
+      go true e = body-order (widthOf (m .version)) (width-some (m .version)) (omega (arith, width-most (m .version))) m l fits typed constants-fit e
       go false e = sym (unknown-refused m l e)
 
   -- then 17, which a chart that was read does not meet
