@@ -7,8 +7,7 @@
  * the lowest that applies. place is 0 with a result, else the refusal's place: a location, timer, transition or step from 0, or CHART_NOWHERE where
  * there is no other. With a refusal the result's fields are 0 and lent memory holds what it held before.
  *
- * A chart file is of version 1 or 2, by its first byte: constants of tests have two bytes in version 1 and four in version 2. Every call takes both,
- * and the same chart gets the same answers in both.
+ * A chart file is of version 1 or 2, by its first byte: a test's constant has two bytes in version 1, four in version 2. Every call takes both.
  */
 #ifndef CHART_H
 #define CHART_H

@@ -201,8 +201,8 @@ impl Chart {
             }
             output.put([tests]);
             for test in self.tests(transition) {
-                output.put([timer(transition, test.timer), test.comparison as u8]);
-                output.put_constant(self.version, test.constant);
+                let timer = timer(transition, test.timer);
+                output.put_test(self.version, timer, test.comparison as u8, test.constant);
             }
         }
         debug_assert!(output.rest.is_empty());
@@ -227,15 +227,19 @@ impl<'a> Output<'a> {
         self.rest = rest;
     }
 
-    /// Puts a constant that the version allows.
+    /// Puts a test whose constant the version holds.
     #[inline]
-    pub(crate) fn put_constant(&mut self, version: Version, constant: u32) {
+    pub(crate) fn put_test(&mut self, version: Version, timer: u8, code: u8, constant: u32) {
         match version {
             Version::One => {
-                let short = u16::try_from(constant).expect("a constant of version 1 has two bytes");
-                self.put(short.to_be_bytes());
+                let constant = u16::try_from(constant).expect("a constant of version 1 has two bytes");
+                let [high, low] = constant.to_be_bytes();
+                self.put([timer, code, high, low]);
             }
-            Version::Two => self.put(constant.to_be_bytes()),
+            Version::Two => {
+                let [a, b, c, d] = constant.to_be_bytes();
+                self.put([timer, code, a, b, c, d]);
+            }
         }
     }
 }

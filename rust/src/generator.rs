@@ -568,6 +568,13 @@ impl Steps {
         self.transitions.push(transition);
         self.times.push(time);
     }
+
+    /// Keeps the steps before a random one.
+    pub fn cut(&mut self, random: &mut Random) {
+        let kept = random.below(self.times.len() as u64 + 1) as usize;
+        self.transitions.truncate(kept);
+        self.times.truncate(kept);
+    }
 }
 
 /// Steps that a chart takes from the initial location, as far as they are found: at most `most`, with waits of at most
@@ -626,7 +633,11 @@ pub fn run(random: &mut Random, drawing: &Drawing, most: usize, wait: u64, due: 
 pub fn lengthen(random: &mut Random, drawing: &Drawing, steps: &mut Steps) {
     let location = steps.transitions.last().map_or(drawing.initial, |&last| drawing.transitions[last as usize].target);
     let leaving = |&index: &u32| drawing.transitions[index as usize].source == location;
-    let choices: Vec<u32> = (0..drawing.transitions.len() as u32).filter(leaving).collect();
+    let mut choices: Vec<u32> = (0..drawing.transitions.len() as u32).filter(leaving).collect();
+    let tested = |&index: &u32| !drawing.transitions[index as usize].tests.is_empty();
+    if choices.iter().any(tested) && random.chance(3, 4) {
+        choices.retain(tested);
+    }
     if !choices.is_empty() {
         let transition = random.pick(&choices);
         let last = steps.times.last().copied().unwrap_or(0);
@@ -634,7 +645,7 @@ pub fn lengthen(random: &mut Random, drawing: &Drawing, steps: &mut Steps) {
         let early = last.saturating_sub(1);
         let mut time = random.pick(&[last, last, last + 1, last + 2, last + 5, last + 100, early, most + 1]);
         let tests = &drawing.transitions[transition as usize].tests;
-        if !tests.is_empty() && random.chance(1, 2) {
+        if !tests.is_empty() && random.chance(2, 3) {
             // A tick before, at or after the one at which the count is the constant, as near as a step may be.
             let (timer, _, constant) = random.pick(tests);
             let due = last_start(drawing, steps, timer) + u64::from(constant) + random.below(3);

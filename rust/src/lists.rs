@@ -180,8 +180,7 @@ fn put_file(version: Version, header: &Header, lists: &Lists, file: &mut [u8]) {
         }
         output.put([count]);
         for test in next..next + usize::from(count) {
-            output.put([lists.timers[test], lists.codes[test]]);
-            output.put_constant(version, lists.constants[test]);
+            output.put_test(version, lists.timers[test], lists.codes[test], lists.constants[test]);
         }
         next += usize::from(count);
     }

@@ -13,7 +13,7 @@ use std::path::{Path, PathBuf};
 use std::process::{exit, Command, Stdio};
 
 use timing_chart::analysis::{self, Analysis};
-use timing_chart::chart::Chart;
+use timing_chart::chart::{Chart, Comparison, Test};
 use timing_chart::drawing::*;
 use timing_chart::generator::*;
 use timing_chart::limits::{
@@ -101,40 +101,64 @@ struct Versions {
     rewritten: [u64; Version::ALL.len()],
     /// Good files of one version that are good files of the other too.
     relabelled: u64,
-    /// Steps taken that have a test with a long constant, and steps refused by such a test.
-    long_met: u64,
-    long_not_met: u64,
+    /// Steps with tests that [ask for a long count](asks_for_long): taken, and refused since the count was not.
+    long: u64,
+    too_short: u64,
+    /// Steps with tests that [allow a long count](allows_long): taken, and refused since the count was longer.
+    within: u64,
+    too_long: u64,
 }
 
-/// Whether a constant is one that version 1 does not hold.
-fn is_long(constant: u32) -> bool {
-    constant > LARGEST_CONSTANT_VERSION_1
+/// Whether a test asks for a count that has come to a constant which version 1 does not hold.
+fn asks_for_long(test: &Test) -> bool {
+    is_long(test) && matches!(test.comparison, Comparison::AtLeast | Comparison::Above | Comparison::Equal)
+}
+
+/// Whether a test asks for a count that has not gone beyond such a constant.
+fn allows_long(test: &Test) -> bool {
+    is_long(test) && matches!(test.comparison, Comparison::AtMost | Comparison::Below)
+}
+
+fn is_long(test: &Test) -> bool {
+    test.constant > LARGEST_CONSTANT_VERSION_1
 }
 
 impl Versions {
-    /// Counts the tests of the steps that were tried: those taken and, if the next one was refused by a test, that one.
-    fn count_steps(&mut self, chart: &Chart, taken: &[u32], refused: Option<u32>) {
-        let tests = |transition: u32| chart.tests(&chart.transitions()[transition as usize]);
-        let has_long = |&&transition: &&u32| tests(transition).iter().any(|test| is_long(test.constant));
-        self.long_met += taken.iter().filter(has_long).count() as u64;
-        // Which test was not met is not told: it has a long constant for sure if all have.
-        let all_long = |transition: u32| tests(transition).iter().all(|test| is_long(test.constant));
-        self.long_not_met += u64::from(refused.is_some_and(all_long));
+    /// Counts the steps that were tried: so many were taken and, if `refused`, the next one was refused by a test.
+    fn count_steps(&mut self, chart: &Chart, steps: &Steps, taken: usize, refused: bool) {
+        let transition = |step: usize| &chart.transitions()[steps.transitions[step] as usize];
+        for step in 0..taken {
+            let tests = chart.tests(transition(step));
+            self.long += u64::from(tests.iter().any(asks_for_long));
+            self.within += u64::from(tests.iter().any(allows_long));
+        }
+        if refused {
+            let not_met = |test: &&Test| {
+                // A timer is only tested once it was started.
+                let start = (0..taken).rev().find(|&step| transition(step).starts.has(test.timer));
+                let count = steps.times[taken] - start.map_or(0, |step| steps.times[step]);
+                !test.comparison.met(count as u32, test.constant)
+            };
+            let tests: Vec<&Test> = chart.tests(transition(taken)).iter().filter(not_met).collect();
+            self.too_short += u64::from(tests.iter().any(|test| asks_for_long(test)));
+            self.too_long += u64::from(tests.iter().any(|test| allows_long(test)));
+        }
     }
 
     /// Whether each came.
     fn all_came(&self) -> bool {
-        let others = [self.relabelled, self.long_met, self.long_not_met];
+        let others = [self.relabelled, self.long, self.too_short, self.within, self.too_long];
         self.analysed.iter().chain(&self.rewritten).chain(&others).all(|&count| count > 0)
     }
 }
 
 impl Display for Versions {
     fn fmt(&self, f: &mut Formatter<'_>) -> std::fmt::Result {
-        let Versions { analysed, rewritten, relabelled, long_met, long_not_met } = self;
+        let Versions { analysed, rewritten, relabelled, long, too_short, within, too_long } = self;
+        let most = LARGEST_CONSTANT_VERSION_1;
         write!(f, "by version: analysed {analysed:?}, rewritten {rewritten:?}; good under either: {relabelled}; ")?;
-        write!(f, "steps with constants over {LARGEST_CONSTANT_VERSION_1} taken: {long_met}, ")?;
-        write!(f, "refused by one: {long_not_met}")
+        write!(f, "steps with tests for a count over {most}, taken: {long}, refused, too short: {too_short}; ")?;
+        write!(f, "with tests for no more than a constant over {most}, taken: {within}, refused, too long: {too_long}")
     }
 }
 
@@ -233,8 +257,7 @@ impl Trial {
         };
         self.tally.steps_taken += taken as u64;
         if let Ok(chart) = Chart::read(file) {
-            let refused = (number_of(&answer) == 24).then(|| steps.transitions[taken]);
-            self.tally.versions.count_steps(&chart, &steps.transitions[..taken], refused);
+            self.tally.versions.count_steps(&chart, steps, taken, number_of(&answer) == 24);
         }
         answer
     }
@@ -288,6 +311,9 @@ impl Trial {
                     let wait = self.random.pick(&[0, 2, 20, 70_000, 1 << 20]);
                     let mut steps = run(&mut self.random, drawing, most_steps, wait, true);
                     if self.random.chance(1, 2) {
+                        if self.random.chance(1, 2) {
+                            steps.cut(&mut self.random);
+                        }
                         lengthen(&mut self.random, drawing, &mut steps);
                     }
                     if self.random.chance(1, 8) {
