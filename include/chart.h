@@ -6,6 +6,8 @@
  * Every answer has a number: CHART_NO_REFUSAL where there is a result, else that of a refusal (chart_refusal), in the order of the reading and then
  * the lowest that applies. place is 0 with a result, else the refusal's place: a location, timer, transition or step from 0, or CHART_NOWHERE where
  * there is no other. With a refusal the result's fields are 0 and lent memory holds what it held before.
+ *
+ * A chart file is of version 1 or 2, by its first byte: a test's constant has two bytes in version 1, four in version 2. Every call takes both.
  */
 #ifndef CHART_H
 #define CHART_H
@@ -19,8 +21,8 @@
 #define CHART_MOST_TRANSITIONS 512
 #define CHART_MOST_TESTS 8 /* of one transition */
 
-/* The bytes of the largest chart file. */
-#define CHART_LARGEST_FILE 54286
+/* The bytes of the largest chart file: one of version 2. */
+#define CHART_LARGEST_FILE 62478
 
 /* The most families for which the floor is found by search. */
 #define CHART_MOST_SEARCHED 20
@@ -41,7 +43,7 @@ typedef enum chart_refusal {
 
     /* turned down because of the input */
     CHART_REFUSED_WRONG_LENGTH = 1,        /* fewer than 5 bytes, or a wrong length in the file's head */
-    CHART_REFUSED_WRONG_VERSION = 2,       /* a version other than 1 */
+    CHART_REFUSED_WRONG_VERSION = 2,       /* a version other than 1 and 2 */
     CHART_REFUSED_CUT_OFF = 3,             /* a field cut off, bytes left over, or a wrong record length */
     CHART_REFUSED_TOO_MANY = 4,            /* no location, or more of something than its limit above */
     CHART_REFUSED_NO_SUCH_LOCATION = 5,    /* a location number not below the number of locations */
@@ -56,6 +58,7 @@ typedef enum chart_refusal {
     CHART_REFUSED_NO_SUCH_TRANSITION = 14, /* a step names no transition */
     CHART_REFUSED_TIME_TOO_LARGE = 15,     /* a step's time is over CHART_MOST_TICKS */
     CHART_REFUSED_INPUT_TOO_LONG = 16,     /* by the program `allocate` alone: its input is over 65536 bytes */
+    CHART_REFUSED_CONSTANT_TOO_WIDE = 17,  /* by no call below: a constant over 65535 that is to be written as version 1 */
 
     /* turned down because of the state */
     CHART_REFUSED_BOARD_TOO_SMALL = 20,    /* K timers do not suffice */
@@ -128,7 +131,7 @@ CHART_ASSERT(sizeof(chart_playing) == 40, "chart_playing");
  * Refusals: 1 to 10, 21. */
 chart_analysis chart_analyse(const uint8_t *file, size_t file_length, uint64_t *live, size_t live_length);
 
-/* Rewrites a chart file for a board of k timers. Writes the new file into out.
+/* Rewrites a chart file for a board of k timers. Writes the new file, which has the version of the file read, into out.
  * out needs the new file's length, CHART_LARGEST_FILE bytes are always enough; bytes beyond it are untouched.
  * Refusals: 1 to 11, 20, 21. */
 chart_rewriting chart_rewrite(const uint8_t *file, size_t file_length, uint32_t k, uint8_t *out, size_t out_length);

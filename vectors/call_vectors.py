@@ -10,20 +10,20 @@ Lent memory is filled with bytes 170 (hex aa) before each call.
 """
 
 AT_MOST, BELOW, AT_LEAST, ABOVE, EQUAL = range(5)
+WIDTH_OF_CONSTANTS = {1: 2, 2: 4}
 ANALYSE, REWRITE, PLAY = [], [], []
 
 
-def chart(locations, timers, arrows, initial=0, accepting=None):
-    """A version 1 file. An arrow: source, target, started timers, tests (timer, code, constant), event if not 0. The last location accepts unless
-    said."""
+def chart(locations, timers, arrows, initial=0, accepting=None, version=1):
+    """A file. An arrow: source, target, started timers, tests (timer, code, constant), event if not 0. The last location accepts unless said."""
     accepting = [locations - 1] if accepting is None else accepting
     n = lambda v, w: v.to_bytes(w, 'big')
     body = n(locations, 2) + n(initial, 2) + n(timers, 1) + n(len(accepting), 2) + b''.join(n(q, 2) for q in accepting) + n(len(arrows), 2)
     for source, target, starts, tests, *event in arrows:
         record = n(source, 2) + n(target, 2) + n(sum(event), 1) + n(len(starts), 1) + bytes(starts) + n(len(tests), 1)
-        record += b''.join(n(j, 1) + n(code, 1) + n(k, 2) for j, code, k in tests)
+        record += b''.join(n(j, 1) + n(code, 1) + n(k, WIDTH_OF_CONSTANTS[version]) for j, code, k in tests)
         body += n(len(record), 2) + record
-    return n(1, 1) + n(len(body), 4) + body
+    return n(version, 1) + n(len(body), 4) + body
 
 
 # ---- the charts of document 01
@@ -31,12 +31,19 @@ A = chart(7, 3, [(0, 1, [0], []), (1, 2, [1], []), (2, 3, [2], [(0, AT_LEAST, 3)
                  (3, 5, [], [(1, BELOW, 9)]), (4, 5, [], [(0, EQUAL, 4)]), (5, 6, [], [(2, ABOVE, 2)])])
 B = chart(4, 2, [(0, 1, [0], []), (1, 2, [1], [(0, AT_MOST, 2)]), (2, 3, [], [(1, AT_LEAST, 1)])])
 B_BOARD = chart(4, 1, [(0, 1, [0], []), (1, 2, [0], [(0, AT_MOST, 2)]), (2, 3, [], [(0, AT_LEAST, 1)])])
+B_2 = bytes.fromhex('02 00000034 0004 0000 02 0001 0003 0003 0008 0000 0001 00 01 00 00'
+                    '000e 0001 0002 00 01 01 01 00 00 00000002 000d 0002 0003 00 00 01 01 02 00000001')
+B_2_BOARD = bytes.fromhex('02 00000034 0004 0000 01 0001 0003 0003 0008 0000 0001 00 01 00 00'
+                          '000e 0001 0002 00 01 00 01 00 00 00000002 000d 0002 0003 00 00 01 00 02 00000001')
+# B as version 1 but for the version byte
+B_RELABELLED = b'\x02' + B[1:]
 C = chart(6, 2, [(0, 1, [1], []), (1, 2, [0], []), (2, 3, [], [(0, AT_LEAST, 1)]), (3, 4, [0], [(1, AT_MOST, 9)]), (4, 5, [], [(0, AT_LEAST, 2)])])
 C_BOARD = chart(6, 2, [(0, 1, [0], []), (1, 2, [1], []), (2, 3, [], [(1, AT_LEAST, 1)]), (3, 4, [0], [(0, AT_MOST, 9)]), (4, 5, [], [(0, AT_LEAST, 2)])])
 SELF_LOOP = chart(1, 1, [(0, 0, [0], [])])
 SELF_LOOP_BOARD = chart(1, 0, [(0, 0, [], [])])
 NEVER_STARTED = chart(2, 1, [(0, 0, [0], []), (0, 1, [], [(0, AT_LEAST, 0)])])
 SMALL = bytes.fromhex('0100000009000100000000000000')
+SMALL_2 = bytes.fromhex('0200000009000100000000000000')
 # Fig. 1 of paper 003 as its text determines it: r1 to r7 are transitions 0 to 6, l0 to l6 locations 0 to 6
 FIG_1 = chart(7, 3, [(0, 1, [0], []), (1, 2, [1], [(0, AT_LEAST, 1)]), (2, 3, [2], []), (2, 4, [2], []),
                      (3, 5, [], [(1, AT_MOST, 9)]), (4, 5, [], [(0, AT_MOST, 9)]), (5, 6, [], [(2, AT_MOST, 9)])])
@@ -50,6 +57,13 @@ OVER_64 = chart(6, 64, [(0, 1, EVERY, []), (1, 2, [1], []), (1, 3, [0], [(0, AT_
                 + [(3, 5, [], [(j, AT_MOST, 1) for j in range(k, min(k + 8, 64))]) for k in range(1, 64, 8)]
                 + [(4, 5, [], [(0, AT_MOST, 1), (1, AT_MOST, 1)])])
 ALL = 2 ** 64 - 1
+
+
+# ---- long dwell times (document 02, P2)
+def dwell(*tests):
+    """A version 2 file: 0→1 starts 0; then for each test of timer 0, a code and a constant, a transition 1→2."""
+    return chart(3, 1, [(0, 1, [0], [])] + [(1, 2, [], [(0, code, k)]) for code, k in tests], version=2)
+
 
 # ---- floors (document 02, P1)
 # Families 128, 130, 192 and 193 get 0, 1, 0 and 2. The third meets the fourth, the fourth the second, the second the first: two timers would do.
@@ -92,6 +106,11 @@ analyse('one location, 0→0 starting timer 0', SELF_LOOP, 1, ['used 0 floor 0 s
 analyse('a test that no path starts', NEVER_STARTED, 2, 'refused 10 1 changed 0')
 analyse('10 comes before 21', NEVER_STARTED, 0, 'refused 10 1 changed 0')
 analyse('the chart of one location', SMALL, 1, ['used 0 floor 0 searched 1 beyond 0', 'live 0'])
+analyse('the chart of one location as version 2', SMALL_2, 1, ['used 0 floor 0 searched 1 beyond 0', 'live 0'])
+analyse('version 3', b'\x03' + SMALL[1:], 1, 'refused 2 65535 changed 0')
+analyse('B as version 2', B_2, 4, ['used 1 floor 1 searched 1 beyond 0', 'live 0 1 2 0'])
+analyse('B, first byte 2', B_RELABELLED, 4, 'refused 3 65535 changed 0')
+analyse('the largest constant', dwell((AT_MOST, 4294967295)), 3, ['used 1 floor 1 searched 1 beyond 0', 'live 0 1 0'])
 analyse('one byte fewer', SMALL[:-1], 1, 'refused 1 65535 changed 0')
 analyse('Fig. 1 of paper 003: active(r2) = {0,1}, active(r3) = {1,2}, active(r4) = {0,2}, active(r5) = active(r6) = {2}', FIG_1, 7,
         ['used 3 floor 3 searched 1 beyond 0', 'live 0 1 3 6 5 4 0'])
@@ -133,6 +152,13 @@ rewrite('B with K = 16', B, 16, 65536, rewritten(1, B_BOARD, 65536))
 rewrite('B with K = 1, room for exactly the file', B, 1, len(B_BOARD), rewritten(1, B_BOARD, len(B_BOARD)))
 rewrite('B, one byte too short', B, 1, len(B_BOARD) - 1, 'refused 21 65535 changed 0')
 rewrite('B with K = 0', B, 0, 65536, 'refused 20 65535 changed 0')
+rewrite('B as version 2 with K = 16', B_2, 16, 65536, rewritten(1, B_2_BOARD, 65536))
+rewrite('B as version 2, room for exactly the file', B_2, 16, 57, rewritten(1, B_2_BOARD, 57))
+for room in (56, 53):
+    rewrite('B as version 2, room for %d bytes' % room, B_2, 16, room, 'refused 21 65535 changed 0')
+rewrite('B as version 2 with K = 0', B_2, 0, 65536, 'refused 20 65535 changed 0')
+rewrite('B, first byte 2', B_RELABELLED, 16, 65536, 'refused 3 65535 changed 0')
+rewrite('B, first byte 3', b'\x03' + B[1:], 16, 65536, 'refused 2 65535 changed 0')
 rewrite('C with K = 2', C, 2, 65536, rewritten(2, C_BOARD, 65536))
 rewrite('C with K = 1', C, 1, 65536, 'refused 20 65535 changed 0')
 rewrite('the start is gone, K = 0 suffices', SELF_LOOP, 0, 65536, rewritten(0, SELF_LOOP_BOARD, 65536))
@@ -145,6 +171,7 @@ rewrite('used 65 does not fit 64', OVER_64, 64, 65536, 'refused 20 65535 changed
 rewrite('2 timers would do, but not for first fit', D, 2, 65536, 'refused 20 65535 changed 0')
 rewrite('first fit for 3 timers', D, 3, 65536, rewritten(3, D_BOARD, 65536))
 rewrite('the chart of one location', SMALL, 0, 14, rewritten(0, SMALL, 14))
+rewrite('the chart of one location as version 2', SMALL_2, 0, 14, rewritten(0, SMALL_2, 14))
 rewrite('a file cut', B[:-1], 16, 65536, 'refused 1 65535 changed 0')
 
 # Events are kept. Timer 0 is live nowhere; timer 2 is live at location 1 and has number 0 there; timer 1 is started where it is not live.
@@ -159,6 +186,11 @@ rewrite('events 200, 0 and 128, two timers with one another\'s numbers',
                                    '0011 0002 0002 80 02 00 01 02 01 00 0005 00 04 0006'), 65536))
 rewrite('event 255 of a transition that loses its start', chart(1, 1, [(0, 0, [0], [], 255)]), 0, 65536,
         rewritten(0, bytes.fromhex('01 00000014 0001 0000 00 0001 0000 0001 0007 0000 0000 ff 00 00'), 65536))
+# Timer 0 is live nowhere; timer 1 is live at location 1 and has number 0 there; the constants stay.
+rewrite('constants 65,537 and 4,294,967,295',
+        chart(3, 2, [(0, 1, [0, 1], []), (1, 2, [0], [(1, AT_LEAST, 65537), (1, EQUAL, 4294967295)], 7)], version=2), 1, 65536,
+        rewritten(1, bytes.fromhex('02 0000002a 0003 0000 01 0001 0002 0002 0008 0000 0001 00 01 00 00'
+                                   '0013 0001 0002 07 00 02 00 02 00010001 00 04 ffffffff'), 65536))
 
 
 # counts, then steps (transition, time); or a list of transitions and one of times of its own; `repeat` steps of transition 0 at time 0 come first
@@ -168,7 +200,8 @@ def play(comment, file, counts, steps, line, transitions=None, times=None, repea
 
 
 MOST = 16777215
-for name, file, zero, full in [('drawn', B, [0, 0], [MOST, MOST]), ('rewritten', B_BOARD, [0], [MOST])]:
+for name, file, zero, full in [('drawn', B, [0, 0], [MOST, MOST]), ('rewritten', B_BOARD, [0], [MOST]),
+                               ('drawn, version 2', B_2, [0, 0], [MOST, MOST]), ('rewritten, version 2', B_2_BOARD, [0], [MOST])]:
     for counts in (zero, full):
         play('B %s: 0, 1, 2 at 5, 7, 8' % name, file, counts, [(0, 5), (1, 7), (2, 8)], 'location 3 time 8 accepting 1')
         play('B %s: 0, 1 at 5, 8' % name, file, counts, [(0, 5), (1, 8)], 'refused 24 1 changed 0')
@@ -197,3 +230,18 @@ play('A by 2→3: 0 at least 3, 1 below 9, 2 above 2', A, [9, 9, 9], [(0, 1), (1
 play('A by 2→4: 1 at most 7, 0 equal 4, 2 above 2', A, [0, 0, 0], [(0, 1), (1, 2), (3, 3), (5, 5), (6, 6)], 'location 6 time 6 accepting 1')
 play('A: 0 equal 4 is not met at 5', A, [0, 0, 0], [(0, 1), (1, 2), (3, 3), (5, 6)], 'refused 24 3 changed 0')
 play('70,000 steps, then one that names no transition', SELF_LOOP, [0], [(0, 0), (1, 0)], 'refused 14 70000 changed 0', repeat=70000)
+
+# Constants over 65,535 are compared as they are
+play('B, first byte 2', B_RELABELLED, [0, 0], [(0, 5), (1, 7), (2, 8)], 'refused 3 65535 changed 0')
+play('at least 65,537, after 65,536 ticks', dwell((AT_LEAST, 65537)), [0], [(0, 10), (1, 65546)], 'refused 24 1 changed 0')
+play('at least 65,537, after 65,537 ticks', dwell((AT_LEAST, 65537)), [0], [(0, 10), (1, 65547)], 'location 2 time 65547 accepting 1')
+for constant in (33554431, 2147483648, 4294967295):
+    play('at least %d is never met' % constant, dwell((AT_LEAST, constant)), [MOST], [(0, 0), (1, MOST)], 'refused 24 1 changed 0')
+    play('at most %d is always met' % constant, dwell((AT_MOST, constant)), [MOST], [(0, 0), (1, MOST)], 'location 2 time 16777215 accepting 1')
+play('equal 0, after 65,536 ticks', dwell((EQUAL, 0)), [0], [(0, 0), (1, 65536)], 'refused 24 1 changed 0')
+play('equal 0, after none', dwell((EQUAL, 0)), [0], [(0, 0), (1, 0)], 'location 2 time 0 accepting 1')
+AROUND_65536 = dwell((AT_MOST, 65536), (BELOW, 65536), (AT_LEAST, 65536), (ABOVE, 65536), (EQUAL, 65536))
+for ticks, met in (0, (1, 2)), (65535, (1, 2)), (65536, (1, 3, 5)), (65537, (3, 4)):
+    for r in range(1, 6):
+        play('transition %d of five around 65,536, after %d ticks' % (r, ticks), AROUND_65536, [0], [(0, 0), (r, ticks)],
+             'location 2 time %d accepting 1' % ticks if r in met else 'refused 24 1 changed 0')

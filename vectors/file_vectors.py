@@ -1,4 +1,4 @@
-"""Vectors for the reader and the writer of chart files. The expected lines are written from document 01, not taken from a run.
+"""Vectors for the reader and the writer of chart files. The expected lines are written from documents 01 and 02, not taken from a run.
 
 Each read vector: a comment, the nine lists' lengths (or LARGEST), the file's bytes, the expected lines. Each write vector: a comment, the header,
 the nine lists, the room, the expected lines. Each count vector: a comment, three positions, what stands at the front of the nine lists, the expected
@@ -7,7 +7,7 @@ lines. `vectors/make` turns them into input and expected output of crates/vector
 What the program prints:
   a refusal:  refused N P changed C        C: entries of lent lists, or bytes of the lent buffer, that are not as they were
   a count:    changed C                    the same count of given lists: of accepting locations, of transitions, of tests, each from its position on
-  a chart:    locations L initial Q timers T accepting N E E .. transitions M beyond C
+  a chart:    version V locations L initial Q timers T accepting N E E .. transitions M beyond C
               S>T event E starts W tests G J:C:K ..     for transitions 0 to 3 and the last one (of accepting locations likewise 0 to 3 and the last)
               written LEN HEX next HH                   the same chart written again: the bytes (the last 8 if over 64), and the byte after them
 Lent lists and buffers are filled with bytes 170 (hex aa) before each call.
@@ -41,16 +41,21 @@ def written(data):
 # ---- 1 and 2: the frame
 SMALL = h('01 00000009 0001 0000 00 0000 0000')
 read('a chart of one location, nothing else', SMALL,
-     ['locations 1 initial 0 timers 0 accepting 0 transitions 0 beyond 0', 'written 14 0100000009000100000000000000 next aa'])
+     ['version 1 locations 1 initial 0 timers 0 accepting 0 transitions 0 beyond 0', 'written 14 0100000009000100000000000000 next aa'])
 read('one byte fewer', SMALL[:-1], 'refused 1 65535 changed 0')
 read('one byte more, the length as it was', SMALL + h('00'), 'refused 1 65535 changed 0')
 read('no byte at all', b'', 'refused 1 65535 changed 0')
 read('four bytes', h('01 000000'), 'refused 1 65535 changed 0')
 read('five bytes: the locations are cut', h('01 00000000'), 'refused 3 65535 changed 0')
-read('version 2', h('02 00000009 0001 0000 00 0000 0000'), 'refused 2 65535 changed 0')
-read('version 0', h('00 00000009 0001 0000 00 0000 0000'), 'refused 2 65535 changed 0')
-read('version 2 with a wrong length: the length is judged first', h('02 00000008 0001 0000 00 0000 0000'), 'refused 1 65535 changed 0')
-read('version 2, four bytes', h('02 000000'), 'refused 1 65535 changed 0')
+read('the same as version 2', h('02 00000009 0001 0000 00 0000 0000'),
+     ['version 2 locations 1 initial 0 timers 0 accepting 0 transitions 0 beyond 0', 'written 14 0200000009000100000000000000 next aa'])
+for version in (0, 3, 255):
+    read('version %d' % version, framed(SMALL[5:], version), 'refused 2 65535 changed 0')
+read('version 3 with a wrong length: the length is judged first', h('03 00000008 0001 0000 00 0000 0000'), 'refused 1 65535 changed 0')
+read('version 3, four bytes', h('03 000000'), 'refused 1 65535 changed 0')
+read('version 3, five bytes: the version comes before the locations', h('03 00000000'), 'refused 2 65535 changed 0')
+read('version 2 with a wrong length', h('02 00000008 0001 0000 00 0000 0000'), 'refused 1 65535 changed 0')
+read('version 2, five bytes', h('02 00000000'), 'refused 3 65535 changed 0')
 read('the length is right in its low bytes only', h('01 01000009 0001 0000 00 0000 0000'), 'refused 1 65535 changed 0')
 read('the length counts the frame too', h('01 0000000e 0001 0000 00 0000 0000'), 'refused 1 65535 changed 0')
 
@@ -59,7 +64,7 @@ HEAD = h('0002 0000 01 0001 0001 0001')
 RECORD = h('000c 0000 0001 00 01 00 01 00 02 0003')
 FULL = HEAD + RECORD
 read('the whole', framed(FULL),
-     ['locations 2 initial 0 timers 1 accepting 1 1 transitions 1 beyond 0',
+     ['version 1 locations 2 initial 0 timers 1 accepting 1 1 transitions 1 beyond 0',
       '0>1 event 0 starts 1 tests 1 0:2:3',
       'written 30 010000001900020000010001000100' + '01000c0000000100010001000200' + '03 next aa'])
 for cut in range(len(FULL)):
@@ -73,26 +78,26 @@ read('a code over 4 before a byte that remains', framed(HEAD + h('000c 0000 0001
 # ---- 4: limits
 read('no location', framed(h('0000 0000 00 0000 0000')), 'refused 4 65535 changed 0')
 read('256 locations', framed(h('0100 00ff 00 0000 0000')),
-     ['locations 256 initial 255 timers 0 accepting 0 transitions 0 beyond 0', 'written 14 0100000009010000ff0000000000 next aa'])
+     ['version 1 locations 256 initial 255 timers 0 accepting 0 transitions 0 beyond 0', 'written 14 0100000009010000ff0000000000 next aa'])
 read('257 locations', framed(h('0101 0000 00 0000 0000')), 'refused 4 65535 changed 0')
 read('64 timers', framed(h('0001 0000 40 0000 0000')),
-     ['locations 1 initial 0 timers 64 accepting 0 transitions 0 beyond 0', 'written 14 0100000009000100004000000000 next aa'])
+     ['version 1 locations 1 initial 0 timers 64 accepting 0 transitions 0 beyond 0', 'written 14 0100000009000100004000000000 next aa'])
 read('65 timers', framed(h('0001 0000 41 0000 0000')), 'refused 4 65535 changed 0')
 EMPTY_RECORD = h('0007 0000 0000 00 00 00')
 read('512 transitions', framed(h('0001 0000 00 0000 0200') + EMPTY_RECORD * 512),
-     ['locations 1 initial 0 timers 0 accepting 0 transitions 512 beyond 0'] + ['0>0 event 0 starts 0 tests 0'] * 5
+     ['version 1 locations 1 initial 0 timers 0 accepting 0 transitions 512 beyond 0'] + ['0>0 event 0 starts 0 tests 0'] * 5
      + ['written 4622 0700000000000000 next aa'])
 read('513 transitions, refused at their count', framed(h('0001 0000 00 0000 0201') + EMPTY_RECORD * 513), 'refused 4 65535 changed 0')
 read('513 transitions, none of them there', framed(h('0001 0000 00 0000 0201')), 'refused 4 65535 changed 0')
 ALL_STARTS = bytes(range(64))
 read('64 starts', framed(h('0001 0000 40 0000 0001 0047 0000 0000 00 40') + ALL_STARTS + h('00')),
-     ['locations 1 initial 0 timers 64 accepting 0 transitions 1 beyond 0', '0>0 event 0 starts 18446744073709551615 tests 0',
+     ['version 1 locations 1 initial 0 timers 64 accepting 0 transitions 1 beyond 0', '0>0 event 0 starts 18446744073709551615 tests 0',
       'written 87 393a3b3c3d3e3f00 next aa'])
 read('65 starts, at transition 1', framed(h('0001 0000 40 0000 0002') + EMPTY_RECORD + h('0048 0000 0000 00 41') + ALL_STARTS + h('40 00')),
      'refused 4 1 changed 0')
 TEST = h('00 00 0001')
 read('8 tests', framed(h('0001 0000 01 0000 0001 0027 0000 0000 00 00 08') + TEST * 8),
-     ['locations 1 initial 0 timers 1 accepting 0 transitions 1 beyond 0',
+     ['version 1 locations 1 initial 0 timers 1 accepting 0 transitions 1 beyond 0',
       '0>0 event 0 starts 0 tests 8 0:0:1 0:0:1 0:0:1 0:0:1 0:0:1 0:0:1 0:0:1 0:0:1',
       'written 55 01000000320001000001000000010027000000000000080000000100000001000000010000000100000001000000010000000100000001 next aa'])
 read('9 tests and the right length', framed(h('0001 0000 01 0000 0001 002b 0000 0000 00 00 09') + TEST * 9), 'refused 4 0 changed 0')
@@ -127,7 +132,8 @@ read('starts falling, at transition 1', framed(h('0001 0000 02 0000 0002') + EMP
 
 # ---- 8: comparison codes
 read('codes 0 to 4', framed(h('0001 0000 01 0000 0001 001b 0000 0000 ff 00 05 00 00 0000 00 01 0001 00 02 00ff 00 03 0100 00 04 ffff')),
-     ['locations 1 initial 0 timers 1 accepting 0 transitions 1 beyond 0', '0>0 event 255 starts 0 tests 5 0:0:0 0:1:1 0:2:255 0:3:256 0:4:65535',
+     ['version 1 locations 1 initial 0 timers 1 accepting 0 transitions 1 beyond 0',
+      '0>0 event 255 starts 0 tests 5 0:0:0 0:1:1 0:2:255 0:3:256 0:4:65535',
       'written 43 010000002600010000010000' + '0001001b00000000ff00050000000000010001000200ff000301000004ffff next aa'])
 read('code 5', framed(h('0001 0000 01 0000 0001 000b 0000 0000 00 00 01 00 05 0000')), 'refused 8 0 changed 0')
 read('code 255', framed(h('0001 0000 01 0000 0001 000b 0000 0000 00 00 01 00 ff 0000')), 'refused 8 0 changed 0')
@@ -135,26 +141,37 @@ read('an early 8 before a late 6', framed(h('0001 0000 01 0000 0002 000b 0000 00
 read('an early 6 before a late 8', framed(h('0001 0000 01 0000 0002 0008 0000 0000 00 01 01 00 000b 0000 0000 00 00 01 00 05 0000')), 'refused 6 0 changed 0')
 read('an early 8 before a cut', framed(h('0001 0000 01 0000 0002 000b 0000 0000 00 00 01 00 05 0000 0008')), 'refused 8 0 changed 0')
 
-# ---- the largest file
-BIG_RECORD = h('0067 00ff 00fe 07 40') + ALL_STARTS + h('08') + h('3f 04 ffff') * 8
-BIG = framed(h('0100 00ff 40 0100') + b''.join(i.to_bytes(2, 'big') for i in range(256)) + h('0200') + BIG_RECORD * 512)
-assert len(BIG) == 54286
-BIG_LINE = '255>254 event 7 starts 18446744073709551615 tests 8' + ' 63:4:65535' * 8
-read('the largest file, 54,286 bytes', BIG,
-     ['locations 256 initial 255 timers 64 accepting 256 0 1 2 3 255 transitions 512 beyond 0'] + [BIG_LINE] * 5 + ['written 54286 3f04ffff3f04ffff next aa'])
-read('the largest file and one byte', framed(BIG[5:] + h('00')), 'refused 3 65535 changed 0')
+# ---- the largest files
+BIG_HEAD = h('0100 00ff 40 0100') + b''.join(i.to_bytes(2, 'big') for i in range(256)) + h('0200')
+BIG_1 = framed(BIG_HEAD + (h('0067 00ff 00fe 07 40') + ALL_STARTS + h('08') + h('3f 04 ffff') * 8) * 512)
+BIG_2 = framed(BIG_HEAD + (h('0077 00ff 00fe 07 40') + ALL_STARTS + h('08') + h('3f 04 ffffffff') * 8) * 512, 2)
+assert (len(BIG_1), len(BIG_2)) == (54286, 62478)
+for version, file, constant, end in (1, BIG_1, 65535, '54286 3f04ffff3f04ffff'), (2, BIG_2, 4294967295, '62478 ffff3f04ffffffff'):
+    read('the largest file of version %d' % version, file,
+         ['version %d locations 256 initial 255 timers 64 accepting 256 0 1 2 3 255 transitions 512 beyond 0' % version]
+         + ['255>254 event 7 starts 18446744073709551615 tests 8' + (' 63:4:%d' % constant) * 8] * 5 + ['written %s next aa' % end])
+read('the largest file and one byte', framed(BIG_2[5:] + h('00'), 2), 'refused 3 65535 changed 0')
 
 # ---- events: any byte, kept
 EVENTS = framed(h('0002 0000 00 0001 0001 0004 0007 0000 0001 07 00 00 0007 0001 0000 ff 00 00 0007 0001 0001 01 00 00 0007 0000 0000 80 00 00'))
+EVENT_LINES = ['0>1 event 7 starts 0 tests 0', '1>0 event 255 starts 0 tests 0', '1>1 event 1 starts 0 tests 0', '0>0 event 128 starts 0 tests 0']
 read('events 7, 255, 1 and 128', EVENTS,
-     ['locations 2 initial 0 timers 0 accepting 1 1 transitions 4 beyond 0', '0>1 event 7 starts 0 tests 0', '1>0 event 255 starts 0 tests 0',
-      '1>1 event 1 starts 0 tests 0', '0>0 event 128 starts 0 tests 0',
-      written(EVENTS)])
+     ['version 1 locations 2 initial 0 timers 0 accepting 1 1 transitions 4 beyond 0'] + EVENT_LINES + [written(EVENTS)])
 
 # ---- 21: lists of exactly the needed length, then each one entry too short
 EXACT = [2, 2, 2, 2, 2, 2, 3, 3, 3]
-TWO = framed(h('0003 0001 02 0002 0000 0002 0002 000c 0000 0001 05 01 01 01 01 03 0102 000f 0001 0002 06 00 02 00 02 0003 01 04 0004'))
-TWO_LINES = ['locations 3 initial 1 timers 2 accepting 2 0 2 transitions 2 beyond 0', '0>1 event 5 starts 2 tests 1 1:3:258',
+TWO_HEAD = '0003 0001 02 0002 0000 0002 0002 '
+TWO_RECORDS = {1: '000c 0000 0001 05 01 01 01 01 03 %04x 000f 0001 0002 06 00 02 00 02 %04x 01 04 %04x',
+               2: '000e 0000 0001 05 01 01 01 01 03 %08x 0013 0001 0002 06 00 02 00 02 %08x 01 04 %08x'}
+
+
+def two(version, *constants):
+    """The file of two transitions with these three constants."""
+    return framed(h(TWO_HEAD + TWO_RECORDS[version] % constants), version)
+
+
+TWO = two(1, 258, 3, 4)
+TWO_LINES = ['version 1 locations 3 initial 1 timers 2 accepting 2 0 2 transitions 2 beyond 0', '0>1 event 5 starts 2 tests 1 1:3:258',
              '1>2 event 6 starts 0 tests 2 0:2:3 1:4:4', written(TWO)]
 read('lists of exactly the needed length', TWO, TWO_LINES, EXACT)
 for k in range(9):
@@ -162,16 +179,67 @@ for k in range(9):
 read('no list at all, and a code over 4: 8 comes before 21', framed(h('0001 0000 01 0000 0001 000b 0000 0000 00 00 01 00 05 0000')),
      'refused 8 0 changed 0', [0] * 9)
 read('no list is needed', SMALL,
-     ['locations 1 initial 0 timers 0 accepting 0 transitions 0 beyond 0', 'written 14 0100000009000100000000000000 next aa'], [0] * 9)
+     ['version 1 locations 1 initial 0 timers 0 accepting 0 transitions 0 beyond 0', 'written 14 0100000009000100000000000000 next aa'], [0] * 9)
+
+# ---- version 2: constants of four bytes, records of 7 + s + 6g bytes
+B_2 = h('02 00000034 0004 0000 02 0001 0003 0003 0008 0000 0001 00 01 00 00 000e 0001 0002 00 01 01 01 00 00 00000002'
+        '000d 0002 0003 00 00 01 01 02 00000001')
+read('chart B as version 2', B_2,
+     ['version 2 locations 4 initial 0 timers 2 accepting 1 3 transitions 3 beyond 0', '0>1 event 0 starts 1 tests 0',
+      '1>2 event 0 starts 2 tests 1 0:0:2', '2>3 event 0 starts 0 tests 1 1:2:1', written(B_2)])
+read('chart B as version 2, first byte 1', framed(B_2[5:], 1), 'refused 3 65535 changed 0')
+read('chart B as version 1, first byte 2',
+     h('02 00000030 0004 0000 02 0001 0003 0003 0008 0000 0001 00 01 00 00 000c 0001 0002 00 01 01 01 00 00 0002 000b 0002 0003 00 00 01 01 02 0001'),
+     'refused 3 65535 changed 0')
+EVENTS_2 = framed(EVENTS[5:], 2)
+read('a version 1 file without tests, first byte 2', EVENTS_2,
+     ['version 2 locations 2 initial 0 timers 0 accepting 1 1 transitions 4 beyond 0'] + EVENT_LINES + [written(EVENTS_2)])
+RECORD_2 = h('000e 0000 0001 00 01 00 01 00 02 00000003')
+read('version 2: the whole', framed(HEAD + RECORD_2, 2),
+     ['version 2 locations 2 initial 0 timers 1 accepting 1 1 transitions 1 beyond 0', '0>1 event 0 starts 1 tests 1 0:2:3',
+      'written 32 020000001b000200000100010001' + '0001000e0000000100010001000200' + '000003 next aa'])
+for cut, where in [(10, 'the number of tests'), (11, 'the timer'), (12, 'the code'), (13, 'one byte of the constant'),
+                   (14, 'two bytes of the constant'), (15, 'three bytes of the constant')]:
+    read('version 2: cut after ' + where, framed(HEAD + RECORD_2[:cut], 2), 'refused 3 65535 changed 0')
+read('version 2: a byte remains', framed(HEAD + RECORD_2 + h('00'), 2), 'refused 3 65535 changed 0')
+for length, comment in ('000f', 'one too large'), ('000d', 'one too small'), ('000c', 'as in version 1'), ('010e', 'right in its low byte only'):
+    read('version 2: a record length ' + comment, framed(HEAD + h(length) + RECORD_2[2:], 2), 'refused 3 65535 changed 0')
+read('version 2: a started timer before a record length as in version 1', framed(HEAD + h('000c 0000 0001 00 01 01 01 00 02 00000003'), 2),
+     'refused 6 0 changed 0')
+ONE = h('0001 0000 01 0000 0001')
+TEST_2 = h('00 00 00000001')
+read('version 2: 8 tests', framed(ONE + h('0037 0000 0000 00 00 08') + TEST_2 * 8, 2),
+     ['version 2 locations 1 initial 0 timers 1 accepting 0 transitions 1 beyond 0', '0>0 event 0 starts 0 tests 8' + ' 0:0:1' * 8,
+      'written 71 0001000000000001 next aa'])
+read('version 2: 9 tests and the right length', framed(ONE + h('003d 0000 0000 00 00 09') + TEST_2 * 9, 2), 'refused 4 0 changed 0')
+read('version 2: 9 tests and the length of version 1', framed(ONE + h('002b 0000 0000 00 00 09') + TEST_2 * 9, 2), 'refused 3 65535 changed 0')
+read('version 2: 9 tests in the last byte, the right length', framed(ONE + h('003d 0000 0000 00 00 09'), 2), 'refused 4 0 changed 0')
+read('version 2: 255 tests in the last byte, the right length', framed(ONE + h('0601 0000 0000 00 00 ff'), 2), 'refused 4 0 changed 0')
+FIVE_2 = framed(ONE + h('0025 0000 0000 ff 00 05 00 00 00000000 00 01 0000ffff 00 02 00010000 00 03 01000000 00 04 ffffffff'), 2)
+read('version 2: constants 0, 65,535, 65,536, 16,777,216 and 4,294,967,295', FIVE_2,
+     ['version 2 locations 1 initial 0 timers 1 accepting 0 transitions 1 beyond 0',
+      '0>0 event 255 starts 0 tests 5 0:0:0 0:1:65535 0:2:65536 0:3:16777216 0:4:4294967295', written(FIVE_2)])
+read('version 2: the timer of a second test', framed(ONE + h('0013 0000 0000 00 00 02 00 00 00000000 01 00 00000000'), 2), 'refused 6 0 changed 0')
+read('version 2: code 5 before a cut', framed(ONE + h('000d 0000 0000 00 00 01 00 05'), 2), 'refused 8 0 changed 0')
+TWO_2 = two(2, 65536, 3, 4294967295)
+read('version 2: lists of exactly the needed length', TWO_2,
+     ['version 2 locations 3 initial 1 timers 2 accepting 2 0 2 transitions 2 beyond 0', '0>1 event 5 starts 2 tests 1 1:3:65536',
+      '1>2 event 6 starts 0 tests 2 0:2:3 1:4:4294967295', written(TWO_2)], EXACT)
+read('version 2: list 8 one entry too short', TWO_2, 'refused 21 65535 changed 0', EXACT[:8] + [2])
 
 
-# ---- the writer: header (locations, initial, timers, accepting, transitions), the nine lists, the room
+# ---- the writer: header (version, locations, initial, timers, accepting, transitions), the nine lists, the room
 def write(comment, header, lists, room, lines):
     WRITE.append((comment, header, lists, room, lines if isinstance(lines, list) else [lines]))
 
 
-GOOD = (3, 1, 2, 2, 2)
+GOOD = (1, 3, 1, 2, 2, 2)
 LISTS = [[0, 2], [0, 1], [1, 2], [5, 6], [2, 0], [1, 2], [1, 0, 1], [3, 2, 4], [258, 3, 4]]
+
+
+def only(k, entries):
+    """Nine lists that are empty but for list k."""
+    return [entries if i == k else [] for i in range(9)]
 
 
 def but(*others):
@@ -186,13 +254,13 @@ write('room for one byte fewer', GOOD, LISTS, len(TWO) - 1, 'refused 21 65535 ch
 write('longer lists: the rest is ignored', GOOD, [x + [1, 1, 1] for x in LISTS], 65536, written(TWO))
 for k in range(9):
     write('list %d ends one entry early' % k, GOOD, but(k, LISTS[k][:-1]), 65536, 'refused 3 65535 changed 0')
-write('no location', (0, 1, 2, 2, 2), LISTS, 65536, 'refused 4 65535 changed 0')
-write('257 locations', (257, 1, 2, 2, 2), LISTS, 65536, 'refused 4 65535 changed 0')
-write('65 timers', (3, 1, 65, 2, 2), LISTS, 65536, 'refused 4 65535 changed 0')
-write('513 transitions', (3, 1, 2, 2, 513), LISTS, 65536, 'refused 4 65535 changed 0')
+write('no location', (1, 0, 1, 2, 2, 2), LISTS, 65536, 'refused 4 65535 changed 0')
+write('257 locations', (1, 257, 1, 2, 2, 2), LISTS, 65536, 'refused 4 65535 changed 0')
+write('65 timers', (1, 3, 1, 65, 2, 2), LISTS, 65536, 'refused 4 65535 changed 0')
+write('513 transitions', (1, 3, 1, 2, 2, 513), LISTS, 65536, 'refused 4 65535 changed 0')
 write('9 tests at transition 1', GOOD, but(5, [1, 9]), 65536, 'refused 4 1 changed 0')
-write('initial location', (3, 3, 2, 2, 2), LISTS, 65536, 'refused 5 65535 changed 0')
-write('initial location before 65 timers', (3, 3, 65, 2, 2), LISTS, 65536, 'refused 5 65535 changed 0')
+write('initial location', (1, 3, 3, 2, 2, 2), LISTS, 65536, 'refused 5 65535 changed 0')
+write('initial location before 65 timers', (1, 3, 3, 65, 2, 2), LISTS, 65536, 'refused 5 65535 changed 0')
 write('accepting location', GOOD, but(0, [0, 3]), 65536, 'refused 5 65535 changed 0')
 write('source of transition 1', GOOD, but(1, [0, 3]), 65536, 'refused 5 1 changed 0')
 write('target of transition 0', GOOD, but(2, [3, 2]), 65536, 'refused 5 0 changed 0')
@@ -200,18 +268,18 @@ write('a started timer at the number of timers, in a word', GOOD, but(4, [2, 4])
 write('started timer 63 of two timers', GOOD, but(4, [2 ** 63, 0]), 65536, 'refused 6 0 changed 0')
 write('a tested timer', GOOD, but(6, [1, 0, 2]), 65536, 'refused 6 1 changed 0')
 write('accepting locations equal', GOOD, but(0, [1, 1]), 65536, 'refused 7 65535 changed 0')
-write('more accepting locations than locations', (3, 1, 2, 4, 2), but(0, [0, 1, 2, 2]), 65536, 'refused 7 65535 changed 0')
+write('more accepting locations than locations', (1, 3, 1, 2, 4, 2), but(0, [0, 1, 2, 2]), 65536, 'refused 7 65535 changed 0')
 write('code 5', GOOD, but(7, [3, 2, 5]), 65536, 'refused 8 1 changed 0')
 write('a bad source before a list that ends', GOOD, [[0, 2], [3, 1], [], [], [], [], [], [], []], 65536, 'refused 5 0 changed 0')
 write('a list that ends before a bad code', GOOD, but(3, [], 7, [5, 5, 5]), 65536, 'refused 3 65535 changed 0')
 write('an early 8 before a late 6', GOOD, but(4, [2, 4], 7, [5, 2, 4]), 65536, 'refused 8 0 changed 0')
-write('no location, so that no initial one is below', (0, 0, 2, 2, 2), LISTS, 65536, 'refused 4 65535 changed 0')
-write('257 locations before a bad initial one', (257, 257, 2, 2, 2), LISTS, 65536, 'refused 4 65535 changed 0')
-write('65 timers before a bad accepting location', (3, 1, 65, 2, 2), but(0, [0, 3]), 65536, 'refused 4 65535 changed 0')
-write('a bad accepting location before 513 transitions', (3, 1, 2, 2, 513), but(0, [0, 3]), 65536, 'refused 5 65535 changed 0')
-write('accepting locations equal before 513 transitions', (3, 1, 2, 2, 513), but(0, [1, 1]), 65536, 'refused 7 65535 changed 0')
-write('a list of accepting locations that ends before 513 transitions', (3, 1, 2, 2, 513), but(0, [0]), 65536, 'refused 3 65535 changed 0')
-write('513 transitions before a bad source', (3, 1, 2, 2, 513), but(1, [3, 1]), 65536, 'refused 4 65535 changed 0')
+write('no location, so that no initial one is below', (1, 0, 0, 2, 2, 2), LISTS, 65536, 'refused 4 65535 changed 0')
+write('257 locations before a bad initial one', (1, 257, 257, 2, 2, 2), LISTS, 65536, 'refused 4 65535 changed 0')
+write('65 timers before a bad accepting location', (1, 3, 1, 65, 2, 2), but(0, [0, 3]), 65536, 'refused 4 65535 changed 0')
+write('a bad accepting location before 513 transitions', (1, 3, 1, 2, 2, 513), but(0, [0, 3]), 65536, 'refused 5 65535 changed 0')
+write('accepting locations equal before 513 transitions', (1, 3, 1, 2, 2, 513), but(0, [1, 1]), 65536, 'refused 7 65535 changed 0')
+write('a list of accepting locations that ends before 513 transitions', (1, 3, 1, 2, 2, 513), but(0, [0]), 65536, 'refused 3 65535 changed 0')
+write('513 transitions before a bad source', (1, 3, 1, 2, 2, 513), but(1, [3, 1]), 65536, 'refused 4 65535 changed 0')
 write('a bad source before a list of targets that ends', GOOD, but(1, [0, 3], 2, [1]), 65536, 'refused 5 1 changed 0')
 write('a list of sources that ends before a bad target', GOOD, but(1, [0], 2, [1, 3]), 65536, 'refused 3 65535 changed 0')
 write('a bad target before a list of events that ends', GOOD, but(2, [1, 3], 3, [5]), 65536, 'refused 5 1 changed 0')
@@ -229,16 +297,49 @@ write('a bad timer before a list of codes that ends', GOOD, but(6, [1, 0, 2], 7,
 write('a bad code before a list of constants that ends', GOOD, but(7, [3, 2, 5], 8, [258, 3]), 65536, 'refused 8 1 changed 0')
 write('a list of constants that ends before the next bad code', GOOD, but(7, [3, 2, 5], 8, [258]), 65536, 'refused 3 65535 changed 0')
 for comment, header, lists, refusal in [
-        ('3', GOOD, but(8, [258, 3]), '3 65535'), ('4', (3, 1, 65, 2, 2), LISTS, '4 65535'), ('4, at a transition', GOOD, but(5, [1, 9]), '4 1'),
-        ('5', (3, 3, 2, 2, 2), LISTS, '5 65535'), ('5, at a transition', GOOD, but(2, [1, 3]), '5 1'), ('6', GOOD, but(6, [1, 0, 2]), '6 1'),
+        ('3', GOOD, but(8, [258, 3]), '3 65535'), ('4', (1, 3, 1, 65, 2, 2), LISTS, '4 65535'), ('4, at a transition', GOOD, but(5, [1, 9]), '4 1'),
+        ('5', (1, 3, 3, 2, 2, 2), LISTS, '5 65535'), ('5, at a transition', GOOD, but(2, [1, 3]), '5 1'), ('6', GOOD, but(6, [1, 0, 2]), '6 1'),
         ('7', GOOD, but(0, [2, 0]), '7 65535'), ('8', GOOD, but(7, [3, 2, 5]), '8 1')]:
     write(comment + ' comes before 21', header, lists, 20, 'refused %s changed 0' % refusal)
-write('events 7, 255, 1 and 128', (2, 0, 0, 1, 4), [[1], [0, 1, 1, 0], [1, 0, 1, 0], [7, 255, 1, 128], [0] * 4, [0] * 4, [], [], []], 65536,
+    write(comment + ' comes before 17', header, lists[:8] + [[65536] + lists[8][1:]], 20, 'refused %s changed 0' % refusal)
+write('events 7, 255, 1 and 128', (1, 2, 0, 0, 1, 4), [[1], [0, 1, 1, 0], [1, 0, 1, 0], [7, 255, 1, 128], [0] * 4, [0] * 4, [], [], []], 65536,
       written(EVENTS))
-write('all 64 timers started', (1, 0, 64, 0, 1), [[], [0], [0], [0], [2 ** 64 - 1], [0], [], [], []], 65536,
+write('all 64 timers started', (1, 1, 0, 64, 0, 1), [[], [0], [0], [0], [2 ** 64 - 1], [0], [], [], []], 65536,
       'written 87 393a3b3c3d3e3f00 next aa')
-write('no room at all', (1, 0, 0, 0, 0), [[]] * 9, 0, 'refused 21 65535 changed 0')
-write('a chart of one location', (1, 0, 0, 0, 0), [[]] * 9, 14, 'written 14 0100000009000100000000000000 next --')
+write('no room at all', (1, 1, 0, 0, 0, 0), [[]] * 9, 0, 'refused 21 65535 changed 0')
+write('a chart of one location', (1, 1, 0, 0, 0, 0), [[]] * 9, 14, 'written 14 0100000009000100000000000000 next --')
+
+# ---- the writer: versions and constants
+GOOD_2 = (2, 3, 1, 2, 2, 2)
+for version in (0, 3, 255):
+    write('version %d' % version, (version, 3, 1, 2, 2, 2), LISTS, 65536, 'refused 2 65535 changed 0')
+    write('version %d and no location' % version, (version, 0, 1, 2, 2, 2), LISTS, 65536, 'refused 2 65535 changed 0')
+write('2 comes before 3 and 21', (3, 3, 1, 2, 2, 2), [[]] * 9, 0, 'refused 2 65535 changed 0')
+write('2 comes before 17', (0, 3, 1, 2, 2, 2), but(8, [65536, 3, 4]), 65536, 'refused 2 65535 changed 0')
+write('a chart of one location, version 2', (2, 1, 0, 0, 0, 0), [[]] * 9, 14, 'written 14 0200000009000100000000000000 next --')
+write('version 2: room for exactly the file', GOOD_2, LISTS, 55, 'written 55 %s next --' % two(2, 258, 3, 4).hex())
+for room in (54, 49):
+    write('version 2: room for %d bytes' % room, GOOD_2, LISTS, room, 'refused 21 65535 changed 0')
+write('version 2: the list of constants ends one entry early', GOOD_2, but(8, [258, 3]), 65536, 'refused 3 65535 changed 0')
+write('version 1: constants 65,535 and 0', GOOD, but(8, [65535, 0, 65535]), 65536, written(two(1, 65535, 0, 65535)))
+write('version 2: constants 65,535 and 0', GOOD_2, but(8, [65535, 0, 65535]), 65536, written(two(2, 65535, 0, 65535)))
+for constants in [65536, 3, 4], [258, 131071, 4], [258, 3, 4294967295]:
+    write('version 1: constants %d, %d, %d' % tuple(constants), GOOD, but(8, constants), 65536, 'refused 17 65535 changed 0')
+    write('version 2: constants %d, %d, %d' % tuple(constants), GOOD_2, but(8, constants), 65536, written(two(2, *constants)))
+write('17 comes before 21', GOOD, but(8, [258, 3, 65536]), 0, 'refused 17 65535 changed 0')
+write('large constants after those that are due', GOOD, but(8, [258, 3, 4, 65536, 4294967295]), 65536, written(TWO))
+write('a large constant where no test is due', (1, 1, 0, 0, 0, 0), only(8, [65536]), 65536, 'written 14 0100000009000100000000000000 next aa')
+write('a list of events that ends after a large constant', GOOD, but(3, [5], 8, [65536, 3, 4]), 65536, 'refused 3 65535 changed 0')
+
+# 0→1 starts 0; 1→1 tests 0 at most 65,536; then the same and a third transition, whose test has code 5
+LONG = [[1], [0, 1], [1, 1], [0, 0], [1, 0], [0, 1], [0], [0], [65536]]
+LONG_8 = [[1], [0, 1, 1], [1, 1, 1], [0, 0, 0], [1, 0, 0], [0, 1, 1], [0, 0], [0, 5], [65536, 1]]
+for room in (65536, 0):
+    write('at most 65,536 in version 1, room for %d bytes' % room, (1, 2, 0, 1, 1, 2), LONG, room, 'refused 17 65535 changed 0')
+write('at most 65,536 in version 2', (2, 2, 0, 1, 1, 2), LONG, 65536,
+      written(h('02 00000024 0002 0000 01 0001 0001 0002 0008 0000 0001 00 01 00 00 000d 0001 0001 00 00 01 00 00 00010000')))
+for version in (1, 2):
+    write('at most 65,536 in version %d, then code 5' % version, (version, 2, 0, 1, 1, 3), LONG_8, 65536, 'refused 8 2 changed 0')
 
 
 # ---- the count of changed entries itself: positions in the list of accepting locations, in those of the transitions, in those of the tests
@@ -246,12 +347,8 @@ def count(comment, positions, lists, changed):
     COUNT.append((comment, positions, lists, ['changed %d' % changed]))
 
 
-WIDTHS = [2, 2, 2, 1, 8, 1, 1, 1, 2]
+WIDTHS = [2, 2, 2, 1, 8, 1, 1, 1, 4]
 AS_FILLED = [int.from_bytes(bytes([170]) * width, 'big') for width in WIDTHS]
-
-
-def only(k, entries):
-    return [entries if i == k else [] for i in range(9)]
 
 
 count('all as filled', (0, 0, 0), [[]] * 9, 0)

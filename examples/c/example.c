@@ -1,4 +1,5 @@
-/* Analyses charts A and B of document 01 and two with many families, rewrites B for 16 timers and plays it, and prints the answers. */
+/* Analyses charts A and B of document 01 and two with many families, rewrites B for 16 timers and plays it, does the same with a chart of version 2
+ * that has a long dwell time, and prints the answers. */
 #include <inttypes.h>
 #include <stdio.h>
 
@@ -25,6 +26,15 @@ static const uint8_t B[] = {
     0, 8, 0, 0, 0, 1, 0, 1, 0, 0,                   /* 0→1 */
     0, 12, 0, 1, 0, 2, 0, 1, 1, 1, 0, 0, 0, 2,      /* 1→2 */
     0, 11, 0, 2, 0, 3, 0, 0, 1, 1, 2, 0, 1,         /* 2→3 */
+};
+
+/* B as version 2, with constants of four bytes, and with a long dwell time: 1→2 tests 0 at least 65537, starts 1. */
+static const uint8_t DWELL[] = {
+    2, 0, 0, 0, 52,                                  /* version, length of the rest */
+    0, 4, 0, 0, 2, 0, 1, 0, 3, 0, 3,                 /* locations, initial, timers, accepting: 3; transitions */
+    0, 8, 0, 0, 0, 1, 0, 1, 0, 0,                    /* 0→1 */
+    0, 14, 0, 1, 0, 2, 0, 1, 1, 1, 0, 2, 0, 1, 0, 1, /* 1→2 */
+    0, 13, 0, 2, 0, 3, 0, 0, 1, 1, 2, 0, 0, 0, 1,    /* 2→3 */
 };
 
 #define LENGTH(list) (sizeof(list) / sizeof(list)[0])
@@ -72,10 +82,10 @@ static void analyse(const uint8_t *file, size_t length, size_t room) {
 }
 
 /* Leaves the rewritten file in out and returns its length, 0 if there is none. */
-static size_t rewrite(uint32_t k, uint8_t *out, size_t room) {
+static size_t rewrite(const uint8_t *file, size_t length, uint32_t k, uint8_t *out, size_t room) {
     for (size_t i = 0; i < room; i++)
         out[i] = UNTOUCHED;
-    chart_rewriting r = chart_rewrite(B, sizeof B, k, out, room);
+    chart_rewriting r = chart_rewrite(file, length, k, out, room);
     if (r.number != CHART_NO_REFUSAL) {
         printf("refused %" PRIu64 " %" PRIu64 "\n", r.number, r.place);
         return 0;
@@ -105,13 +115,13 @@ int main(void) {
     analyse(many, chain(many, CHAIN), CHAIN + 2);
 
     uint8_t board[64];
-    rewrite(0, board, sizeof board);
-    rewrite(CHART_MOST_TIMERS + 1, board, sizeof board);
+    rewrite(B, sizeof B, 0, board, sizeof board);
+    rewrite(B, sizeof B, CHART_MOST_TIMERS + 1, board, sizeof board);
     /* 16 in their low bytes: K is judged whole */
-    rewrite(256 + 16, board, sizeof board);
-    rewrite(65536 + 16, board, sizeof board);
-    rewrite(16, board, 1);
-    size_t length = rewrite(16, board, sizeof board);
+    rewrite(B, sizeof B, 256 + 16, board, sizeof board);
+    rewrite(B, sizeof B, 65536 + 16, board, sizeof board);
+    rewrite(B, sizeof B, 16, board, 1);
+    size_t length = rewrite(B, sizeof B, 16, board, sizeof board);
 
     const uint32_t transitions[] = {0, 1, 2};
     const uint64_t in_time[] = {5, 7, 8}, late[] = {5, 8}, back[] = {5, 4}, early[] = {5, 7, 7};
@@ -131,5 +141,14 @@ int main(void) {
         play(file, bytes, counts, timers, NULL, NULL, 0);
     }
     play(NULL, 0, NULL, 0, NULL, NULL, 0);
+
+    /* a dwell of one tick too few and of just enough, as drawn and as rewritten */
+    const uint64_t short_dwell[] = {10, 65546}, full_dwell[] = {10, 65547, 65548};
+    printf("version 2\n");
+    length = rewrite(DWELL, sizeof DWELL, 16, board, sizeof board);
+    play(DWELL, sizeof DWELL, counts, 2, transitions, short_dwell, LENGTH(short_dwell));
+    play(DWELL, sizeof DWELL, counts, 2, transitions, full_dwell, LENGTH(full_dwell));
+    play(board, length, counts, 1, transitions, short_dwell, LENGTH(short_dwell));
+    play(board, length, counts, 1, transitions, full_dwell, LENGTH(full_dwell));
     return 0;
 }

@@ -1,13 +1,15 @@
 //! The chart, its file, the reader and the writer.
 //!
-//! A [`Chart`] is only made by the reader, so it always keeps the limits of refusals 4 to 8. Locations are below
-//! [`MOST_LOCATIONS`] and fit a byte, which is always inside a table with an entry for each of them.
+//! A [`Chart`] is only made by the reader, so it always keeps the limits of refusals 4 to 8, and its constants fit its
+//! version. Locations are below [`MOST_LOCATIONS`] and fit a byte, which is always inside a table with an entry for each
+//! of them.
 
 use std::cmp::Ordering;
 
 use crate::limits::{MOST_LOCATIONS, MOST_STARTS, MOST_TESTS, MOST_TIMERS, MOST_TRANSITIONS, NOWHERE};
 use crate::refusal::{Answer, Refusal};
 use crate::sets::{LocationSet, TimerSet};
+use crate::version::Version;
 
 /// How a timer's count is compared with a test's constant. The values are the file's codes.
 #[derive(Clone, Copy, Debug, PartialEq, Eq)]
@@ -40,8 +42,8 @@ impl Comparison {
 
     /// Whether `count` compares so with `constant`.
     #[inline]
-    pub fn met(self, count: u32, constant: u16) -> bool {
-        let order = match count.cmp(&u32::from(constant)) {
+    pub fn met(self, count: u32, constant: u32) -> bool {
+        let order = match count.cmp(&constant) {
             Ordering::Less => 0,
             Ordering::Equal => 1,
             Ordering::Greater => 2,
@@ -55,7 +57,7 @@ impl Comparison {
 pub struct Test {
     pub timer: u8,
     pub comparison: Comparison,
-    pub constant: u16,
+    pub constant: u32,
 }
 
 /// A transition. Its tests stand in the chart's list of tests: [`Chart::tests`].
@@ -75,6 +77,7 @@ pub struct Transition {
 /// A chart that keeps the limits of the file.
 #[derive(Clone, Debug, PartialEq, Eq)]
 pub struct Chart {
+    version: Version,
     locations: u16,
     initial: u8,
     timers: u8,
@@ -84,6 +87,12 @@ pub struct Chart {
 }
 
 impl Chart {
+    /// The version of its file.
+    #[inline]
+    pub fn version(&self) -> Version {
+        self.version
+    }
+
     /// The number of locations, 1 to [`MOST_LOCATIONS`].
     #[inline]
     pub fn locations(&self) -> u16 {
@@ -131,10 +140,10 @@ impl Chart {
         if u64::from(u32::from_be_bytes(length)) != body.len() as u64 {
             return Err(Refusal::nowhere(1));
         }
-        if version != 1 {
+        let Some(version) = Version::from_byte(version) else {
             return Err(Refusal::nowhere(2));
-        }
-        read_body(&mut Fields { rest: body })
+        };
+        read_body(version, &mut Fields { rest: body })
     }
 
     /// The number of bytes of the chart's file.
@@ -143,7 +152,7 @@ impl Chart {
     }
 
     /// Writes the chart's file to the front of `out` and returns its length. Judges 21; a chart of this type is free of
-    /// 3 to 8, which [`crate::lists::write`] judges.
+    /// 2 to 8 and 17, which [`crate::lists::write`] judges.
     pub fn write(&self, out: &mut [u8]) -> Answer<usize> {
         let length = self.file_length();
         let Some(file) = out.get_mut(..length) else {
@@ -156,11 +165,12 @@ impl Chart {
     /// The length of the file in which each transition has as many starts as `starts` says.
     pub(crate) fn file_length_with(&self, starts: impl Fn(&Transition) -> u32) -> usize {
         let records: usize = self.transitions.iter().map(|transition| 9 + starts(transition) as usize).sum();
-        14 + 2 * usize::from(self.accepting.count()) + records + 4 * self.tests.len()
+        let tests = usize::from(self.version.test_length()) * self.tests.len();
+        14 + 2 * usize::from(self.accepting.count()) + records + tests
     }
 
     /// Writes the chart with other timers into `file`, which has exactly the length that is due: `timers` of them, each
-    /// transition's starts as `starts` gives them, each test's timer as `timer` gives it.
+    /// transition's starts as `starts` gives them, each test's timer as `timer` gives it. The version stays.
     pub(crate) fn write_with(
         &self,
         file: &mut [u8],
@@ -170,7 +180,7 @@ impl Chart {
     ) {
         let body = (file.len() - 5) as u32;
         let mut output = Output::new(file);
-        output.put([1]);
+        output.put([self.version as u8]);
         output.put(body.to_be_bytes());
         output.put(self.locations.to_be_bytes());
         output.put([0, self.initial]);
@@ -182,17 +192,17 @@ impl Chart {
         output.put((self.transitions.len() as u16).to_be_bytes());
         for transition in &self.transitions {
             let started = starts(transition);
-            let count = started.len() as u16;
+            let count = started.len() as u8;
             let tests = transition.test_count;
-            let [high, low] = (7 + count + 4 * u16::from(tests)).to_be_bytes();
-            output.put([high, low, 0, transition.source, 0, transition.target, transition.event, count as u8]);
+            let [high, low] = self.version.record_length(count, tests).to_be_bytes();
+            output.put([high, low, 0, transition.source, 0, transition.target, transition.event, count]);
             for start in started {
                 output.put([start]);
             }
             output.put([tests]);
             for test in self.tests(transition) {
-                let [high, low] = test.constant.to_be_bytes();
-                output.put([timer(transition, test.timer), test.comparison as u8, high, low]);
+                let timer = timer(transition, test.timer);
+                output.put_test(self.version, timer, test.comparison as u8, test.constant);
             }
         }
         debug_assert!(output.rest.is_empty());
@@ -216,6 +226,22 @@ impl<'a> Output<'a> {
         *place = bytes;
         self.rest = rest;
     }
+
+    /// Puts a test whose constant the version holds.
+    #[inline]
+    pub(crate) fn put_test(&mut self, version: Version, timer: u8, code: u8, constant: u32) {
+        match version {
+            Version::One => {
+                let constant = u16::try_from(constant).expect("a constant of version 1 has two bytes");
+                let [high, low] = constant.to_be_bytes();
+                self.put([timer, code, high, low]);
+            }
+            Version::Two => {
+                let [a, b, c, d] = constant.to_be_bytes();
+                self.put([timer, code, a, b, c, d]);
+            }
+        }
+    }
 }
 
 const CUT: Refusal = Refusal::nowhere(3);
@@ -236,12 +262,25 @@ impl Fields<'_> {
     }
 
     #[inline]
-    fn number(&mut self) -> Answer<u16> {
+    fn bytes<const N: usize>(&mut self) -> Answer<[u8; N]> {
         let Some((&bytes, rest)) = self.rest.split_first_chunk() else {
             return Err(CUT);
         };
         self.rest = rest;
-        Ok(u16::from_be_bytes(bytes))
+        Ok(bytes)
+    }
+
+    #[inline]
+    fn number(&mut self) -> Answer<u16> {
+        self.bytes().map(u16::from_be_bytes)
+    }
+
+    #[inline]
+    fn constant(&mut self, version: Version) -> Answer<u32> {
+        match version {
+            Version::One => self.number().map(u32::from),
+            Version::Two => self.bytes().map(u32::from_be_bytes),
+        }
     }
 
     #[inline]
@@ -289,7 +328,7 @@ pub(crate) fn locations(number: u16) -> Answer<u16> {
 }
 
 /// Reads what follows the version and the length, up to the last byte.
-fn read_body(fields: &mut Fields) -> Answer<Chart> {
+fn read_body(version: Version, fields: &mut Fields) -> Answer<Chart> {
     let locations = locations(fields.number()?)?;
     let initial = fields.location(locations, NOWHERE)?;
     let timers = limited(fields.byte()?, MOST_TIMERS, NOWHERE)?;
@@ -297,14 +336,15 @@ fn read_body(fields: &mut Fields) -> Answer<Chart> {
     let count = limited(fields.number()?, MOST_TRANSITIONS, NOWHERE)?;
     // No more tests can follow than the bytes allow.
     let most = usize::from(MOST_TESTS) * usize::from(count);
-    let room = (fields.rest.len().saturating_sub(9 * usize::from(count)) / 4).min(most);
+    let tests = fields.rest.len().saturating_sub(9 * usize::from(count)) / usize::from(version.test_length());
     let mut chart = Chart {
+        version,
         locations,
         initial,
         timers,
         accepting,
         transitions: Vec::with_capacity(usize::from(count)),
-        tests: Vec::with_capacity(room),
+        tests: Vec::with_capacity(tests.min(most)),
     };
     for place in 0..u64::from(count) {
         let transition = read_transition(fields, &mut chart, place)?;
@@ -350,7 +390,7 @@ fn read_transition(fields: &mut Fields, chart: &mut Chart, place: u64) -> Answer
     }
     let test_count = fields.byte()?;
     // The record's length is judged here, before the limit of tests: 3 is the lower number.
-    if length != 7 + u16::from(start_count) + 4 * u16::from(test_count) {
+    if length != chart.version.record_length(start_count, test_count) {
         return Err(CUT);
     }
     limited(test_count, MOST_TESTS, place)?;
@@ -359,7 +399,7 @@ fn read_transition(fields: &mut Fields, chart: &mut Chart, place: u64) -> Answer
     for _ in 0..test_count {
         let timer = timer(fields.byte()?, chart.timers, place)?;
         let comparison = Comparison::from_code(fields.byte()?).ok_or(Refusal::at(8, place))?;
-        let constant = fields.number()?;
+        let constant = fields.constant(chart.version)?;
         tested = tested.with(timer);
         chart.tests.push(Test { timer, comparison, constant });
     }

@@ -2,8 +2,9 @@
 //! too. For tests and measurements.
 
 /// A chart as drawn. Nothing is known of its numbers.
-#[derive(Clone, Debug, Default, PartialEq, Eq)]
+#[derive(Clone, Debug, PartialEq, Eq)]
 pub struct Drawing {
+    pub version: u8,
     pub locations: u16,
     pub initial: u16,
     pub timers: u8,
@@ -19,7 +20,7 @@ pub struct Arrow {
     pub event: u8,
     pub starts: Vec<u8>,
     /// Timer, comparison code, constant.
-    pub tests: Vec<(u8, u8, u16)>,
+    pub tests: Vec<(u8, u8, u32)>,
 }
 
 pub const AT_MOST: u8 = 0;
@@ -44,14 +45,14 @@ impl Arrow {
         self
     }
 
-    pub fn tests(mut self, timer: u8, code: u8, constant: u16) -> Self {
+    pub fn tests(mut self, timer: u8, code: u8, constant: u32) -> Self {
         self.tests.push((timer, code, constant));
         self
     }
 
-    /// The record's length without its first two bytes.
-    fn length(&self) -> u16 {
-        (7 + self.starts.len() + 4 * self.tests.len()) as u16
+    /// The record's length without its first two bytes, if a constant has so many bytes.
+    fn length(&self, width: usize) -> u16 {
+        (7 + self.starts.len() + (2 + width) * self.tests.len()) as u16
     }
 
     /// Whether the transition starts a timer.
@@ -65,10 +66,30 @@ impl Arrow {
     }
 }
 
+/// A drawing of version 1 with nothing in it.
+impl Default for Drawing {
+    fn default() -> Self {
+        Drawing { version: 1, locations: 0, initial: 0, timers: 0, accepting: Vec::new(), transitions: Vec::new() }
+    }
+}
+
 impl Drawing {
-    /// A drawing whose location 0 is initial and whose last location accepts.
+    /// A drawing of version 1 whose location 0 is initial and whose last location accepts.
     pub fn new(locations: u16, timers: u8, transitions: Vec<Arrow>) -> Self {
-        Drawing { locations, initial: 0, timers, accepting: vec![locations - 1], transitions }
+        Drawing { locations, timers, accepting: vec![locations - 1], transitions, ..Drawing::default() }
+    }
+
+    pub fn version(mut self, version: u8) -> Self {
+        self.version = version;
+        self
+    }
+
+    /// The bytes of a constant: two in version 1, four in version 2 and in those that there are not.
+    fn width(&self) -> usize {
+        match self.version {
+            1 => 2,
+            _ => 4,
+        }
     }
 
     /// The drawing's file. Numbers too wide for their field are cut.
@@ -78,6 +99,7 @@ impl Drawing {
 
     /// The drawing's file, with the length of each record as `length` gives it from its number and its true length.
     pub fn file_with(&self, length: impl Fn(usize, u16) -> u16) -> Vec<u8> {
+        let width = self.width();
         let mut body = Vec::new();
         body.extend(self.locations.to_be_bytes());
         body.extend(self.initial.to_be_bytes());
@@ -88,7 +110,7 @@ impl Drawing {
         }
         body.extend((self.transitions.len() as u16).to_be_bytes());
         for (index, transition) in self.transitions.iter().enumerate() {
-            body.extend(length(index, transition.length()).to_be_bytes());
+            body.extend(length(index, transition.length(width)).to_be_bytes());
             body.extend(transition.source.to_be_bytes());
             body.extend(transition.target.to_be_bytes());
             body.push(transition.event);
@@ -97,16 +119,16 @@ impl Drawing {
             body.push(transition.tests.len() as u8);
             for (timer, code, constant) in &transition.tests {
                 body.extend([*timer, *code]);
-                body.extend(constant.to_be_bytes());
+                body.extend(&constant.to_be_bytes()[4 - width..]);
             }
         }
-        enclosed(&body)
+        enclosed(self.version, &body)
     }
 }
 
-/// A file of version 1 with this body.
-pub fn enclosed(body: &[u8]) -> Vec<u8> {
-    let mut file = vec![1];
+/// A file of that version with this body.
+pub fn enclosed(version: u8, body: &[u8]) -> Vec<u8> {
+    let mut file = vec![version];
     file.extend((body.len() as u32).to_be_bytes());
     file.extend(body);
     file
@@ -155,6 +177,11 @@ pub fn chart_c() -> Drawing {
             Arrow::new(4, 5).tests(0, AT_LEAST, 2),
         ],
     )
+}
+
+/// Three locations, version 2: 0→1 starts 0; 1→2 tests 0, by that code and constant.
+pub fn dwell(code: u8, constant: u32) -> Drawing {
+    Drawing::new(3, 1, vec![Arrow::new(0, 1).starts(&[0]), Arrow::new(1, 2).tests(0, code, constant)]).version(2)
 }
 
 /// First fit uses 3 timers, and 2 would do: families 128, 130, 192 and 193 get 0, 1, 0 and 2.

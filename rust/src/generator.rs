@@ -2,8 +2,34 @@
 
 use crate::drawing::{Arrow, Drawing, AT_LEAST, AT_MOST, BELOW};
 use crate::limits::{
-    LARGEST_CONSTANT, MOST_LOCATIONS, MOST_STARTS, MOST_TESTS, MOST_TICKS, MOST_TIMERS, MOST_TRANSITIONS, TIMERS,
+    LARGEST_CONSTANT_VERSION_1, MOST_LOCATIONS, MOST_STARTS, MOST_TESTS, MOST_TICKS, MOST_TIMERS, MOST_TRANSITIONS,
+    TIMERS,
 };
+use crate::version::Version;
+
+/// Constants that version 1 does not hold, and the last that it does: where two bytes end and where a run's time, a
+/// count and four bytes do. Some are small if their high bytes are cut off.
+const LONG_CONSTANTS: [u32; 16] = [
+    LARGEST_CONSTANT_VERSION_1,
+    LARGEST_CONSTANT_VERSION_1 + 1,
+    LARGEST_CONSTANT_VERSION_1 + 2,
+    LARGEST_CONSTANT_VERSION_1 + 4,
+    70_000,
+    1_000_000,
+    MOST_TICKS - 1,
+    MOST_TICKS,
+    MOST_TICKS + 1,
+    MOST_TICKS + 4,
+    2 * MOST_TICKS,
+    2 * MOST_TICKS + 1,
+    1 << 31,
+    (1 << 31) + 3,
+    u32::MAX - 1,
+    u32::MAX,
+];
+
+/// Version bytes that are no version's.
+const NO_VERSIONS: [u8; 3] = [0, 3, u8::MAX];
 
 /// A small generator of random numbers (SplitMix64).
 #[derive(Clone, Debug)]
@@ -55,6 +81,7 @@ impl Random {
 /// What a random chart looks like.
 #[derive(Clone, Copy, Debug)]
 pub struct Shape {
+    pub version: Version,
     pub locations: u16,
     pub timers: u8,
     /// At least the number of locations less one, so that each can be reached.
@@ -68,7 +95,7 @@ pub struct Shape {
     /// Whether the transitions that leave the initial location start all timers.
     pub start_all: bool,
     /// The most that a constant is, but for a few.
-    pub constant: u16,
+    pub constant: u32,
     /// Whether a cycle leads through all locations, so that no run comes to an end; takes one transition more.
     pub cycle: bool,
     /// Whether all tests are met for some 65,000 ticks.
@@ -78,6 +105,7 @@ pub struct Shape {
 impl Shape {
     /// A random shape with at most so many locations.
     pub fn random(random: &mut Random, most_locations: u16) -> Shape {
+        let version = random.pick(&Version::ALL);
         let locations = random.between(1, u64::from(most_locations)) as u16;
         let spare = random.pick(&[0, 1, u64::from(locations), 2 * u64::from(locations)]);
         let timers = match random.below(10) {
@@ -87,6 +115,7 @@ impl Shape {
             _ => random.between(1, 8),
         } as u8;
         Shape {
+            version,
             locations,
             timers,
             transitions: (u64::from(locations) - 1 + spare).min(u64::from(MOST_TRANSITIONS)) as u16,
@@ -94,7 +123,7 @@ impl Shape {
             starts: random.pick(&[(1, 1), (1, 2), (1, 3), (1, 8), (1, MOST_STARTS), (50, MOST_STARTS)]),
             tests: random.pick(&[(0, 1), (0, 1), (0, 2), (1, 3), (0, MOST_TESTS), (MOST_TESTS, MOST_TESTS)]),
             start_all: random.chance(1, 2),
-            constant: random.pick(&[0, 3, 10, 10, 1_000, LARGEST_CONSTANT]),
+            constant: random.pick(&[0, 3, 10, 10, 1_000, LARGEST_CONSTANT_VERSION_1, version.largest_constant()]),
             cycle: random.chance(1, 3),
             lenient: random.chance(1, 4),
         }
@@ -102,6 +131,7 @@ impl Shape {
 
     /// The largest chart: as many of each as there may be, tests wherever their timers are surely started.
     pub const LARGEST: Shape = Shape {
+        version: Version::One,
         locations: MOST_LOCATIONS,
         timers: MOST_TIMERS,
         transitions: MOST_TRANSITIONS,
@@ -142,6 +172,7 @@ pub fn accepted(random: &mut Random, shape: &Shape) -> Drawing {
     }
     random.shuffle(&mut transitions);
     let mut drawing = Drawing {
+        version: shape.version as u8,
         locations: shape.locations,
         initial: order[0],
         timers: shape.timers,
@@ -169,17 +200,38 @@ pub fn accepted(random: &mut Random, shape: &Shape) -> Drawing {
             continue;
         }
         for _ in 0..random.between(u64::from(shape.tests.0), u64::from(shape.tests.1)) {
-            let most = if random.chance(1, 50) { LARGEST_CONSTANT } else { shape.constant };
-            let constant = random.between(0, u64::from(most)) as u16;
-            let (code, constant) = if shape.lenient {
-                random.pick(&[(AT_LEAST, 0), (AT_MOST, LARGEST_CONSTANT), (BELOW, LARGEST_CONSTANT)])
-            } else {
-                (random.below(5) as u8, constant)
-            };
+            let (code, constant) = comparison(random, shape);
             transition.tests.push((random.pick(&usable), code, constant));
         }
     }
     drawing
+}
+
+/// A comparison code and a constant for a test of such a chart.
+fn comparison(random: &mut Random, shape: &Shape) -> (u8, u32) {
+    let most = if random.chance(1, 50) { shape.version.largest_constant() } else { shape.constant };
+    let constant = random.between(0, u64::from(most)) as u32;
+    let long = match shape.version {
+        Version::One => LARGEST_CONSTANT_VERSION_1,
+        Version::Two => random.pick(&LONG_CONSTANTS),
+    };
+    if shape.lenient {
+        return random.pick(&[(AT_LEAST, 0), (AT_MOST, long), (BELOW, long)]);
+    }
+    let code = random.below(5) as u8;
+    let is_long = shape.version == Version::Two && random.chance(1, 8);
+    (code, if is_long { long } else { constant })
+}
+
+/// Stores a chart as version 2 and gives about one in `whole` of its tests a constant that version 1 hardly holds or
+/// does not.
+pub fn store_long(random: &mut Random, drawing: &mut Drawing, whole: u64) {
+    drawing.version = Version::Two as u8;
+    for test in drawing.transitions.iter_mut().flat_map(|transition| &mut transition.tests) {
+        if random.chance(1, whole) {
+            test.2 = random.pick(&LONG_CONSTANTS);
+        }
+    }
 }
 
 /// Of each location the timers that every path to it starts, as a word.
@@ -379,9 +431,9 @@ fn few_timers(random: &mut Random, families: usize, sets: &[Vec<usize>]) -> Vec<
     timers.into_iter().flatten().collect()
 }
 
-/// The longest file that passes 1 to 10, 54,254 bytes: all limits are reached, but the one transition that leaves the
-/// initial location has no tests.
-pub fn longest(random: &mut Random) -> Drawing {
+/// The longest file of a version that passes 1 to 10, 54,254 bytes in version 1 and 62,430 in version 2: all limits are
+/// reached, but the one transition that leaves the initial location has no tests.
+pub fn longest(random: &mut Random, version: Version) -> Drawing {
     let all: Vec<u8> = (0..MOST_TIMERS).collect();
     let last = MOST_LOCATIONS - 1;
     let mut transitions: Vec<Arrow> = (0..last).map(|location| Arrow::new(location, location + 1)).collect();
@@ -393,17 +445,19 @@ pub fn longest(random: &mut Random) -> Drawing {
         transition.starts = all.clone();
         if transition.source != 0 {
             let mut timer = || random.below(u64::from(MOST_TIMERS)) as u8;
-            transition.tests = (0..MOST_TESTS).map(|_| (timer(), AT_MOST, LARGEST_CONSTANT)).collect();
+            transition.tests = (0..MOST_TESTS).map(|_| (timer(), AT_MOST, version.largest_constant())).collect();
         }
     }
-    Drawing { locations: MOST_LOCATIONS, initial: 0, timers: MOST_TIMERS, accepting: (0..=last).collect(), transitions }
+    let accepting = (0..=last).collect();
+    let version = version as u8;
+    Drawing { version, locations: MOST_LOCATIONS, initial: 0, timers: MOST_TIMERS, accepting, transitions }
 }
 
-/// A number of the chart spoilt, so that its file is refused by 4 to 10 or by 3, and perhaps by none; as a file.
+/// A number of the chart spoilt, so that its file is refused by 2 to 10, and perhaps by none; as a file.
 pub fn spoilt(random: &mut Random, drawing: &Drawing) -> Vec<u8> {
     let mut drawing = drawing.clone();
     if random.chance(1, 3) || drawing.transitions.is_empty() {
-        match random.below(8) {
+        match random.below(9) {
             0 => drawing.locations = random.pick(&[0, MOST_LOCATIONS + 1, u16::MAX]),
             1 => drawing.locations = drawing.locations.saturating_add(1),
             2 => drawing.initial = random.pick(&[drawing.locations, MOST_LOCATIONS, u16::MAX]),
@@ -411,6 +465,7 @@ pub fn spoilt(random: &mut Random, drawing: &Drawing) -> Vec<u8> {
             4 => drawing.accepting.push(random.pick(&[0, drawing.locations, u16::MAX])),
             5 => drawing.accepting.reverse(),
             6 => drawing.transitions.resize(usize::from(MOST_TRANSITIONS) + 1, Arrow::new(0, 0)),
+            7 => drawing.version = random.pick(&NO_VERSIONS),
             _ => drawing.transitions.clear(),
         }
         return drawing.file();
@@ -433,7 +488,7 @@ pub fn spoilt(random: &mut Random, drawing: &Drawing) -> Vec<u8> {
         }
         8 => transition.tests.push((random.pick(&[drawing.timers, MOST_TIMERS, u8::MAX]), 0, 0)),
         9 => transition.tests.push((0, random.between(5, u64::from(u8::MAX)) as u8, 0)),
-        10 => length = (index + 1, random.pick(&[1, 4, u16::MAX])),
+        10 => length = (index + 1, random.pick(&[1, 2, 4, u16::MAX - 1, u16::MAX])),
         11 => transition.starts.clear(),
         _ => {
             // Two failures: the first field of them counts.
@@ -453,6 +508,18 @@ pub fn spoilt(random: &mut Random, drawing: &Drawing) -> Vec<u8> {
     )
 }
 
+/// A file under another version byte: mostly the other version's, so that its constants have the wrong width; a good
+/// file without tests is good under that one too.
+pub fn relabelled(random: &mut Random, file: &[u8]) -> Vec<u8> {
+    let mut file = file.to_vec();
+    file[0] = match file[0] {
+        _ if random.chance(1, 6) => random.pick(&NO_VERSIONS),
+        1 => 2,
+        _ => 1,
+    };
+    file
+}
+
 /// A file with bytes changed, cut off, put in or taken out; its length field is set right or left as it was.
 pub fn damaged(random: &mut Random, file: &[u8]) -> Vec<u8> {
     let mut file = file.to_vec();
@@ -463,7 +530,8 @@ pub fn damaged(random: &mut Random, file: &[u8]) -> Vec<u8> {
             0 if at < file.len() => file[at] = random.word() as u8,
             1 if at < file.len() => file[at] ^= 1 << random.below(8),
             2 if at < file.len() => {
-                file[at] = random.pick(&[0, 1, 4, 5, MOST_TESTS, MOST_TESTS + 1, MOST_TIMERS, MOST_TIMERS + 1, u8::MAX])
+                let near = [0, 1, 2, 3, 4, 5, MOST_TESTS, MOST_TESTS + 1, MOST_TIMERS, MOST_TIMERS + 1, u8::MAX];
+                file[at] = random.pick(&near)
             }
             3 => file.truncate(at),
             4 => {
@@ -500,6 +568,13 @@ impl Steps {
         self.transitions.push(transition);
         self.times.push(time);
     }
+
+    /// Keeps the steps before a random one.
+    pub fn cut(&mut self, random: &mut Random) {
+        let kept = random.below(self.times.len() as u64 + 1) as usize;
+        self.transitions.truncate(kept);
+        self.times.truncate(kept);
+    }
 }
 
 /// Steps that a chart takes from the initial location, as far as they are found: at most `most`, with waits of at most
@@ -528,7 +603,7 @@ pub fn run(random: &mut Random, drawing: &Drawing, most: usize, wait: u64, due: 
                 let due = started[usize::from(timer)] + u64::from(constant) + random.below(2);
                 time = due.max(now);
             }
-            let met = |&(timer, code, constant): &(u8, u8, u16)| {
+            let met = |&(timer, code, constant): &(u8, u8, u32)| {
                 let count = time - started[usize::from(timer)];
                 let constant = u64::from(constant);
                 match code {
@@ -558,13 +633,32 @@ pub fn run(random: &mut Random, drawing: &Drawing, most: usize, wait: u64, due: 
 pub fn lengthen(random: &mut Random, drawing: &Drawing, steps: &mut Steps) {
     let location = steps.transitions.last().map_or(drawing.initial, |&last| drawing.transitions[last as usize].target);
     let leaving = |&index: &u32| drawing.transitions[index as usize].source == location;
-    let choices: Vec<u32> = (0..drawing.transitions.len() as u32).filter(leaving).collect();
-    if !choices.is_empty() {
-        let last = steps.times.last().copied().unwrap_or(0);
-        let over = u64::from(MOST_TICKS) + 1;
-        let time = random.pick(&[last, last, last + 1, last + 2, last + 5, last + 100, last.saturating_sub(1), over]);
-        steps.push(random.pick(&choices), time);
+    let mut choices: Vec<u32> = (0..drawing.transitions.len() as u32).filter(leaving).collect();
+    let tested = |&index: &u32| !drawing.transitions[index as usize].tests.is_empty();
+    if choices.iter().any(tested) && random.chance(3, 4) {
+        choices.retain(tested);
     }
+    if !choices.is_empty() {
+        let transition = random.pick(&choices);
+        let last = steps.times.last().copied().unwrap_or(0);
+        let most = u64::from(MOST_TICKS);
+        let early = last.saturating_sub(1);
+        let mut time = random.pick(&[last, last, last + 1, last + 2, last + 5, last + 100, early, most + 1]);
+        let tests = &drawing.transitions[transition as usize].tests;
+        if !tests.is_empty() && random.chance(2, 3) {
+            // A tick before, at or after the one at which the count is the constant, as near as a step may be.
+            let (timer, _, constant) = random.pick(tests);
+            let due = last_start(drawing, steps, timer) + u64::from(constant) + random.below(3);
+            time = due.saturating_sub(1).clamp(last, most);
+        }
+        steps.push(transition, time);
+    }
+}
+
+/// When a timer was last started in steps that the chart takes; 0 if it was not.
+fn last_start(drawing: &Drawing, steps: &Steps, timer: u8) -> u64 {
+    let starts = |&(&transition, _): &(&u32, &u64)| drawing.transitions[transition as usize].is_start(timer);
+    steps.transitions.iter().zip(&steps.times).rev().find(starts).map_or(0, |(_, &time)| time)
 }
 
 /// Spoils a step list, or lengthens it by a step that is likely to be refused.

@@ -4,6 +4,7 @@
 //! The modules follow the parts of document 01, with what document 02 asks since, and share no code with the proved
 //! library:
 //!
+//! - [`version`]: the versions of a file, and the bytes of a constant in each;
 //! - [`chart`]: the chart, its reader (refusals 1 to 8) and its writer;
 //! - [`lists`]: the same reader and writer over lent lists;
 //! - [`analysis`]: reached, unstarted and live; families, their board numbers, used;
@@ -32,6 +33,7 @@ pub mod player;
 mod refusal;
 pub mod rewriting;
 pub mod sets;
+pub mod version;
 
 #[cfg(feature = "library")]
 mod ffi;

@@ -1,5 +1,5 @@
 //! The limits that document 01 sets to a chart, its file, its step lists, the program's input and a refusal's place, and
-//! document 02 to the search for the floor.
+//! document 02 to the search for the floor and to files of version 2.
 
 /// The most locations of a chart.
 pub const MOST_LOCATIONS: u16 = 256;
@@ -16,11 +16,17 @@ pub const MOST_STARTS: u8 = MOST_TIMERS;
 /// The most tests of a transition.
 pub const MOST_TESTS: u8 = 8;
 
-/// The largest constant of a test.
-pub const LARGEST_CONSTANT: u16 = 65_535;
+/// The largest constant of a test: of version 2.
+pub const LARGEST_CONSTANT: u32 = 4_294_967_295;
 
-/// The bytes of the largest chart file.
-pub const LARGEST_FILE: usize = 54_286;
+/// The largest constant of a test of version 1.
+pub const LARGEST_CONSTANT_VERSION_1: u32 = 65_535;
+
+/// The bytes of the largest chart file: of version 2.
+pub const LARGEST_FILE: usize = 62_478;
+
+/// The bytes of the largest chart file of version 1.
+pub const LARGEST_FILE_VERSION_1: usize = 54_286;
 
 /// The largest time of a step, and the largest starting count of a timer.
 pub const MOST_TICKS: u32 = 16_777_215;

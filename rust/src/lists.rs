@@ -4,10 +4,15 @@ use crate::chart::{limited, location, locations, timer, Chart, Comparison, Outpu
 use crate::limits::{MOST_TESTS, MOST_TIMERS, MOST_TRANSITIONS, NOWHERE};
 use crate::refusal::{Answer, Refusal};
 use crate::sets::TimerSet;
+use crate::version::Version;
 
-/// The chart's header, which travels beside its lists: its numbers and its initial location.
+/// The refusal of a constant that is to be written into fewer bytes than it takes.
+const CONSTANT_TOO_WIDE: Refusal = Refusal::nowhere(17);
+
+/// The chart's header, which travels beside its lists: its version, its numbers and its initial location.
 #[derive(Clone, Copy, Debug, PartialEq, Eq)]
 pub struct Header {
+    pub version: u8,
     pub locations: u16,
     pub initial: u16,
     pub timers: u8,
@@ -28,7 +33,7 @@ pub struct Lists<'a> {
     pub test_counts: &'a [u8],
     pub timers: &'a [u8],
     pub codes: &'a [u8],
-    pub constants: &'a [u16],
+    pub constants: &'a [u32],
 }
 
 /// The nine lists, lent to the reader.
@@ -42,7 +47,7 @@ pub struct LentLists<'a> {
     pub test_counts: &'a mut [u8],
     pub timers: &'a mut [u8],
     pub codes: &'a mut [u8],
-    pub constants: &'a mut [u16],
+    pub constants: &'a mut [u32],
 }
 
 /// Reads a chart file into lent lists. Judges 1 to 8, then 21.
@@ -79,6 +84,7 @@ pub fn read(file: &[u8], lent: &mut LentLists) -> Answer<Header> {
         }
     }
     Ok(Header {
+        version: chart.version() as u8,
         locations: chart.locations(),
         initial: u16::from(chart.initial()),
         timers: chart.timers(),
@@ -93,8 +99,10 @@ fn due<T: Copy>(list: &[T], index: usize) -> Answer<T> {
     list.get(index).copied().ok_or(Refusal::nowhere(3))
 }
 
-/// Judges the lists in the order of the file's fields, 3 to 8, and returns the length of the file.
-fn judge(header: &Header, lists: &Lists) -> Answer<usize> {
+/// Judges 2, then the lists in the order of the file's fields, 3 to 8, then 17; returns the version and the length of
+/// the file.
+fn judge(header: &Header, lists: &Lists) -> Answer<(Version, usize)> {
+    let version = Version::from_byte(header.version).ok_or(Refusal::nowhere(2))?;
     let locations = locations(header.locations)?;
     location(header.initial, locations, NOWHERE)?;
     let timers = limited(header.timers, MOST_TIMERS, NOWHERE)?;
@@ -125,21 +133,32 @@ fn judge(header: &Header, lists: &Lists) -> Answer<usize> {
             due(lists.constants, test)?;
         }
         next += usize::from(count);
-        length += 9 + starts.len() as usize + 4 * usize::from(count);
+        length += 2 + usize::from(version.record_length(starts.len() as u8, count));
     }
-    Ok(length)
+    // 17 waits until all fields are judged: a later 3 to 8 counts.
+    if lists.constants[..next].iter().any(|&constant| constant > version.largest_constant()) {
+        return Err(CONSTANT_TOO_WIDE);
+    }
+    Ok((version, length))
 }
 
-/// Writes a chart's lists as a file to the front of `out` and returns its length. Judges 3 to 8 in the order of the
-/// file's fields, then 21, all before the first byte is written.
+/// Writes a chart's lists as a file to the front of `out` and returns its length. Judges 2, then 3 to 8 in the order of
+/// the file's fields, then 17 and 21, all before the first byte is written.
 pub fn write(header: &Header, lists: &Lists, out: &mut [u8]) -> Answer<usize> {
-    let length = judge(header, lists)?;
+    let (version, length) = judge(header, lists)?;
     let Some(file) = out.get_mut(..length) else {
         return Err(Refusal::nowhere(21));
     };
+    put_file(version, header, lists, file);
+    Ok(length)
+}
+
+/// Writes lists that are judged into `file`, which has exactly the length that is due.
+fn put_file(version: Version, header: &Header, lists: &Lists, file: &mut [u8]) {
+    let body = (file.len() - 5) as u32;
     let mut output = Output::new(file);
-    output.put([1]);
-    output.put(((length - 5) as u32).to_be_bytes());
+    output.put([version as u8]);
+    output.put(body.to_be_bytes());
     output.put(header.locations.to_be_bytes());
     output.put(header.initial.to_be_bytes());
     output.put([header.timers]);
@@ -152,8 +171,7 @@ pub fn write(header: &Header, lists: &Lists, out: &mut [u8]) -> Answer<usize> {
     for index in 0..usize::from(header.transitions) {
         let starts = TimerSet::from_word(lists.starts[index]);
         let count = lists.test_counts[index];
-        let record = 7 + starts.len() as u16 + 4 * u16::from(count);
-        output.put(record.to_be_bytes());
+        output.put(version.record_length(starts.len() as u8, count).to_be_bytes());
         output.put(lists.sources[index].to_be_bytes());
         output.put(lists.targets[index].to_be_bytes());
         output.put([lists.events[index], starts.len() as u8]);
@@ -162,10 +180,8 @@ pub fn write(header: &Header, lists: &Lists, out: &mut [u8]) -> Answer<usize> {
         }
         output.put([count]);
         for test in next..next + usize::from(count) {
-            output.put([lists.timers[test], lists.codes[test]]);
-            output.put(lists.constants[test].to_be_bytes());
+            output.put_test(version, lists.timers[test], lists.codes[test], lists.constants[test]);
         }
         next += usize::from(count);
     }
-    Ok(length)
 }

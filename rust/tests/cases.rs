@@ -7,16 +7,18 @@ use std::collections::BTreeMap;
 use timing_chart::analysis::{self, Analysis};
 use timing_chart::limits::{LARGEST_FILE, LOCATIONS};
 use timing_chart::listing::listing;
+use timing_chart::lists::{self, Header, Lists};
 use timing_chart::player::{self, Playing};
 use timing_chart::rewriting::{self, Rewriting};
 use timing_chart::{Answer, Refusal};
 
-/// The cases that hold now, and how many there are.
-const CASES: (&str, usize) = ("p01.jsonl", 48);
+/// The cases that hold now, and how many there are in each file.
+const CASES: [(&str, usize); 2] = [("p01.jsonl", 48), ("p02.jsonl", 125)];
 
 /// JSON as the cases have it: whole numbers, and texts with no escape but `\n`.
 #[derive(Clone, Debug, PartialEq)]
 enum Json {
+    Null,
     Bool(bool),
     Number(u64),
     Text(String),
@@ -52,6 +54,8 @@ impl Reader<'_> {
             let (text, rest) = self.0.split_once('"').expect("a text ends");
             self.0 = rest;
             Json::Text(text.replace("\\n", "\n"))
+        } else if self.takes("null") {
+            Json::Null
         } else if self.takes("true") {
             Json::Bool(true)
         } else if self.takes("false") {
@@ -135,6 +139,7 @@ impl Json {
 type Analyse = fn(&[u8], &mut [u64]) -> Answer<Analysis>;
 type Rewrite = fn(&[u8], u32, &mut [u8]) -> Answer<Rewriting>;
 type Play = fn(&[u8], &[u32], &[u32], &[u64]) -> Answer<Playing>;
+type Write = fn(&Header, &Lists, &mut [u8]) -> Answer<usize>;
 
 /// One implementation of the calls.
 struct Calls {
@@ -142,6 +147,8 @@ struct Calls {
     rewrite: Rewrite,
     play: Play,
     print: fn(&[u8]) -> String,
+    /// The proved library offers no writer to its callers.
+    write: Option<Write>,
 }
 
 impl Calls {
@@ -151,6 +158,11 @@ impl Calls {
             "analysis" => self.check_analysis(case),
             "rewriting" => self.check_rewriting(case),
             "play" => self.check_play(case),
+            "write" => {
+                if let Some(write) = self.write {
+                    check_write(write, case);
+                }
+            }
             call => panic!("no such call: {call}"),
         }
     }
@@ -204,26 +216,83 @@ impl Calls {
     }
 
     fn check_all(&self) {
-        let path = format!("{}/../tests/cases/{}", env!("CARGO_MANIFEST_DIR"), CASES.0);
-        let text = std::fs::read_to_string(&path).expect(&path);
-        assert_eq!(text.lines().count(), CASES.1);
-        for (index, line) in text.lines().enumerate() {
-            println!("{}, line {}", CASES.0, index + 1);
-            self.check(&Json::read(line));
+        for (name, count) in CASES {
+            let path = format!("{}/../tests/cases/{name}", env!("CARGO_MANIFEST_DIR"));
+            let text = std::fs::read_to_string(&path).expect(&path);
+            assert_eq!(text.lines().count(), count);
+            for (index, line) in text.lines().enumerate() {
+                println!("{name}, line {}", index + 1);
+                self.check(&Json::read(line));
+            }
         }
     }
 }
 
+/// The starts of each transition as one word, from the timers of all of them and how many each transition has.
+fn start_words(case: &Json) -> Vec<u64> {
+    let timers = case.numbers::<u8>("starts");
+    let mut left = timers.as_slice();
+    let mut word = |count: u8| {
+        let (own, rest) = left.split_at(usize::from(count));
+        left = rest;
+        // A word has no order: only starts that rise strictly can be handed over in one.
+        assert!(own.is_sorted_by(|a, b| a < b));
+        own.iter().fold(0, |word, timer| word | 1 << timer)
+    };
+    let words = case.numbers::<u8>("start_count").into_iter().map(&mut word).collect();
+    assert!(left.is_empty());
+    words
+}
+
+fn check_write(write: Write, case: &Json) {
+    let number = |name: &str| u16::try_from(case.number(name)).expect("a number of 16 bits");
+    let byte = |name: &str| u8::try_from(case.number(name)).expect("a byte");
+    let header = Header {
+        version: byte("version"),
+        locations: number("locations"),
+        initial: number("initial"),
+        timers: byte("timers"),
+        accepting: number("accepting_count"),
+        transitions: number("transition_count"),
+    };
+    let lists = Lists {
+        accepting: &case.numbers("accepting"),
+        sources: &case.numbers("source"),
+        targets: &case.numbers("target"),
+        events: &case.numbers("event"),
+        starts: &start_words(case),
+        test_counts: &case.numbers("test_count"),
+        timers: &case.numbers("test_timer"),
+        codes: &case.numbers("test_code"),
+        constants: &case.numbers("test_constant"),
+    };
+    let room = match case.get("room") {
+        Some(Json::Null) => LARGEST_FILE,
+        _ => case.number("room") as usize,
+    };
+    let mut out = vec![0xAA; room];
+    let answer = write(&header, &lists, &mut out);
+    let mut file = Vec::new();
+    let expected = case.expected(|_| {
+        file = case.bytes("answer");
+        file.len()
+    });
+    file.resize(room, 0xAA);
+    assert_eq!(answer, expected);
+    assert!(out == file);
+}
+
 #[test]
 fn this_crate_answers_so() {
-    Calls { analyse: analysis::analyse, rewrite: rewriting::rewrite, play: player::play, print: listing }.check_all();
+    let (analyse, rewrite, play, write) = (analysis::analyse, rewriting::rewrite, player::play, lists::write);
+    Calls { analyse, rewrite, play, print: listing, write: Some(write) }.check_all();
 }
 
 #[cfg(feature = "library")]
 #[test]
 fn the_proved_library_and_the_program_answer_so() {
     use timing_chart::library::{analyse, play, rewrite};
-    Calls { analyse, rewrite, play, print: print_by_program }.check_all();
+    Calls { analyse, rewrite, play, print: print_by_program, write: None }.check_all();
 }
 
 /// What the program prints for an input that is no longer than it reads.

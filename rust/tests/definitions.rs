@@ -7,10 +7,13 @@ use timing_chart::analysis::{analyse, Analysis};
 use timing_chart::chart::Chart;
 use timing_chart::drawing::{chart_a, chart_b, chart_c, over_floor, Arrow, Drawing};
 use timing_chart::generator::*;
-use timing_chart::limits::{LOCATIONS, MOST_SEARCHED, MOST_TESTS, MOST_TICKS, TRANSITIONS};
+use timing_chart::limits::{
+    LARGEST_CONSTANT_VERSION_1, LARGEST_FILE, LOCATIONS, MOST_SEARCHED, MOST_TESTS, MOST_TICKS, TRANSITIONS,
+};
 use timing_chart::lists::{self, Header, LentLists, Lists};
 use timing_chart::player::{play, Playing};
 use timing_chart::rewriting::{rewrite, Rewriting};
+use timing_chart::version::Version;
 use timing_chart::{Answer, Refusal, NOWHERE};
 
 /// The locations that paths from `from` reach by transitions that pass, the empty path among them.
@@ -279,8 +282,12 @@ fn analysis_and_rewriting_follow_the_definitions() {
         many_numbers(5, 16),
         sixty_five_numbers(1),
     ]);
-    let boards = drawings.iter().filter_map(|drawing| check_analysis_and_rewriting(&mut random, drawing)).count();
-    assert!(boards > 1_000, "{boards}");
+    let boards: Vec<Drawing> =
+        drawings.iter().filter_map(|drawing| check_analysis_and_rewriting(&mut random, drawing)).collect();
+    for version in [1, 2] {
+        let count = boards.iter().filter(|board| board.version == version).count();
+        assert!(count > 500, "{count}");
+    }
 }
 
 #[test]
@@ -316,12 +323,14 @@ fn floors_follow_the_definitions() {
 fn the_player_follows_the_definitions_and_boards_play_alike() {
     let mut random = Random::new(3);
     let drawings: Vec<Drawing> = drawings(&mut random, 2_000, 10).filter(|drawing| judged(drawing).is_ok()).collect();
-    let mut taken = 0;
+    let (mut taken, mut long) = (0, [0; 2]);
     for drawing in &drawings {
         let planned = Planned::of(drawing);
         for _ in 0..4 {
             let mut steps = run(&mut random, drawing, 30, 5, true);
-            if random.chance(2, 3) {
+            if random.chance(1, 3) {
+                lengthen(&mut random, drawing, &mut steps);
+            } else if random.chance(1, 2) {
                 spoil_steps(&mut random, &mut steps, drawing.transitions.len() as u32);
             }
             let is_good = random.chance(7, 8);
@@ -329,6 +338,14 @@ fn the_player_follows_the_definitions_and_boards_play_alike() {
             let answer = play(&drawing.file(), &start, &steps.transitions, &steps.times);
             assert_eq!(answer, played(drawing, &start, &steps));
             taken += u64::from(answer.is_ok_and(|playing| playing.time > 0));
+            let is_long = |&transition: &u32| is_long(&drawing.transitions[transition as usize]);
+            match answer {
+                Ok(_) => long[0] += steps.transitions.iter().filter(|transition| is_long(transition)).count(),
+                Err(Refusal { number: 24, place }) => {
+                    long[1] += usize::from(is_long(&steps.transitions[place as usize]))
+                }
+                Err(_) => {}
+            }
             if planned.used() <= 64 && answer.err().map(|refusal| refusal.number) != Some(12) {
                 let board = planned.rewritten(drawing);
                 let start = counts(&mut random, planned.used(), true);
@@ -337,27 +354,40 @@ fn the_player_follows_the_definitions_and_boards_play_alike() {
         }
     }
     assert!(taken > 500, "{taken}");
+    assert!(long.iter().all(|&count| count > 20), "{long:?}");
+}
+
+/// Whether a transition has tests, all of them with constants that version 1 does not hold.
+fn is_long(transition: &Arrow) -> bool {
+    let constants = transition.tests.iter().map(|test| test.2);
+    !transition.tests.is_empty() && constants.min() > Some(LARGEST_CONSTANT_VERSION_1)
 }
 
 #[test]
 fn files_survive_reading_and_writing() {
     let mut random = Random::new(4);
+    let mut relabelled_too = 0;
     for _ in 0..2_000 {
         let shape = Shape::random(&mut random, 40);
         let drawing = accepted(&mut random, &shape);
         let good = drawing.file();
-        for file in [good.clone(), spoilt(&mut random, &drawing), damaged(&mut random, &good)] {
+        let other = relabelled(&mut random, &good);
+        relabelled_too += u64::from(Chart::read(&other).is_ok());
+        for file in [good.clone(), other, spoilt(&mut random, &drawing), damaged(&mut random, &good)] {
             let Ok(chart) = Chart::read(&file) else {
                 continue;
             };
+            assert_eq!(chart.version() as u8, file[0]);
             let mut out = vec![3; file.len() + 1];
             assert_eq!(chart.write(&mut out[..file.len() - 1]), Err(Refusal { number: 21, place: NOWHERE }));
             assert!(out.iter().all(|&byte| byte == 3));
             assert_eq!(chart.write(&mut out), Ok(file.len()));
             assert_eq!(out.pop(), Some(3));
+            assert_eq!(Chart::read(&out), Ok(chart));
             assert_eq!(out, file);
         }
     }
+    assert!(relabelled_too > 50, "{relabelled_too}");
 }
 
 /// The most tests of all transitions together.
@@ -373,7 +403,7 @@ struct Owned {
     test_counts: Vec<u8>,
     timers: Vec<u8>,
     codes: Vec<u8>,
-    constants: Vec<u16>,
+    constants: Vec<u32>,
 }
 
 impl Owned {
@@ -439,12 +469,76 @@ fn charts_survive_lists() {
     }
 }
 
+/// The file as the writer writes it in a version, from the lists that the reader filled.
+fn stored(file: &[u8], version: u8) -> Answer<Vec<u8>> {
+    let mut owned = Owned::new();
+    let header = lists::read(file, &mut owned.lent()).unwrap();
+    assert_eq!(header.version, file[0]);
+    let mut out = vec![7; LARGEST_FILE];
+    let length = lists::write(&Header { version, ..header }, &owned.lists(), &mut out)?;
+    assert!(out[length..].iter().all(|&byte| byte == 7));
+    out.truncate(length);
+    Ok(out)
+}
+
+#[test]
+fn charts_stored_as_the_other_version_lose_nothing() {
+    let mut random = Random::new(7);
+    let (mut short, mut long) = (0, 0);
+    for _ in 0..1_000 {
+        let shape = Shape::random(&mut random, 40);
+        let drawing = accepted(&mut random, &shape);
+        let file = drawing.file();
+        assert_eq!(stored(&file, drawing.version), Ok(file.clone()));
+        let wide = drawing.clone().version(2).file();
+        assert_eq!(stored(&file, 2), Ok(wide.clone()));
+        let constants = drawing.transitions.iter().flat_map(|transition| &transition.tests).map(|test| test.2);
+        if constants.max() > Some(LARGEST_CONSTANT_VERSION_1) {
+            assert_eq!(stored(&wide, 1), Err(Refusal { number: 17, place: NOWHERE }));
+            long += 1;
+        } else {
+            assert_eq!(stored(&wide, 1), Ok(drawing.version(1).file()));
+            short += 1;
+        }
+    }
+    assert!(short > 200 && long > 200, "{short} {long}");
+}
+
+#[test]
+fn both_versions_of_a_chart_answer_alike() {
+    let mut random = Random::new(8);
+    for _ in 0..500 {
+        let shape = Shape { version: Version::One, ..Shape::random(&mut random, 20) };
+        let shape = Shape { constant: shape.constant.min(LARGEST_CONSTANT_VERSION_1), ..shape };
+        let drawing = accepted(&mut random, &shape);
+        let (one, two) = (drawing.file(), drawing.clone().version(2).file());
+        let analysed = |file: &[u8]| {
+            let mut live = [0; LOCATIONS];
+            (analyse(file, &mut live), live)
+        };
+        assert_eq!(analysed(&one), analysed(&two));
+        let board = |file: &[u8]| {
+            let mut out = vec![0; LARGEST_FILE];
+            let length = rewrite(file, 64, &mut out)?.length as usize;
+            out.truncate(length);
+            Ok(out)
+        };
+        let stored = |file: Vec<u8>| stored(&file, 2);
+        assert_eq!(board(&one).and_then(stored), board(&two));
+        let mut steps = run(&mut random, &drawing, 30, 5, true);
+        lengthen(&mut random, &drawing, &mut steps);
+        let start = counts(&mut random, usize::from(drawing.timers), true);
+        let played = |file: &[u8]| play(file, &start, &steps.transitions, &steps.times);
+        assert_eq!(played(&one), played(&two));
+    }
+}
+
 #[test]
 fn lists_are_judged_in_the_order_of_the_fields() {
     let file = chart_b().file();
     let mut owned = Owned::new();
     let header = lists::read(&file, &mut owned.lent()).unwrap();
-    assert_eq!(header, Header { locations: 4, initial: 0, timers: 2, accepting: 1, transitions: 3 });
+    assert_eq!(header, Header { version: 1, locations: 4, initial: 0, timers: 2, accepting: 1, transitions: 3 });
     assert_eq!(owned.test_counts[..4], [0, 1, 1, 9]);
     assert_eq!(owned.starts[..4], [1, 2, 0, 9]);
     let lists = owned.lists();
@@ -459,6 +553,8 @@ fn lists_are_judged_in_the_order_of_the_fields() {
         answer.map(|_| ())
     };
     assert_eq!(write(header, lists), Ok(()));
+    assert_eq!(write(Header { version: 2, ..header }, lists), Ok(()));
+    assert_eq!(write(Header { version: 3, locations: 0, ..header }, lists), refused(2, NOWHERE));
     assert_eq!(write(Header { locations: 0, initial: 9, ..header }, lists), refused(4, NOWHERE));
     assert_eq!(write(Header { locations: 257, ..header }, lists), refused(4, NOWHERE));
     assert_eq!(write(Header { initial: 4, timers: 99, ..header }, lists), refused(5, NOWHERE));
@@ -486,6 +582,11 @@ fn lists_are_judged_in_the_order_of_the_fields() {
     assert_eq!(write(header, Lists { codes: &[0, 5], constants: &[0], ..lists }), refused(8, 2));
     assert_eq!(write(header, Lists { codes: &[0], ..lists }), refused(3, NOWHERE));
     assert_eq!(write(header, Lists { constants: &[0], ..lists }), refused(3, NOWHERE));
+    let wide = Lists { constants: &[65_536, 0], ..lists };
+    assert_eq!(write(header, wide), refused(17, NOWHERE));
+    assert_eq!(write(Header { version: 2, ..header }, wide), Ok(()));
+    assert_eq!(write(header, Lists { codes: &[0, 5], ..wide }), refused(8, 2));
+    assert_eq!(write(header, Lists { constants: &[65_536], ..lists }), refused(3, NOWHERE));
 }
 
 #[test]
@@ -508,7 +609,7 @@ fn lent_lists_too_short_are_21_and_stay_as_they_were() {
         let mut lent = owned.lent();
         shorten(&mut lent);
         assert_eq!(lists::read(&file, &mut lent), Err(Refusal { number: 21, place: NOWHERE }));
-        assert!(owned.sources.iter().chain(&owned.constants).all(|&entry| entry == 9));
+        assert!(owned.sources.iter().all(|&entry| entry == 9) && owned.constants.iter().all(|&entry| entry == 9));
         assert!(owned.starts.iter().all(|&entry| entry == 9) && owned.test_counts.iter().all(|&entry| entry == 9));
     }
     assert_eq!(lists::read(&file[..9], &mut owned.lent()), Err(Refusal { number: 1, place: NOWHERE }));

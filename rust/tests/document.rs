@@ -6,10 +6,12 @@ use timing_chart::drawing::*;
 use timing_chart::generator::{
     five_groups, hardest_floor, longest, many_numbers, meetings, pairs, sixty_five_numbers, Random,
 };
-use timing_chart::limits::LARGEST_FILE;
+use timing_chart::limits::{LARGEST_FILE, LARGEST_FILE_VERSION_1};
 use timing_chart::listing::listing;
+use timing_chart::lists::{self, Header, Lists};
 use timing_chart::player::{play, Playing};
 use timing_chart::rewriting::{rewrite, Rewriting};
+use timing_chart::version::Version;
 use timing_chart::{Answer, Refusal, NOWHERE};
 
 fn refused<T>(number: u64, place: u64) -> Answer<T> {
@@ -49,7 +51,7 @@ fn families(drawing: &Drawing) -> Vec<(usize, u16)> {
 }
 
 fn rewritten(drawing: &Drawing, k: u32) -> Answer<Vec<u8>> {
-    let mut out = vec![0xAA; 60_000];
+    let mut out = vec![0xAA; 70_000];
     let answer = rewrite(&drawing.file(), k, &mut out)?;
     let length = answer.length as usize;
     assert!(out[length..].iter().all(|&byte| byte == 0xAA));
@@ -241,6 +243,14 @@ fn comparisons_by_table() {
         assert_eq!(Comparison::from_code(code as u8), Some(comparison));
         assert_eq!([4, 5, 6].map(|count| comparison.met(count, 5)), met);
         assert_eq!([0, 33_554_430].map(|count| comparison.met(count, 65_535)), [met[0], met[2]]);
+        // Constants are compared whole: the low bytes of these two are small.
+        for constant in [65_541, 16_777_221] {
+            let counts = [5, constant - 1, constant, constant + 1];
+            assert_eq!(counts.map(|count| comparison.met(count, constant)), [met[0], met[0], met[1], met[2]]);
+        }
+        for constant in [33_554_431, 4_294_967_295] {
+            assert_eq!([0, 65_535, 33_554_430].map(|count| comparison.met(count, constant)), [met[0]; 3]);
+        }
     }
     assert!((5..=255).all(|code| Comparison::from_code(code).is_none()));
 }
@@ -270,15 +280,20 @@ fn k_of_64_is_judged_and_65_refused() {
 fn version_and_length() {
     let good = chart_b().file();
     let mut file = good.clone();
-    file[0] = 2;
-    assert_eq!(read(&file), refused(2, NOWHERE));
+    for version in [0, 3, 4, 255] {
+        file[0] = version;
+        assert_eq!(read(&file), refused(2, NOWHERE));
+        assert_eq!(read(&chart_b().version(version).file()), refused(2, NOWHERE));
+    }
     file.push(0);
     assert_eq!(read(&file), refused(1, NOWHERE));
     for length in 0..5 {
         assert_eq!(read(&good[..length]), refused(1, NOWHERE));
     }
     assert_eq!(read(&[1, 0, 0, 0, 0]), refused(3, NOWHERE));
+    assert_eq!(read(&[2, 0, 0, 0, 0]), refused(3, NOWHERE));
     assert_eq!(read(&[0, 0, 0, 0, 0]), refused(2, NOWHERE));
+    assert_eq!(read(&[3, 0, 0, 0, 0]), refused(2, NOWHERE));
     assert_eq!(read(&[1, 0, 0, 0, 1]), refused(1, NOWHERE));
     // All 32 bits of the length count.
     for byte in 1..4 {
@@ -292,22 +307,26 @@ fn version_and_length() {
 #[test]
 fn every_cut_is_3_without_a_place() {
     for drawing in [chart_a(), chart_b(), chart_c(), self_loop(), one_location()] {
-        let file = drawing.file();
-        let body = &file[5..];
-        for length in 0..body.len() {
-            assert_eq!(read(&enclosed(&body[..length])), refused(3, NOWHERE), "{length}");
+        for version in [1, 2] {
+            let file = drawing.clone().version(version).file();
+            let body = &file[5..];
+            for length in 0..body.len() {
+                assert_eq!(read(&enclosed(version, &body[..length])), refused(3, NOWHERE), "{length}");
+            }
+            let mut longer = body.to_vec();
+            longer.push(0);
+            assert_eq!(read(&enclosed(version, &longer)), refused(3, NOWHERE));
         }
-        let mut longer = body.to_vec();
-        longer.push(0);
-        assert_eq!(read(&enclosed(&longer)), refused(3, NOWHERE));
     }
 }
 
-/// The answer to chart B with a change.
+/// The answer to chart B with a change, in both versions.
 fn changed(change: impl FnOnce(&mut Drawing)) -> Answer<()> {
     let mut drawing = chart_b();
     change(&mut drawing);
-    read(&drawing.file())
+    let answer = read(&drawing.file());
+    assert_eq!(read(&drawing.version(2).file()), answer);
+    answer
 }
 
 #[test]
@@ -329,8 +348,8 @@ fn fields_before_the_transitions() {
     assert_eq!(changed(|d| d.transitions.resize(512, Arrow::new(0, 0))), Ok(()));
     assert_eq!(changed(|d| d.transitions.resize(513, Arrow::new(0, 0))), refused(4, NOWHERE));
     // 513 transitions are refused at the count, even if none follow.
-    assert_eq!(read(&enclosed(&[0, 1, 0, 0, 0, 0, 0, 2, 1])), refused(4, NOWHERE));
-    assert_eq!(read(&enclosed(&[0, 1, 0, 0, 0, 0, 0, 2, 0])), refused(3, NOWHERE));
+    assert_eq!(read(&enclosed(1, &[0, 1, 0, 0, 0, 0, 0, 2, 1])), refused(4, NOWHERE));
+    assert_eq!(read(&enclosed(1, &[0, 1, 0, 0, 0, 0, 0, 2, 0])), refused(3, NOWHERE));
 }
 
 #[test]
@@ -369,7 +388,7 @@ fn the_first_field_that_fails_counts() {
     early(&mut drawing);
     let mut body = drawing.file()[5..].to_vec();
     body.push(0);
-    assert_eq!(read(&enclosed(&body)), refused(8, 1));
+    assert_eq!(read(&enclosed(1, &body)), refused(8, 1));
     // Within a test the timer comes before the code.
     assert_eq!(changed(|d| d.transitions[1].tests = vec![(0, 0, 0), (9, 9, 0)]), refused(6, 1));
 }
@@ -396,34 +415,199 @@ fn a_records_length_is_judged_at_its_count_of_tests() {
     assert_eq!(with_length(&nine, 7 + 1 + 36), refused(4, 1));
     assert_eq!(with_length(&nine, 12), refused(3, NOWHERE));
     // Nine in the last byte of the file is no cut field.
-    let last = |length: u8| enclosed(&[0, 1, 0, 0, 0, 0, 0, 0, 1, 0, length, 0, 0, 0, 0, 0, 0, 9]);
-    assert_eq!(read(&last(7 + 36)), refused(4, 0));
-    assert_eq!(read(&last(7)), refused(3, NOWHERE));
+    let last =
+        |version: u8, length: u8| enclosed(version, &[0, 1, 0, 0, 0, 0, 0, 0, 1, 0, length, 0, 0, 0, 0, 0, 0, 9]);
+    assert_eq!(read(&last(1, 7 + 36)), refused(4, 0));
+    assert_eq!(read(&last(1, 7)), refused(3, NOWHERE));
+    assert_eq!(read(&last(2, 7 + 54)), refused(4, 0));
+    assert_eq!(read(&last(2, 7 + 36)), refused(3, NOWHERE));
 }
 
-#[test]
-fn the_largest_file_has_54_286_bytes() {
+/// The largest file that the reader accepts.
+fn largest_file(version: Version) -> Vec<u8> {
     let mut transition = Arrow::new(255, 255).starts(&(0..64).collect::<Vec<_>>());
-    transition.tests = vec![(63, EQUAL, 65_535); 8];
+    transition.tests = vec![(63, EQUAL, version.largest_constant()); 8];
     let drawing = Drawing {
+        version: version as u8,
         locations: 256,
         initial: 0,
         timers: 64,
         accepting: (0..256).collect(),
         transitions: vec![transition; 512],
     };
-    let file = drawing.file();
-    assert_eq!(file.len(), 54_286);
-    assert_eq!(LARGEST_FILE, 54_286);
-    let chart = Chart::read(&file).unwrap();
-    let mut out = vec![0; LARGEST_FILE];
-    assert_eq!(chart.write(&mut out), Ok(LARGEST_FILE));
+    drawing.file()
+}
+
+#[test]
+fn the_largest_files_have_54_286_and_62_478_bytes() {
+    assert_eq!((LARGEST_FILE_VERSION_1, LARGEST_FILE), (54_286, 62_478));
+    // The longest ones that are judged to the end are shorter: the initial location's transition cannot have tests.
+    for (version, length, judged) in [(Version::One, 54_286, 54_254), (Version::Two, 62_478, 62_430)] {
+        let file = largest_file(version);
+        assert_eq!(file.len(), length);
+        let chart = Chart::read(&file).unwrap();
+        let mut out = vec![0; length];
+        assert_eq!(chart.write(&mut out), Ok(length));
+        assert_eq!(out, file);
+        assert_eq!(analyse(&file, &mut [0; 256]), refused(9, 1));
+        // The program's input is not too long by it.
+        assert_eq!(listing(&[vec![64], file].concat()), "refused 9 1\n");
+        let longest = longest(&mut Random::new(1), version);
+        assert_eq!(longest.file().len(), judged);
+        assert_eq!(rewritten(&longest, 64).map(|file| file[0]), Ok(version as u8));
+    }
+}
+
+/// Chart B as version 2.
+const B_2: [&[u8]; 4] = [
+    &[2, 0, 0, 0, 52, 0, 4, 0, 0, 2, 0, 1, 0, 3, 0, 3],
+    &[0, 8, 0, 0, 0, 1, 0, 1, 0, 0],
+    &[0, 14, 0, 1, 0, 2, 0, 1, 1, 1, 0, 0, 0, 0, 0, 2],
+    &[0, 13, 0, 2, 0, 3, 0, 0, 1, 1, 2, 0, 0, 0, 1],
+];
+
+#[test]
+fn chart_b_as_version_2() {
+    let file = B_2.concat();
+    assert_eq!(file.len(), 57);
+    assert_eq!(chart_b().version(2).file(), file);
+    assert_eq!(Chart::read(&file).map(|chart| chart.version()), Ok(Version::Two));
+    assert_eq!(live_of(&file), live_of(&chart_b().file()));
+    // One timer, started and tested throughout; the version is that of the chart read.
+    let expected = [
+        &[2, 0, 0, 0, 52, 0, 4, 0, 0, 1, 0, 1, 0, 3, 0, 3][..],
+        &[0, 8, 0, 0, 0, 1, 0, 1, 0, 0],
+        &[0, 14, 0, 1, 0, 2, 0, 1, 0, 1, 0, 0, 0, 0, 0, 2],
+        &[0, 13, 0, 2, 0, 3, 0, 0, 1, 0, 2, 0, 0, 0, 1],
+    ];
+    assert_eq!(rewritten(&chart_b().version(2), 16), Ok(expected.concat()));
+    for times in [[5, 7, 8], [5, 8, 8], [5, 4, 8], [5, 7, 7]] {
+        let played = |file: &[u8]| play(file, &[3, 16_777_215], &[0, 1, 2], &times);
+        assert_eq!(played(&file), played(&chart_b().file()));
+    }
+    let text = "used 1 floor 1 limit 16\nat 0\nat 1 0>0\nat 2 1>0\nat 3\n";
+    assert_eq!(listing(&[vec![16], file].concat()), text);
+}
+
+#[test]
+fn a_file_under_the_other_version() {
+    let relabelled = |drawing: &Drawing, version: u8| {
+        let mut file = drawing.clone().version(3 - version).file();
+        file[0] = version;
+        read(&file)
+    };
+    let mut early = chart_b();
+    early.transitions[1].target = 4;
+    let mut late = chart_b();
+    late.transitions[1].tests[0].1 = 5;
+    for version in [1, 2] {
+        // The length of the first record with tests is wrong then, whatever these are; what fails before it counts.
+        assert_eq!(relabelled(&chart_b(), version), refused(3, NOWHERE));
+        assert_eq!(relabelled(&late, version), refused(3, NOWHERE));
+        assert_eq!(relabelled(&early, version), refused(5, 1));
+        assert_eq!(relabelled(&self_loop(), version), Ok(()));
+    }
+    let file = [2, 0, 0, 0, 9, 0, 1, 0, 0, 0, 0, 0, 0, 0];
+    assert_eq!(Chart::read(&file).map(|chart| chart.version()), Ok(Version::Two));
+    let mut out = [0; 14];
+    assert_eq!(rewrite(&file, 0, &mut out), Ok(Rewriting { used: 0, length: 14 }));
     assert_eq!(out, file);
-    assert_eq!(analyse(&file, &mut [0; 256]), refused(9, 1));
-    // The longest one that is judged to the end is shorter: the initial location's transition cannot have tests.
-    let longest = longest(&mut Random::new(1));
-    assert_eq!(longest.file().len(), 54_254);
-    assert!(rewritten(&longest, 64).is_ok());
+}
+
+/// What the writer answers for a chart of two locations and one timer: 0→1 starts 0; then for each code 1→1, which
+/// tests 0 by that code and the constant at the same place.
+fn written(version: u8, codes: &[u8], constants: &[u32], out: &mut [u8]) -> Answer<usize> {
+    let count = 1 + codes.len();
+    let header = Header { version, locations: 2, initial: 0, timers: 1, accepting: 0, transitions: count as u16 };
+    let (mut sources, mut starts, mut test_counts) = (vec![1; count], vec![0; count], vec![1; count]);
+    (sources[0], starts[0], test_counts[0]) = (0, 1, 0);
+    let lists = Lists {
+        accepting: &[],
+        sources: &sources,
+        targets: &vec![1; count],
+        events: &vec![0; count],
+        starts: &starts,
+        test_counts: &test_counts,
+        timers: &vec![0; codes.len()],
+        codes,
+        constants,
+    };
+    lists::write(&header, &lists, out)
+}
+
+#[test]
+fn a_constant_too_wide_for_version_1_is_17() {
+    for constant in [65_536, 65_537, 16_777_216, 4_294_967_295] {
+        let mut out = [8; 60];
+        assert_eq!(written(1, &[0], &[constant], &mut out), refused(17, NOWHERE));
+        // 17 comes before 21.
+        assert_eq!(written(1, &[0], &[constant], &mut []), refused(17, NOWHERE));
+        assert_eq!(written(1, &[0, 1, 2], &[0, 7, constant], &mut out), refused(17, NOWHERE));
+        // It is not judged at its field: a later 8 counts, and so does a list that ends later.
+        assert_eq!(written(1, &[0, 5], &[constant, 0], &mut out), refused(8, 2));
+        assert_eq!(written(1, &[0, 0], &[constant], &mut out), refused(3, NOWHERE));
+        assert_eq!(out, [8; 60]);
+        // An entry that is not due is ignored.
+        assert_eq!(written(1, &[0], &[0, constant], &mut out), Ok(14 + 10 + 13));
+        // Version 2 holds it.
+        assert_eq!(written(2, &[0], &[constant], &mut out[..38]), refused(21, NOWHERE));
+        assert_eq!(written(2, &[0], &[constant], &mut out), Ok(14 + 10 + 15));
+        let chart = Chart::read(&out[..39]).unwrap();
+        assert_eq!(chart.tests(&chart.transitions()[1])[0].constant, constant);
+    }
+    assert_eq!(written(1, &[0], &[65_535], &mut [0; 60]), Ok(14 + 10 + 13));
+    assert_eq!(written(1, &[0], &[65_535], &mut []), refused(21, NOWHERE));
+}
+
+#[test]
+fn the_writer_judges_the_version_first() {
+    let header = Header { version: 2, locations: 0, initial: 9, timers: 99, accepting: 9, transitions: 999 };
+    let lists = Lists {
+        accepting: &[],
+        sources: &[],
+        targets: &[],
+        events: &[],
+        starts: &[],
+        test_counts: &[],
+        timers: &[],
+        codes: &[],
+        constants: &[],
+    };
+    assert_eq!(lists::write(&header, &lists, &mut []), refused(4, NOWHERE));
+    for version in [0, 3, 4, 255] {
+        assert_eq!(lists::write(&Header { version, ..header }, &lists, &mut []), refused(2, NOWHERE));
+        assert_eq!(written(version, &[5], &[65_536], &mut []), refused(2, NOWHERE));
+    }
+}
+
+#[test]
+fn long_dwell_times_are_played() {
+    // The chart as drawn and as rewritten, from different counts.
+    let played = |code: u8, constant: u32, times: [u64; 2]| {
+        let drawing = dwell(code, constant);
+        let answer = play(&drawing.file(), &[0], &[0, 1], &times);
+        for file in [drawing.file(), rewritten(&drawing, 1).unwrap()] {
+            assert_eq!(file[0], 2);
+            assert_eq!(play(&file, &[16_777_215], &[0, 1], &times), answer);
+        }
+        answer
+    };
+    let ends = |time| Ok(Playing { location: 2, time, accepting: true });
+    assert_eq!(played(AT_LEAST, 65_537, [10, 65_546]), refused(24, 1));
+    assert_eq!(played(AT_LEAST, 65_537, [10, 65_547]), ends(65_547));
+    assert_eq!(played(AT_LEAST, 65_537, [10, 11]), refused(24, 1));
+    assert_eq!(played(EQUAL, 65_536, [0, 0]), refused(24, 1));
+    assert_eq!(played(EQUAL, 65_536, [0, 65_536]), ends(65_536));
+    assert_eq!(played(AT_MOST, 65_536, [0, 65_536]), ends(65_536));
+    assert_eq!(played(BELOW, 65_536, [0, 65_536]), refused(24, 1));
+    assert_eq!(played(AT_LEAST, 16_777_215, [0, 16_777_215]), ends(16_777_215));
+    assert_eq!(played(ABOVE, 16_777_215, [0, 16_777_215]), refused(24, 1));
+    // No count is over 33,554,430: such tests are never met, or always.
+    assert_eq!(played(AT_LEAST, 33_554_431, [0, 16_777_215]), refused(24, 1));
+    assert_eq!(played(AT_MOST, 4_294_967_295, [0, 16_777_215]), ends(16_777_215));
+    assert_eq!(played(EQUAL, 4_294_967_295, [0, 16_777_215]), refused(24, 1));
+    // The limits of the player's time stand.
+    assert_eq!(played(AT_LEAST, 16_777_216, [0, 16_777_216]), refused(15, 1));
 }
 
 #[test]
@@ -656,5 +840,5 @@ fn the_programs_text() {
     // An input of 65,536 bytes is judged further: here leftover bytes.
     let mut body = chart_b().file()[5..].to_vec();
     body.resize(65_530, 0);
-    assert_eq!(with_k(16, enclosed(&body)), "refused 3 65535\n");
+    assert_eq!(with_k(16, enclosed(1, &body)), "refused 3 65535\n");
 }

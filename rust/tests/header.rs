@@ -33,8 +33,8 @@ fn limits() {
     assert_eq!(defined("CHART_NOWHERE"), NOWHERE);
 }
 
-/// Document 01's numbers with the names that they have in C.
-const REFUSALS: [(&str, u64); 22] = [
+/// The documents' numbers with the names that they have in C.
+const REFUSALS: [(&str, u64); 23] = [
     ("CHART_NO_REFUSAL", 0),
     ("CHART_REFUSED_WRONG_LENGTH", 1),
     ("CHART_REFUSED_WRONG_VERSION", 2),
@@ -52,6 +52,7 @@ const REFUSALS: [(&str, u64); 22] = [
     ("CHART_REFUSED_NO_SUCH_TRANSITION", 14),
     ("CHART_REFUSED_TIME_TOO_LARGE", 15),
     ("CHART_REFUSED_INPUT_TOO_LONG", 16),
+    ("CHART_REFUSED_CONSTANT_TOO_WIDE", 17),
     ("CHART_REFUSED_BOARD_TOO_SMALL", 20),
     ("CHART_REFUSED_NO_ROOM", 21),
     ("CHART_REFUSED_WRONG_SOURCE", 22),

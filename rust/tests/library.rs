@@ -4,7 +4,9 @@
 #![cfg(feature = "library")]
 
 use timing_chart::analysis::Analysis;
-use timing_chart::drawing::{chart_a, chart_a_continued, chart_b, never_started, over_floor, self_loop};
+use timing_chart::drawing::{
+    chart_a, chart_a_continued, chart_b, dwell, never_started, over_floor, self_loop, AT_LEAST, AT_MOST,
+};
 use timing_chart::library::{analyse, play, rewrite};
 use timing_chart::player::Playing;
 use timing_chart::rewriting::Rewriting;
@@ -55,4 +57,41 @@ fn player() {
     assert_eq!(play(&file, &counts, &[0], &[1 << 32]), Err(Refusal { number: 15, place: 0 }));
     assert_eq!(play(&file, &counts, &[0], &[]), Err(Refusal { number: 13, place: NOWHERE }));
     assert_eq!(play(&file, &[16_777_216, 0], &[], &[]), Err(Refusal { number: 12, place: 0 }));
+}
+
+#[test]
+fn version_2() {
+    let file = chart_b().version(2).file();
+    let mut live = [77; 5];
+    assert_eq!(analyse(&file, &mut live), Ok(Analysis { used: 1, floor: 1, searched: true }));
+    assert_eq!(live, [0, 1, 2, 0, 77]);
+    let mut expected = chart_b().version(2);
+    expected.timers = 1;
+    expected.transitions[1].starts = vec![0];
+    expected.transitions[2].tests[0].0 = 0;
+    let mut out = [0xAA; 60];
+    assert_eq!(rewrite(&file, 16, &mut out[..56]), Err(Refusal { number: 21, place: NOWHERE }));
+    assert_eq!(out, [0xAA; 60]);
+    assert_eq!(rewrite(&file, 16, &mut out), Ok(Rewriting { used: 1, length: 57 }));
+    assert_eq!(out[..57], expected.file());
+    assert_eq!(out[57..], [0xAA; 3]);
+
+    // Constants are compared whole.
+    let played = |code, constant, times: &[u64]| play(&dwell(code, constant).file(), &[16_777_215], &[0, 1], times);
+    let ends = |time| Ok(Playing { location: 2, time, accepting: true });
+    let not_met = Err(Refusal { number: 24, place: 1 });
+    assert_eq!(played(AT_LEAST, 65_537, &[10, 65_546]), not_met);
+    assert_eq!(played(AT_LEAST, 65_537, &[10, 65_547]), ends(65_547));
+    assert_eq!(played(AT_LEAST, 33_554_431, &[0, 16_777_215]), not_met);
+    assert_eq!(played(AT_MOST, 4_294_967_295, &[0, 16_777_215]), ends(16_777_215));
+
+    // Files of one version under the other's byte, and under one that is no version's.
+    for (drawing, answer) in [(chart_b(), Err(3)), (chart_b().version(2), Err(3)), (self_loop(), Ok(()))] {
+        let mut file = drawing.file();
+        file[0] = 3 - file[0];
+        let refusal = |number| Refusal { number, place: NOWHERE };
+        assert_eq!(analyse(&file, &mut [0; 4]).map(|_| ()), answer.map_err(refusal));
+        file[0] = 3;
+        assert_eq!(analyse(&file, &mut [0; 4]), Err(refusal(2)));
+    }
 }

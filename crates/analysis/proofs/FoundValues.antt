@@ -14,6 +14,7 @@ use Rattle.timer_set.specs.Members.{member}
 use Rattle.timer_set.proofs.Members.{member-ext}
 use Rattle.model.specs.Answer.{result}
 use Rattle.model.specs.Chart.{Chart}
+use Rattle.model.specs.Version.{widthOf}
 use Rattle.model.specs.Valid.{Valid}
 use Rattle.model.specs.Live.{liveSets}
 use Rattle.model.specs.FirstFit.{board, used}
@@ -104,7 +105,7 @@ module _ {bs before after : List ℕ} {f : AnalysisValues} (bytes : Bytes bs) (v
   abbrev c : Chart
   c = v .chart
 
-  valid : Valid 2 c
+  valid : Valid (widthOf (c .version)) c
   valid = reads-valid bs c bytes (v .accepts .reads)
 
   word-only : (q : ℕ) → q < c .locations → getD after q 0 ≡ getD (liveSets c) q 0

@@ -6,7 +6,8 @@ use Prim.Native.Nat.{ℕ, _≤_}
 use lib.ListN.{length, getD}
 use Rattle.model.specs.Answer.{result}
 use Rattle.model.specs.Chart.{Chart}
-use Rattle.model.specs.Valid.{Valid}
+use Rattle.model.specs.Version.{widthOf}
+use Rattle.model.specs.Valid.{Storable}
 use Rattle.model.specs.Rewrite.{Numbering, rewrittenBy}
 use Rattle.model.specs.Plan.{Plan}
 use Rattle.model.specs.Judge.{Rewriting, judged, rewriting}
@@ -14,7 +15,7 @@ use Rattle.model.specs.Equivalence.{Alike}
 use Rattle.file_format.specs.Parse.{Bytes}
 use Rattle.model.proofs.Answers.{result-same}
 use Rattle.model.proofs.EqualRuns.{plan-alike}
-use Rattle.model.proofs.RewrittenValid.{rewritten-valid}
+use Rattle.model.proofs.RewrittenValid.{rewritten-storable}
 use Rattle.model.proofs.RewritingAlike.{rewriting-is}
 use Rattle.model.proofs.EqualAnswers.{rewritten-judged, equal-behaviour, rewriting-judged}
 use Rattle.model.specs.Player.{stepsOf}
@@ -22,34 +23,35 @@ use Rattle.model.specs.PlayerTerms.{CountsAllowed, PlayerAnswer}
 use Rattle.model.proofs.PlayerLaws.{played-answer, alike-played}
 use Rattle.model.proofs.PlayerAnswer.{player-answer}
 use Rattle.file_format.specs.File.{chartIn, fileOf}
-use Rattle.file_format.proofs.File.{chart-survives, file-survives, reads-valid}
+use Rattle.file_format.proofs.File.{chart-survives, file-survives, reads-storable}
 use Rattle.rewriting.specs.Rewriting.{rewriteInto}
 use Rattle.rewriting.proofs.Fits.{rewriting-of}
 use Rattle.player.specs.Playing.{playAnswer}
 use Rattle.equivalence.specs.Demand.{Demand}
 
 -- the player on the file of a chart that it takes
-file-answers : (c : Chart) → Valid 2 c → judged c ≡ result c → (v is ts : List ℕ) → CountsAllowed c v → length is ≡ length ts
+file-answers : (c : Chart) → Storable c → judged c ≡ result c → (v is ts : List ℕ) → CountsAllowed c v → length is ≡ length ts
     → PlayerAnswer c (λ j. getD v j 0) (stepsOf is ts) (playAnswer (fileOf c) v is ts)
 unfolding playAnswer
-file-answers c valid j v is ts a l = rw (chart-survives c valid, played-answer c v j a is ts l) (player-answer c (λ k. getD v k 0) (stepsOf is ts))
+file-answers c s j v is ts a l = rw (chart-survives c s, played-answer c v j a is ts l) (player-answer c (λ k. getD v k 0) (stepsOf is ts))
 
 -- two charts that behave alike and that the player takes
-demand-of : (c c′ : Chart) → Valid 2 c → judged c ≡ result c → Alike c c′ → Valid 2 c′ → judged c′ ≡ result c′ → Demand c c′
+demand-of : (c c′ : Chart) → Storable c → judged c ≡ result c → Alike c c′ → Storable c′ → judged c′ ≡ result c′ → Demand c c′
 unfolding playAnswer
-demand-of c c′ valid j alike valid′ j′ = record {
+demand-of c c′ s j alike s′ j′ = record {
   alike = alike;
-  valid = valid′;
+  storable = s′;
   judged-so = j′;
-  plays = λ v w is ts a b. rw (chart-survives c valid, chart-survives c′ valid′) (alike-played c c′ alike j j′ v w a b is ts);
-  answers = file-answers c valid j;
-  answers′ = file-answers c′ valid′ j′;
+  plays = λ v w is ts a b. rw (chart-survives c s, chart-survives c′ s′) (alike-played c c′ alike j j′ v w a b is ts);
+  answers = file-answers c s j;
+  answers′ = file-answers c′ s′ j′;
 }
 
 -- every numbering that is a plan of the chart
-pub plan-demand : (c : Chart) (N : Numbering) → Valid 2 c → judged c ≡ result c → Plan c N → N .used ≤ 64 → Demand c (rewrittenBy N c)
-plan-demand c N valid j P few =
-    demand-of c (rewrittenBy N c) valid j (plan-alike c N P) (rewritten-valid c N P 2 valid few) (rewritten-judged 2 c N P valid few j)
+pub plan-demand : (c : Chart) (N : Numbering) → Storable c → judged c ≡ result c → Plan c N → N .used ≤ 64 → Demand c (rewrittenBy N c)
+plan-demand c N s j P few =
+    demand-of c (rewrittenBy N c) s j (plan-alike c N P) (rewritten-storable c N P s few)
+    (rewritten-judged (widthOf (c .version)) c N P (s .valid) few j)
 
 -- a file, the chart that it holds, and what the rewriting returns for it
 module _ (K room : ℕ) (bs : List ℕ) (bytes : Bytes bs) (c : Chart) (reads : chartIn bs ≡ result c) (x : Rewriting)
@@ -60,9 +62,10 @@ module _ (K room : ℕ) (bs : List ℕ) (bytes : Bytes bs) (c : Chart) (reads : 
 
   pub first-fit-demand : Demand c (x .chart)
   first-fit-demand =
-      let valid = reads-valid bs c bytes reads in
-      let b = equal-behaviour 2 K c valid x made in
-      demand-of c (x .chart) valid (rewriting-is K c x made .accepted) (b .alike) (b .valid 2 valid) (rewriting-judged 2 K c valid x made)
+      let s = reads-storable bs c bytes reads in
+      let b = equal-behaviour (widthOf (c .version)) K c (s .valid) x made in
+      demand-of c (x .chart) s (rewriting-is K c x made .accepted) (b .alike) (b .storable s)
+      (rewriting-judged (widthOf (c .version)) K c (s .valid) x made)
 
   -- the player gives one answer on the bytes of the file and on those that came back
   pub first-fit-plays : (v w is ts : List ℕ) → CountsAllowed c v → CountsAllowed (x .chart) w

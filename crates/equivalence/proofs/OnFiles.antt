@@ -6,6 +6,7 @@ use lib.Count.{ones, onesIn}
 use Rattle.lists.specs.Lists.{memb, anyOf, firstOf, lowest, gather, upTo, pick, top}
 use Rattle.timer_set.specs.Members.{member, joined, common, minus, added, everyTimer, setOf}
 use Rattle.comparison.specs.Comparison.{met, comparisonOf, codeOf}
+use Rattle.model.specs.Version.{knownVersion, widthOf}
 use Rattle.model.specs.Run.{grown, restarted, allMet, after, enabled, attempt, steps, begin, outcome, playerTime, accepts}
 use Rattle.model.specs.Flow.{brings, made, round, roundsOf, sameSets, changing, settled}
 use Rattle.model.specs.Live.{startsSet, testsSet, atInitial, liveFlow, unstartedFlow, reachedFlow, liveSets, unstartedSets, reachedSets}
@@ -43,7 +44,7 @@ unfolding arrow onEvent test drawn A B C selfLoop neverStarted restart ownStart 
     placings meetingDiffer planned fewest searched fullest floor
     numbering renamed newTests newStarts newTransition rewrittenBy
     judged fitted rewriting arrival answerOf tooLarge countsJudged stepsOf played
-    number below many entry rising digits writeAll
+    knownVersion widthOf number below many entry rising digits writeAll
     readComparison readTest readTests recordLength readTransition readTransitions readHeader chartOf readBody
     writeTest writeTransition writeHeader writeBody
     readFrame judgeFrame readFile writeFile chartIn fileOf put

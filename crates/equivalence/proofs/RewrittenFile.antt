@@ -1,5 +1,5 @@
 -- The player called on a file and on what the rewriting left of it in a buffer answers as demand 3 on files says. The buffer has room for every file:
--- the rewritten chart is valid, and no valid chart's file is longer. Assumes nothing.
+-- a file holds the rewritten chart, and no such file is longer. Assumes nothing.
 use mathlib.Core.Path.{_≡_, refl, sym, ap, ap₂, _∙_}
 use mathlib.Core.List.{List}
 use Prim.Native.Nat.{ℕ, _≤_}
@@ -9,7 +9,8 @@ use lib.ListN.{length, take, replicate}
 use borrow.Author.Tests.{le-leb}
 use Rattle.model.specs.Answer.{Answer, result, refused, then, unless, nowhere}
 use Rattle.model.specs.Chart.{Chart}
-use Rattle.model.specs.Valid.{Valid}
+use Rattle.model.specs.Version.{widthOf}
+use Rattle.model.specs.Valid.{Storable}
 use Rattle.model.specs.Judge.{Rewriting, rewriting}
 use Rattle.model.specs.Player.{Arrival}
 use Rattle.file_format.specs.Parse.{Bytes}
@@ -17,7 +18,7 @@ use Rattle.model.proofs.Answers.{not-result, result-same, refused-same}
 use Rattle.model.proofs.EqualAnswers.{equal-behaviour}
 use Rattle.file_format.specs.File.{chartIn, fileOf}
 use Rattle.file_format.specs.Lengths.{largestFile}
-use Rattle.file_format.proofs.File.{reads-valid}
+use Rattle.file_format.proofs.File.{reads-storable}
 use Rattle.file_format.proofs.Lengths.{largest-file}
 use Rattle.chart_lists.specs.Lists.{overwritten}
 use Rattle.chart_lists.proofs.Begins.{begins-put, begins-take, begins-room}
@@ -32,18 +33,18 @@ module _ (K : ℕ) where
   abbrev intoBuffer : Rewriting → Answer Rewriting
   intoBuffer x = unless (leb (length (fileOf (x .chart))) largestFile) 21 nowhere (result x)
 
-  room-for : (c : Chart) → Valid 2 c → (y : Answer Rewriting) → rewriting K c ≡ y → then y intoBuffer ≡ y
-  room-for c valid (result x) e =
-      let fits = largest-file (x .chart) (equal-behaviour 2 K c valid x e .valid 2 valid) in
+  room-for : (c : Chart) → Storable c → (y : Answer Rewriting) → rewriting K c ≡ y → then y intoBuffer ≡ y
+  room-for c s (result x) e =
+      let fits = largest-file (x .chart) (equal-behaviour (widthOf (c .version)) K c (s .valid) x e .storable s) in
       rw (le-leb (length (fileOf (x .chart))) largestFile fits) refl
-  room-for c valid (refused n p) e = refl
+  room-for c s (refused n p) e = refl
 
   pub room-enough : (bs : List ℕ) → Bytes bs → rewriteInto K largestFile bs ≡ then (chartIn bs) (rewriting K)
   unfolding rewriteInto
   room-enough bs bytes = go (chartIn bs) refl
     where
       go : (z : Answer Chart) → chartIn bs ≡ z → then z (λ (c : Chart). then (rewriting K c) intoBuffer) ≡ then z (rewriting K)
-      go (result c) e = room-for c (reads-valid bs c bytes e) (rewriting K c) refl
+      go (result c) e = room-for c (reads-storable bs c bytes e) (rewriting K c) refl
       go (refused n p) e = refl
 
 -- the two answers are all that the claim asks: that they are equal is the law on files

@@ -5,7 +5,7 @@ use Prim.Native.Nat.{ℕ}
 use lib.ListN.{length, getD}
 use Rattle.model.specs.Answer.{result}
 use Rattle.model.specs.Chart.{Chart}
-use Rattle.model.specs.Valid.{Valid}
+use Rattle.model.specs.Valid.{Storable}
 use Rattle.model.specs.Equivalence.{Alike}
 use Rattle.model.specs.Judge.{judged}
 use Rattle.model.specs.Player.{stepsOf}
@@ -17,8 +17,8 @@ pub record Demand (c c′ : Chart) : Type 0 where
   -- from any counts in either, for every step list: the same steps, the same refusal at the same step for the same reason, the same runs, the same
   -- acceptance; and at every point of a run each test reads a timer started earlier in it that shows the drawn timer's count
   pub alike : Alike c c′
-  -- the rewritten chart is one that the player takes: valid, every location reached, nothing unstarted
-  pub valid : Valid 2 c′
+  -- the rewritten chart is one that the player takes: a file holds it, every location reached, nothing unstarted
+  pub storable : Storable c′
   pub judged-so : judged c′ ≡ result c′
   -- the player, called on both files from counts that 12 allows, gives one answer
   pub plays : (v w is ts : List ℕ) → CountsAllowed c v → CountsAllowed c′ w → playAnswer (fileOf c) v is ts ≡ playAnswer (fileOf c′) w is ts

@@ -66,32 +66,32 @@ module _ (locations i : ℕ) (bs : List ℕ) where
         unfolding readEnds
         ends-whole x = rw (e₀, e₁, e₂, x)
 
--- ---- the number of tests of a record with constants of two bytes
+-- ---- the number of tests of a record
 
-module _ (len s i : ℕ) (bs : List ℕ) where
-  pub count-cut : {n p : ℕ} → number 1 bs ≡ refusal n p → refusal n p ≡ readTestCount 2 len s i bs
+module _ (W len s i : ℕ) (bs : List ℕ) where
+  pub count-cut : {n p : ℕ} → number 1 bs ≡ refusal n p → refusal n p ≡ readTestCount W len s i bs
   unfolding readTestCount
   count-cut x = rw x
 
   module _ {g : ℕ} {t : List ℕ} (e₀ : number 1 bs ≡ value g t) where
-    pub count-length : (len ≡ 7 + s + 4 * g → ⊥) → refusal 3 nowhere ≡ readTestCount 2 len s i bs
+    pub count-length : (len ≡ 7 + s + (2 + W) * g → ⊥) → refusal 3 nowhere ≡ readTestCount W len s i bs
     unfolding readTestCount recordLength
-    count-length x = rw (e₀, ne-eqb len (7 + s + 4 * g) x)
+    count-length x = rw (e₀, ne-eqb len (7 + s + (2 + W) * g) x)
 
-    module _ (e₁ : len ≡ 7 + s + 4 * g) where
-      pub count-most : 8 < g → refusal 4 i ≡ readTestCount 2 len s i bs
+    module _ (e₁ : len ≡ 7 + s + (2 + W) * g) where
+      pub count-most : 8 < g → refusal 4 i ≡ readTestCount W len s i bs
       unfolding readTestCount recordLength
-      count-most x = rw (e₀, eq-eqb len (7 + s + 4 * g) e₁, lt-leb g 8 x)
+      count-most x = rw (e₀, eq-eqb len (7 + s + (2 + W) * g) e₁, lt-leb g 8 x)
 
-      pub count-whole : g ≤ 8 → value g t ≡ readTestCount 2 len s i bs
+      pub count-whole : g ≤ 8 → value g t ≡ readTestCount W len s i bs
       unfolding readTestCount recordLength
-      count-whole x = rw (e₀, eq-eqb len (7 + s + 4 * g) e₁, le-leb g 8 x)
+      count-whole x = rw (e₀, eq-eqb len (7 + s + (2 + W) * g) e₁, le-leb g 8 x)
 
--- ---- a record up to its tests, with constants of two bytes
+-- ---- a record up to its tests
 
-module _ (locations timers i : ℕ) (bs : List ℕ) where
+module _ (W locations timers i : ℕ) (bs : List ℕ) where
   abbrev whole : Parsed Head
-  whole = readHead 2 locations timers i bs
+  whole = readHead W locations timers i bs
 
   pub head-ends : {n p : ℕ} → readEnds locations i bs ≡ refusal n p → refusal n p ≡ whole
   unfolding readHead
@@ -108,11 +108,11 @@ module _ (locations timers i : ℕ) (bs : List ℕ) where
       head-starts x = rw (e₀, e₁, x)
 
       module _ {starts : ℕ} {b₃ : List ℕ} (e₂ : readStarts timers i s b₂ ≡ value starts b₃) where
-        pub head-tests : {n p : ℕ} → readTestCount 2 (ends .length) s i b₃ ≡ refusal n p → refusal n p ≡ whole
+        pub head-tests : {n p : ℕ} → readTestCount W (ends .length) s i b₃ ≡ refusal n p → refusal n p ≡ whole
         unfolding readHead
         head-tests x = rw (e₀, e₁, e₂, x)
 
-        pub head-whole : {g : ℕ} {b₄ : List ℕ} → readTestCount 2 (ends .length) s i b₃ ≡ value g b₄
+        pub head-whole : {g : ℕ} {b₄ : List ℕ} → readTestCount W (ends .length) s i b₃ ≡ value g b₄
             → value (headWith ends starts g) b₄ ≡ whole
         unfolding readHead
         head-whole x = rw (e₀, e₁, e₂, x)

@@ -14,7 +14,7 @@ use Rattle.file_format.specs.Body.{recordLength, writeTest, writeTransit
 use Rattle.file_format.specs.File.{writeFile, fileOf, ReadFrom}
 use Rattle.file_format.proofs.File.{chart-survives, reads-storable}
 
-bytes-append : (xs ys : List ℕ) → Bytes xs → Bytes ys → Bytes (xs ++ ys)
+pub bytes-append : (xs ys : List ℕ) → Bytes xs → Bytes ys → Bytes (xs ++ ys)
 bytes-append [] ys h k = k
 bytes-append (x ∷ xs) ys h k = (h .0, bytes-append xs ys (h .1) k)
 

@@ -43,14 +43,14 @@ frame-trip =
     (λ f c j. record { version = c .0 .1 j; follow = c .1 j }))))
 
 -- what a frame says that lets the body be read
-record FrameReads (known : ℕ → Bool) (x : Parsed Frame) (b : Versioned) : Type 0 where
+pub record FrameReads (known : ℕ → Bool) (x : Parsed Frame) (b : Versioned) : Type 0 where
   pub frame : Frame
   pub reads : x ≡ value frame (b .body)
   pub follow : frame .follow ≡ length (b .body)
   pub version : frame .version ≡ b .version
   pub is-known : known (b .version) ≡ true
 
-judged-frame : (known : ℕ → Bool) (x : Parsed Frame) {b : Versioned} → judgeFrame known x ≡ result b → FrameReads known x b
+pub judged-frame : (known : ℕ → Bool) (x : Parsed Frame) {b : Versioned} → judgeFrame known x ≡ result b → FrameReads known x b
 unfolding judgeFrame
 judged-frame known (refusal n p) e = absurd (result-refused e refl)
 judged-frame known (value f body) {b} e =
@@ -127,3 +127,7 @@ module _ (bs : List ℕ) (c : Chart) (by : Bytes bs) (e : chartIn bs ≡ result 
 
   pub reads-storable : Storable c
   reads-storable = record { known = read-as .is-known; valid = read-as .valid }
+
+  -- valid for the constants of its version
+  pub reads-valid : Valid (widthOf (c .version)) c
+  reads-valid = reads-storable .valid

@@ -11,5 +11,6 @@ pub mod Lengths
 pub mod File
 pub mod LargestFile
 pub mod Bytes
+pub mod Versions
 pub mod Refusals
 pub mod Cases

@@ -3,4 +3,5 @@ pub mod Body
 pub mod File
 pub mod Lengths
 pub mod Refusals
+pub mod Versions
 pub mod Cases

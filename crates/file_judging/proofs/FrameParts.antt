@@ -1,7 +1,7 @@
--- The version byte and the length, read as the code reads them: 1, 2, or the body. Assumes nothing.
+-- The version byte and the length, read as the code reads them: 1, 2, or the version and the body. Assumes nothing.
 use mathlib.Core.Path.{_≡_, sym, _∙_, subst}
 use mathlib.Core.Logic.{_⊎_, inl, inr}
-use mathlib.Core.Bool.{true}
+use mathlib.Core.Bool.{true, false}
 use mathlib.Core.List.{List}
 use Prim.Native.Nat.{ℕ, suc, _+_, _≤_, _<_}
 use native.Mathlib.Omega.{arith}
@@ -10,8 +10,9 @@ use lib.ListN.{length, drop, length-drop}
 use borrow.Author.Tests.{eq-eqb, ne-eqb}
 use Rattle.lists.proofs.Bools.{lt-or-le}
 use Rattle.model.specs.Answer.{Answer, result, refused, nowhere}
+use Rattle.model.specs.Version.{knownVersion}
 use Rattle.file_format.specs.Parse.{value, refusal, number}
-use Rattle.file_format.specs.File.{readFrame, judgeFrame}
+use Rattle.file_format.specs.File.{Versioned, readFrame, judgeFrame}
 use Rattle.file_format.proofs.Parsed.{value-refused, same-rest}
 use Rattle.file_format.proofs.Reading.{number-in, number-cut}
 
@@ -25,8 +26,8 @@ number-place w s at {x} {t} e = go (lt-or-le (length s) (at + suc w))
     go (inr l) = (l, same-rest (sym e ∙ number-in s at (suc w) l))
 
 module _ (s : List ℕ) where
-  abbrev judgement : Answer (List ℕ)
-  judgement = judgeFrame 1 (readFrame s)
+  abbrev judgement : Answer Versioned
+  judgement = judgeFrame knownVersion (readFrame s)
 
   pub no-version : {m p : ℕ} → number 1 s ≡ refusal m p → refused 1 nowhere ≡ judgement
   unfolding readFrame judgeFrame
@@ -55,10 +56,10 @@ module _ (s : List ℕ) where
         right-length : eqb x (length body) ≡ true
         right-length = eq-eqb x (length body) (omega (arith, body-length))
 
-        pub wrong-version : (v ≡ 1 → ⊥) → refused 2 nowhere ≡ judgement
+        pub wrong-version : knownVersion v ≡ false → refused 2 nowhere ≡ judgement
         unfolding readFrame judgeFrame
-        wrong-version g = rw (e₀, e₁, right-length, ne-eqb v 1 g)
+        wrong-version g = rw (e₀, e₁, right-length, g)
 
-        pub good-frame : v ≡ 1 → result body ≡ judgement
+        pub good-frame : knownVersion v ≡ true → result (record { version = v; body = body }) ≡ judgement
         unfolding readFrame judgeFrame
-        good-frame g = rw (e₀, e₁, right-length, eq-eqb v 1 g)
+        good-frame g = rw (e₀, e₁, right-length, g)

@@ -49,13 +49,13 @@ module _ (bs : List ℕ) where
 
 -- ---- the number of transitions
 
-module _ (l q k a : ℕ) (bs : List ℕ) where
-  pub count-refused : {n p : ℕ} → below 2 513 4 nowhere bs ≡ refusal n p → refusal n p ≡ readCount l q k a bs
+module _ (v l q k a : ℕ) (bs : List ℕ) where
+  pub count-refused : {n p : ℕ} → below 2 513 4 nowhere bs ≡ refusal n p → refusal n p ≡ readCount v l q k a bs
   unfolding readCount
   count-refused e = rw e
 
   pub count-found : {n : ℕ} {t : List ℕ} → below 2 513 4 nowhere bs ≡ value n t
-      → value (record { locations = l; initial = q; timers = k; accepting = a; transitions = n }) t ≡ readCount l q k a bs
+      → value (record { version = v; locations = l; initial = q; timers = k; accepting = a; transitions = n }) t ≡ readCount v l q k a bs
   unfolding readCount
   count-found e = rw e
 
@@ -86,8 +86,8 @@ accepting-length locations n bs {xs} {t} e = many-length (λ (lo x : ℕ). suc x
 
 -- ---- the header from its parts
 
-module _ (bs : List ℕ) where
-  pub header-limits : {n p : ℕ} → readLimits bs ≡ refusal n p → refusal n p ≡ skipHeader bs
+module _ (v : ℕ) (bs : List ℕ) where
+  pub header-limits : {n p : ℕ} → readLimits bs ≡ refusal n p → refusal n p ≡ skipHeader v bs
   unfolding skipHeader
   header-limits e = rw (← header-parts bs, e)
 
@@ -95,13 +95,13 @@ module _ (bs : List ℕ) where
     abbrev entries-read : Parsed (List ℕ)
     entries-read = rising 2 (l .locations) 5 nowhere (l .accepting) b₁
 
-    pub header-accepting : {n p : ℕ} → skipAccepting (l .locations) (l .accepting) b₁ ≡ refusal n p → refusal n p ≡ skipHeader bs
+    pub header-accepting : {n p : ℕ} → skipAccepting (l .locations) (l .accepting) b₁ ≡ refusal n p → refusal n p ≡ skipHeader v bs
     unfolding skipAccepting skipHeader
     header-accepting e = let h = kept-refused length entries-read e in rw (← header-parts bs, e₀, h)
 
     -- the number of transitions decides it
     pub header-rest : {x : ℕ} {b₂ : List ℕ} → skipAccepting (l .locations) (l .accepting) b₁ ≡ value x b₂
-        → readCount (l .locations) (l .initial) (l .timers) (l .accepting) b₂ ≡ skipHeader bs
+        → readCount v (l .locations) (l .initial) (l .timers) (l .accepting) b₂ ≡ skipHeader v bs
     unfolding skipAccepting skipHeader readCount chartHeader
     header-rest {x} {b₂} e =
         let f = kept-value length entries-read e in
@@ -109,21 +109,23 @@ module _ (bs : List ℕ) where
         rw (← header-parts bs, e₀, f .1) (go (f .0) q (below 2 513 4 nowhere b₂))
       where
         chartWith : ℕ → Header
-        chartWith n = record { locations = l .locations; initial = l .initial; timers = l .timers; accepting = l .accepting; transitions = n }
+        chartWith n =
+            record { version = v; locations = l .locations; initial = l .initial; timers = l .timers; accepting = l .accepting; transitions = n }
 
         fileWith : List ℕ → ℕ → FileHeader
         fileWith xs n = record { locations = l .locations; initial = l .initial; timers = l .timers; accepting = xs; count = n }
 
         go : (xs : List ℕ) → length xs ≡ l .accepting → (y : Parsed ℕ)
-            → bind y (λ n t. value (chartWith n) t) ≡ bind (bind y (λ n t. value (fileWith xs n) t)) (λ h t. value (chartHeader h) t)
+            → bind y (λ n t. value (chartWith n) t) ≡ bind (bind y (λ n t. value (fileWith xs n) t)) (λ h t. value (chartHeader v h) t)
         go xs q (value n t) = rw q
         go xs q (refusal n p) = refl
 
   -- a header that is refused was not read
-  pub header-never : {n p : ℕ} → refusal n p ≡ skipHeader bs → (h : FileHeader) (t : List ℕ) → readHeader bs ≡ value h t → ⊥
+  pub header-never : {n p : ℕ} → refusal n p ≡ skipHeader v bs → (h : FileHeader) (t : List ℕ) → readHeader bs ≡ value h t → ⊥
   unfolding skipHeader
-  header-never e h t k = let z : refusal _ _ ≡ value (chartHeader h) t = rw k at e in value-refused refl (sym z)
+  header-never e h t k = let z : refusal _ _ ≡ value (chartHeader v h) t = rw k at e in value-refused refl (sym z)
 
+module _ (bs : List ℕ) where
   -- the accepting locations of a header that was read
   pub header-entries : {l : Limits} {b₁ : List ℕ} → readLimits bs ≡ value l b₁ → (h : FileHeader) (t : List ℕ) → readHeader bs ≡ value h t
       → (b₂ : List ℕ) × (rising 2 (l .locations) 5 nowhere (l .accepting) b₁ ≡ value (h .accepting) b₂)
@@ -152,10 +154,10 @@ pub record Few (m : Header) : Type 0 where
   pub timers : m .timers ≤ 64
   pub transitions : m .transitions ≤ 512
 
-pub header-few : (bs : List ℕ) {m : Header} {t : List ℕ} → skipHeader bs ≡ value m t → Few m
+pub header-few : (v : ℕ) (bs : List ℕ) {m : Header} {t : List ℕ} → skipHeader v bs ≡ value m t → Few m
 unfolding skipHeader readHeader chartHeader
-header-few bs {m} {t} e =
-    let k = kept-value chartHeader (readHeader bs) e in
+header-few v bs {m} {t} e =
+    let k = kept-value (chartHeader v) (readHeader bs) e in
     let h = k .0 in
     let i₀ = bind-value (below 2 257 4 nowhere bs) _ h t (k .1) in
     let g = guard-value (leb 1 (i₀ .0)) 4 nowhere _ (i₀ .3) in

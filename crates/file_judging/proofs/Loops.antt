@@ -52,34 +52,34 @@ module _ {locations n k lowest : ℕ} {start bs : List ℕ} (p : AcceptingRead l
     accepting-again {x} e = rw (add-one x) (record { done = p .done ++ (x ∷ []); turn = turn-again (p .turn) h e })
 
 -- of n transitions i are read, and they have `tests` tests
-pub record TestsCounted (locations timers n i tests : ℕ) (start bs : List ℕ) : Type 0 where
+pub record TestsCounted (W locations timers n i tests : ℕ) (start bs : List ℕ) : Type 0 where
   pub done : List Transition
-  pub turn : Turn (λ (i : ℕ) (r : Transition). suc i) (readTransition 2 locations timers) (readTransitions 2 locations timers n start) n i done i bs
+  pub turn : Turn (λ (i : ℕ) (r : Transition). suc i) (readTransition W locations timers) (readTransitions W locations timers n start) n i done i bs
   pub count : tests ≡ length (allTests done)
   pub few : tests ≤ 8 * i
 
-unfoldable pub counted-first : (locations timers n : ℕ) (start : List ℕ) → TestsCounted locations timers n 0 0 start start
+unfoldable pub counted-first : (W locations timers n : ℕ) (start : List ℕ) → TestsCounted W locations timers n 0 0 start start
 unfolding allTests
-counted-first locations timers n start = record { done = []; turn = transitions-first 2 locations timers n start; count = refl; few = omega arith }
+counted-first W locations timers n start = record { done = []; turn = transitions-first W locations timers n start; count = refl; few = omega arith }
 
-module _ {locations timers n i tests : ℕ} {start bs : List ℕ} (p : TestsCounted locations timers n i tests start bs) where
-  pub counted-done : n ≤ i → value tests bs ≡ skipTransitions 2 locations timers n start
+module _ {W locations timers n i tests : ℕ} {start bs : List ℕ} (p : TestsCounted W locations timers n i tests start bs) where
+  pub counted-done : n ≤ i → value tests bs ≡ skipTransitions W locations timers n start
   unfolding skipTransitions
   counted-done h = rw (turn-done (p .turn) h, p .count)
 
   module _ (h : i < n) where
-    pub counted-refused : {m q : ℕ} → skipTransition 2 locations timers i bs ≡ refusal m q → refusal m q ≡ skipTransitions 2 locations timers n start
+    pub counted-refused : {m q : ℕ} → skipTransition W locations timers i bs ≡ refusal m q → refusal m q ≡ skipTransitions W locations timers n start
     unfolding skipTransition skipTransitions
     counted-refused e =
-        let k = kept-refused (λ (r : Transition). length (r .tests)) (readTransition 2 locations timers i bs) e in
+        let k = kept-refused (λ (r : Transition). length (r .tests)) (readTransition W locations timers i bs) e in
         rw (turn-refused (p .turn) h k)
 
-    unfoldable pub counted-again : {g : ℕ} {t : List ℕ} → skipTransition 2 locations timers i bs ≡ value g t
-        → TestsCounted locations timers n (i + 1) (tests + g) start t
+    unfoldable pub counted-again : {g : ℕ} {t : List ℕ} → skipTransition W locations timers i bs ≡ value g t
+        → TestsCounted W locations timers n (i + 1) (tests + g) start t
     unfolding skipTransition
     counted-again {g} {t} e =
-        let k = kept-value (λ (r : Transition). length (r .tests)) (readTransition 2 locations timers i bs) e in
-        let f : g ≤ 8 = skip-at-most 2 locations timers i bs e in
+        let k = kept-value (λ (r : Transition). length (r .tests)) (readTransition W locations timers i bs) e in
+        let f : g ≤ 8 = skip-at-most W locations timers i bs e in
         record {
           done = p .done ++ (k .0 ∷ []);
           turn = rw (add-one i) (rw (add-one i) at (turn-again (p .turn) h (k .1)));

@@ -11,6 +11,7 @@ use borrow.Author.Tests.{leb-true}
 use Rattle.lists.proofs.Bools.{and-left, and-right}
 use Rattle.model.specs.Answer.{result}
 use Rattle.model.specs.Chart.{Chart}
+use Rattle.model.specs.Version.{knownVersion, widthOf}
 use Rattle.chart_lists.specs.declared.Header.{Header}
 use Rattle.chart_lists.specs.Lists.{Lists, listsOf, roomFor}
 use Rattle.chart_lists.proofs.Holds.{sources-each, targets-each, events-each, starts-each, test-counts-each, timers-each, codes-each, constants-each}
@@ -69,22 +70,22 @@ room-fits xs l h₁ =
 
 -- ---- the parts of a file that holds a chart
 
-pub record FileParts (body : List ℕ) (c : Chart) : Type 0 where
+pub record FileParts (W : ℕ) (body : List ℕ) (c : Chart) : Type 0 where
   pub header : FileHeader
   pub rest : List ℕ
   pub header-is : readHeader body ≡ value header rest
   pub end : List ℕ
-  pub transitions-are : readTransitions 2 (header .locations) (header .timers) (header .count) rest ≡ value (c .transitions) end
+  pub transitions-are : readTransitions W (header .locations) (header .timers) (header .count) rest ≡ value (c .transitions) end
   pub accepting-are : header .accepting ≡ c .accepting
 
-module _ (s : List ℕ) {body : List ℕ} (e₀ : judgeFrame 1 (readFrame s) ≡ result body) where
+module _ (s : List ℕ) {v : ℕ} {body : List ℕ} (e₀ : judgeFrame knownVersion (readFrame s) ≡ result (record { version = v; body = body })) where
   module _ {c : Chart} (e : chartIn s ≡ result c) where
-    pub file-parts : FileParts body c
+    pub file-parts : FileParts (widthOf v) body c
     unfolding chartIn readFile readBody chartOf
     file-parts =
-        let w = answered-result (readBody 2 body) (rw e₀ at e) in
+        let w = answered-result (readBody v (widthOf v) body) (rw e₀ at e) in
         let i = bind-value (readHeader body) _ c (w .0) (w .1) in
-        let j = bind-value (readTransitions 2 (i .0 .locations) (i .0 .timers) (i .0 .count) (i .1)) _ c (w .0) (i .3) in
+        let j = bind-value (readTransitions (widthOf v) (i .0 .locations) (i .0 .timers) (i .0 .count) (i .1)) _ c (w .0) (i .3) in
         let g = guard-value (isEnd (j .1)) 3 _ _ (j .3) in
         let q = same-value (g .1) in
         record {
@@ -97,24 +98,25 @@ module _ (s : List ℕ) {body : List ℕ} (e₀ : judgeFrame 1 (readFrame s) ≡
         }
 
     -- with the header as the code found it
-    module _ {m : Header} {left : List ℕ} (e₁ : skipHeader body ≡ value m left) where
-      same-header : (chartHeader (file-parts .header) ≡ m) × (file-parts .rest ≡ left)
+    module _ {m : Header} {left : List ℕ} (e₁ : skipHeader v body ≡ value m left) where
+      same-header : (chartHeader v (file-parts .header) ≡ m) × (file-parts .rest ≡ left)
       unfolding skipHeader
-      same-header = let k = kept-value chartHeader (readHeader body) e₁ in
+      same-header = let k = kept-value (chartHeader v) (readHeader body) e₁ in
           let q = sym (file-parts .header-is) ∙ k .1 in
-          (ap chartHeader (same-value q) ∙ k .2, same-rest q)
+          (ap (chartHeader v) (same-value q) ∙ k .2, same-rest q)
 
-      pub transitions-are : (end : List ℕ) × (readTransitions 2 (m .locations) (m .timers) (m .transitions) left ≡ value (c .transitions) end)
+      pub transitions-are : (end : List ℕ)
+          × (readTransitions (widthOf (m .version)) (m .locations) (m .timers) (m .transitions) left ≡ value (c .transitions) end)
       unfolding chartHeader
       transitions-are =
           let p = file-parts in
-          let z : readTransitions 2 (m .locations) (m .timers) (m .transitions) (p .rest) ≡ value (c .transitions) (p .end) =
-          subst (λ (y : Header). readTransitions 2 (y .locations) (y .timers) (y .transitions) (p .rest) ≡ value (c .transitions) (p .end))
-          (same-header .0) (p .transitions-are) in
+          let Reads : Header → Type 0 = λ y.
+          readTransitions (widthOf (y .version)) (y .locations) (y .timers) (y .transitions) (p .rest) ≡ value (c .transitions) (p .end) in
+          let z : Reads m = subst Reads (same-header .0) (p .transitions-are) in
           (p .end, rw (same-header .1) at z)
 
       pub count-is : m .transitions ≡ length (c .transitions)
-      count-is = sym (transitions-length _ _ _ _ (transitions-are .1))
+      count-is = sym (transitions-length _ _ _ _ _ (transitions-are .1))
 
   -- ---- the room that the parts of the walk ask for
 
@@ -128,7 +130,7 @@ module _ (s : List ℕ) {body : List ℕ} (e₀ : judgeFrame 1 (readFrame s) ≡
         go (for-this c e r) = let p = file-parts e in
             of-this (p .header) (p .rest) (p .header-is) (rw (p .accepting-are) (room-fits (listsOf c) l r .accepting))
 
-    module _ {m : Header} {left : List ℕ} (e₁ : skipHeader body ≡ value m left) where
+    module _ {m : Header} {left : List ℕ} (e₁ : skipHeader v body ≡ value m left) where
       -- room for one entry of each transition
       abbrev Each : ℕ → Type 0
       Each n =
@@ -138,7 +140,7 @@ module _ (s : List ℕ) {body : List ℕ} (e₀ : judgeFrame 1 (readFrame s) ≡
       heads-fit = go room
         where
           go : RoomToFill s l → Each (m .transitions)
-          go (for-every r) = let f = header-few body e₁ .transitions in (
+          go (for-every r) = let f = header-few v body e₁ .transitions in (
             omega (arith, r .sources),
             omega (arith, r .targets),
             omega (arith, r .events),
@@ -153,12 +155,17 @@ module _ (s : List ℕ) {body : List ℕ} (e₀ : judgeFrame 1 (readFrame s) ≡
             omega (arith, f .test-counts, test-counts-each c),
           )
 
-      pub tests-fit : TestsFit (m .locations) (m .timers) (m .transitions) left (length (l .timers)) (length (l .codes)) (length (l .constants))
+      -- room for the tests of all transitions
+      abbrev AllTests : Type 0
+      AllTests =
+          TestsFit (widthOf (m .version)) (m .locations) (m .timers) (m .transitions) left
+          (length (l .timers)) (length (l .codes)) (length (l .constants))
+
+      pub tests-fit : AllTests
       tests-fit = go room
         where
-          go : RoomToFill s l
-              → TestsFit (m .locations) (m .timers) (m .transitions) left (length (l .timers)) (length (l .codes)) (length (l .constants))
-          go (for-every r) = let f = header-few body e₁ .transitions in
+          go : RoomToFill s l → AllTests
+          go (for-every r) = let f = header-few v body e₁ .transitions in
               tests-any (record { timers = omega (arith, r .timers); codes = omega (arith, r .codes); constants = omega (arith, r .constants) })
           go (for-this c e r) = let f = room-fits (listsOf c) l r in let k = transitions-are e e₁ in
               of-these (c .transitions) (k .0) (k .1) (record {

@@ -6,6 +6,7 @@ use Prim.Native.Nat.{ℕ}
 use lib.ListN.{drop}
 use Rattle.model.specs.Answer.{result, refused}
 use Rattle.model.specs.Chart.{Transition, Chart}
+use Rattle.model.specs.Version.{knownVersion, widthOf}
 use Rattle.chart_lists.specs.declared.Header.{Header}
 use Rattle.chart_lists.specs.Lists.{Lists, lists, listsOf, put, putLists, allTests}
 use Rattle.file_format.specs.Parse.{value}
@@ -30,8 +31,10 @@ module _ (s : List ℕ) where
   pub refused-none : {n p : ℕ} → chartIn s ≡ refused n p → (c : Chart) → chartIn s ≡ result c → ⊥
   refused-none e c k = result-refused k e
 
-  module _ {body : List ℕ} (e₀ : judgeFrame 1 (readFrame s) ≡ result body) {m : Header} {left : List ℕ} (e₁ : skipHeader body ≡ value m left) where
-    pub ended-read : (d : Field) → fieldAs s d ≡ skipTransitions 2 (m .locations) (m .timers) (m .transitions) left → endedAs s m d ≡ headerRead s
+  module _ {v : ℕ} {body : List ℕ} (e₀ : judgeFrame knownVersion (readFrame s) ≡ result (record { version = v; body = body }))
+      {m : Header} {left : List ℕ} (e₁ : skipHeader v body ≡ value m left) where
+    pub ended-read : (d : Field) → fieldAs s d ≡ skipTransitions (widthOf (m .version)) (m .locations) (m .timers) (m .transitions) left
+        → endedAs s m d ≡ headerRead s
     unfolding headerRead
     ended-read (field.Refused f) k = rw (judge-transitions s e₀ e₁ (sym k))
     ended-read (field.Value x next) k = go (isEnd (drop next s)) refl
@@ -42,7 +45,7 @@ module _ (s : List ℕ) where
 
     pub lists-filled : (l : Lists) {o₁ o₂ o₃ o₄ o₅ o₆ o₇ o₈ o₉ : List ℕ}
         → ((h : FileHeader) (t : List ℕ) → readHeader body ≡ value h t → o₁ ≡ put (h .accepting) (l .accepting))
-        → ((rs : List Transition) (t : List ℕ) → readTransitions 2 (m .locations) (m .timers) (m .transitions) left ≡ value rs t
+        → ((rs : List Transition) (t : List ℕ) → readTransitions (widthOf (m .version)) (m .locations) (m .timers) (m .transitions) left ≡ value rs t
         → HeadsStored rs (l .sources) (l .targets) (l .events) (l .starts) (l .test-counts) o₂ o₃ o₄ o₅ o₆
         × TestsStored (allTests rs) 0 (l .timers) (l .codes) (l .constants) o₇ o₈ o₉)
         → (c : Chart) → chartIn s ≡ result c → lists o₁ o₂ o₃ o₄ o₅ o₆ o₇ o₈ o₉ ≡ putLists (listsOf c) l

@@ -25,16 +25,16 @@ use Rattle.filling.specs.Parts.TestsFit.{of-any, of-these}
 use Rattle.filling.proofs.Store.{stored-none, stored-after}
 
 -- of n transitions k are read and stored, with base tests
-pub record RecordsFilled (locations timers n k base : ℕ) (start bs a₁ a₂ a₃ a₄ a₅ a₆ a₇ a₈ b₁ b₂ b₃ b₄ b₅ b₆ b₇ b₈ : List ℕ) : Type 0 where
-  pub read : TestsCounted locations timers n k base start bs
+pub record RecordsFilled (W locations timers n k base : ℕ) (start bs a₁ a₂ a₃ a₄ a₅ a₆ a₇ a₈ b₁ b₂ b₃ b₄ b₅ b₆ b₇ b₈ : List ℕ) : Type 0 where
+  pub read : TestsCounted W locations timers n k base start bs
   pub heads : HeadsStored (read .done) a₁ a₂ a₃ a₄ a₅ b₁ b₂ b₃ b₄ b₅
   pub tests : TestsStored (allTests (read .done)) 0 a₆ a₇ a₈ b₆ b₇ b₈
 
-pub records-first : (locations timers n : ℕ) (start a₁ a₂ a₃ a₄ a₅ a₆ a₇ a₈ : List ℕ)
-    → RecordsFilled locations timers n 0 0 start start a₁ a₂ a₃ a₄ a₅ a₆ a₇ a₈ a₁ a₂ a₃ a₄ a₅ a₆ a₇ a₈
+pub records-first : (W locations timers n : ℕ) (start a₁ a₂ a₃ a₄ a₅ a₆ a₇ a₈ : List ℕ)
+    → RecordsFilled W locations timers n 0 0 start start a₁ a₂ a₃ a₄ a₅ a₆ a₇ a₈ a₁ a₂ a₃ a₄ a₅ a₆ a₇ a₈
 unfolding allTests counted-first
-records-first locations timers n start a₁ a₂ a₃ a₄ a₅ a₆ a₇ a₈ = record {
-  read = counted-first locations timers n start;
+records-first W locations timers n start a₁ a₂ a₃ a₄ a₅ a₆ a₇ a₈ = record {
+  read = counted-first W locations timers n start;
   heads = record {
     sources = sym (put-nil a₁);
     targets = sym (put-nil a₂);
@@ -57,20 +57,20 @@ heads-more {k} {done} {a₁} {a₂} {a₃} {a₄} {a₅} f e h₁ h₂ h₃ h₄
   test-counts = g .test-counts ∙ put-next (λ (r : Transition). length (r .tests)) done r a₅ h₅ e (f .test-counts);
 }
 
-module _ {locations timers n k base : ℕ} {start bs : List ℕ} (p : TestsCounted locations timers n k base start bs) (h : k < n) where
+module _ {W locations timers n k base : ℕ} {start bs : List ℕ} (p : TestsCounted W locations timers n k base start bs) (h : k < n) where
   -- so many tests with those of the next record
   abbrev Most : ℕ → Type 0
-  Most room = (x : Head) (t : List ℕ) → readHead 2 locations timers k bs ≡ value x t → base + x .tests ≤ room
+  Most room = (x : Head) (t : List ℕ) → readHead W locations timers k bs ≡ value x t → base + x .tests ≤ room
 
   most-any : {room : ℕ} → 8 * n ≤ room → Most room
-  most-any r x t e = omega (arith, p .few, head-at-most 2 locations timers k bs e)
+  most-any r x t e = omega (arith, p .few, head-at-most W locations timers k bs e)
 
-  module _ {all : List Transition} {end : List ℕ} (well : readTransitions 2 locations timers n start ≡ value all end) where
-    next-read : (r : Transition) × (t : List ℕ) × (readTransition 2 locations timers k bs ≡ value r t)
-    next-read = go (readTransition 2 locations timers k bs) refl
+  module _ {all : List Transition} {end : List ℕ} (well : readTransitions W locations timers n start ≡ value all end) where
+    next-read : (r : Transition) × (t : List ℕ) × (readTransition W locations timers k bs ≡ value r t)
+    next-read = go (readTransition W locations timers k bs) refl
       where
-        go : (x : Parsed Transition) → readTransition 2 locations timers k bs ≡ x
-            → (r : Transition) × (t : List ℕ) × (readTransition 2 locations timers k bs ≡ value r t)
+        go : (x : Parsed Transition) → readTransition W locations timers k bs ≡ x
+            → (r : Transition) × (t : List ℕ) × (readTransition W locations timers k bs ≡ value r t)
         go (value r t) e = (r, t, e)
         go (refusal m q) e = absurd (value-refused well (turn-refused (p .turn) h e))
 
@@ -78,13 +78,13 @@ module _ {locations timers n k base : ℕ} {start bs : List ℕ} (p : TestsCount
     unfolding headOf
     most-these r x t e =
         let y = next-read in
-        let parts = transition-parts 2 locations timers k bs (y .0) (y .1) (y .2) in
+        let parts = transition-parts W locations timers k bs (y .0) (y .1) (y .2) in
         let same : x .tests ≡ length (y .0 .tests) = ap (λ (z : Head). z .tests) (same-value (sym e ∙ parts .head)) in
         let f = turn-front (turn-again (p .turn) h (y .2)) well in
         let used : length (allTests (p .done ++ (y .0 ∷ []))) ≡ base + length (y .0 .tests) = rw (tests-more, length-append, ← p .count) in
         omega (arith, tests-front (p .done ++ (y .0 ∷ [])) (f .0) (f .2))
 
-  record-room : {a b c : ℕ} → TestsFit locations timers n start a b c → RecordFits locations timers k base bs a b c
+  record-room : {a b c : ℕ} → TestsFit W locations timers n start a b c → RecordFits W locations timers k base bs a b c
   record-room (of-any e) = record {
     fits = λ x t q. record {
       timers = most-any (e .timers) x t q;
@@ -101,15 +101,15 @@ module _ {locations timers n k base : ℕ} {start bs : List ℕ} (p : TestsCount
   }
 
   -- the lists of a turn are as long as those that were lent
-  pub record-fits : {a b c a′ b′ c′ : ℕ} → TestsFit locations timers n start a b c → a′ ≡ a → b′ ≡ b → c′ ≡ c
-      → RecordFits locations timers k base bs a′ b′ c′
+  pub record-fits : {a b c a′ b′ c′ : ℕ} → TestsFit W locations timers n start a b c → a′ ≡ a → b′ ≡ b → c′ ≡ c
+      → RecordFits W locations timers k base bs a′ b′ c′
   record-fits f p q r = rw (p, q, r) (record-room f)
 
 -- the numbers of the head that was found are the transition's, and its tests stand behind it
-module _ (locations timers k : ℕ) (bs : List ℕ) {x : Head} {b : List ℕ} (e : readHead 2 locations timers k bs ≡ value x b)
-    (r : Transition) (t : List ℕ) (f : readTransition 2 locations timers k bs ≡ value r t) where
-  same-head : value (headOf r) (transition-parts 2 locations timers k bs r t f .rest) ≡ value x b
-  same-head = sym (transition-parts 2 locations timers k bs r t f .head) ∙ e
+module _ (W locations timers k : ℕ) (bs : List ℕ) {x : Head} {b : List ℕ} (e : readHead W locations timers k bs ≡ value x b)
+    (r : Transition) (t : List ℕ) (f : readTransition W locations timers k bs ≡ value r t) where
+  same-head : value (headOf r) (transition-parts W locations timers k bs r t f .rest) ≡ value x b
+  same-head = sym (transition-parts W locations timers k bs r t f .head) ∙ e
 
   pub head-stored : {a₁ a₂ a₃ a₄ a₅ : List ℕ}
       → HeadStored r k a₁ a₂ a₃ a₄ a₅ (set a₁ k (x .source)) (set a₂ k (x .target)) (set a₃ k (x .event)) (set a₄ k (x .starts)) (set a₅ k (x .tests))
@@ -122,15 +122,15 @@ module _ (locations timers k : ℕ) (bs : List ℕ) {x : Head} {b : List ℕ} (e
     test-counts = ap (λ (h : Head). set a₅ k (h .tests)) q;
   }
 
-  pub tests-behind : readTests 2 timers k (x .tests) b ≡ value (r .tests) t
+  pub tests-behind : readTests W timers k (x .tests) b ≡ value (r .tests) t
   unfolding headOf
   tests-behind =
       let q : length (r .tests) ≡ x .tests = ap (λ (h : Head). h .tests) (same-value same-head) in
-      rw (← q, ← same-rest same-head) (transition-parts 2 locations timers k bs r t f .tests)
+      rw (← q, ← same-rest same-head) (transition-parts W locations timers k bs r t f .tests)
 
-module _ {locations timers n k base : ℕ} {start bs a₁ a₂ a₃ a₄ a₅ a₆ a₇ a₈ b₁ b₂ b₃ b₄ b₅ b₆ b₇ b₈ : List ℕ}
-    (f : RecordsFilled locations timers n k base start bs a₁ a₂ a₃ a₄ a₅ a₆ a₇ a₈ b₁ b₂ b₃ b₄ b₅ b₆ b₇ b₈) where
-  pub records-done : n ≤ k → (rs : List Transition) (t : List ℕ) → readTransitions 2 locations timers n start ≡ value rs t
+module _ {W locations timers n k base : ℕ} {start bs a₁ a₂ a₃ a₄ a₅ a₆ a₇ a₈ b₁ b₂ b₃ b₄ b₅ b₆ b₇ b₈ : List ℕ}
+    (f : RecordsFilled W locations timers n k base start bs a₁ a₂ a₃ a₄ a₅ a₆ a₇ a₈ b₁ b₂ b₃ b₄ b₅ b₆ b₇ b₈) where
+  pub records-done : n ≤ k → (rs : List Transition) (t : List ℕ) → readTransitions W locations timers n start ≡ value rs t
       → HeadsStored rs a₁ a₂ a₃ a₄ a₅ b₁ b₂ b₃ b₄ b₅ × TestsStored (allTests rs) 0 a₆ a₇ a₈ b₆ b₇ b₈
   records-done h rs t e =
       subst (λ (x : List Transition). HeadsStored x a₁ a₂ a₃ a₄ a₅ b₁ b₂ b₃ b₄ b₅ × TestsStored (allTests x) 0 a₆ a₇ a₈ b₆ b₇ b₈)
@@ -138,20 +138,20 @@ module _ {locations timers n k base : ℕ} {start bs a₁ a₂ a₃ a₄ a₅ a�
       (f .heads, f .tests)
 
   module _ (h : k < n) where
-    pub records-never : {m q : ℕ} → skipTransition 2 locations timers k bs ≡ refusal m q
-        → (rs : List Transition) (t : List ℕ) → readTransitions 2 locations timers n start ≡ value rs t → ⊥
+    pub records-never : {m q : ℕ} → skipTransition W locations timers k bs ≡ refusal m q
+        → (rs : List Transition) (t : List ℕ) → readTransitions W locations timers n start ≡ value rs t → ⊥
     unfolding skipTransition
     records-never r rs t e = value-refused e (turn-refused (f .read .turn) h (kept-refused (λ (r : Transition). length (r .tests)) _ r))
 
     module _ (r₁ : n ≤ length a₁) (r₂ : n ≤ length a₂) (r₃ : n ≤ length a₃) (r₄ : n ≤ length a₄) (r₅ : n ≤ length a₅)
         {d₁ d₂ d₃ d₄ d₅ d₆ d₇ d₈ : List ℕ}
-        (stored : (r : Transition) (t : List ℕ) → readTransition 2 locations timers k bs ≡ value r t
+        (stored : (r : Transition) (t : List ℕ) → readTransition W locations timers k bs ≡ value r t
         → HeadStored r k b₁ b₂ b₃ b₄ b₅ d₁ d₂ d₃ d₄ d₅ × TestsStored (r .tests) base b₆ b₇ b₈ d₆ d₇ d₈) where
-      pub records-again : {g : ℕ} {t : List ℕ} → skipTransition 2 locations timers k bs ≡ value g t
-          → RecordsFilled locations timers n (k + 1) (base + g) start t a₁ a₂ a₃ a₄ a₅ a₆ a₇ a₈ d₁ d₂ d₃ d₄ d₅ d₆ d₇ d₈
+      pub records-again : {g : ℕ} {t : List ℕ} → skipTransition W locations timers k bs ≡ value g t
+          → RecordsFilled W locations timers n (k + 1) (base + g) start t a₁ a₂ a₃ a₄ a₅ a₆ a₇ a₈ d₁ d₂ d₃ d₄ d₅ d₆ d₇ d₈
       unfolding skipTransition counted-again
       records-again {g} {t} e =
-          let y = kept-value (λ (r : Transition). length (r .tests)) (readTransition 2 locations timers k bs) e in
+          let y = kept-value (λ (r : Transition). length (r .tests)) (readTransition W locations timers k bs) e in
           let z = stored (y .0) t (y .1) in
           let m : 0 + length (allTests (f .read .done)) ≡ base = zero-add _ ∙ sym (f .read .count) in
           record {

@@ -78,9 +78,11 @@ fn fill_record(
 ) -> Field
     requires { ⌜ (limit ≤ 64) × (k < length (now sources)) × (k < length (now targets)) × (k < length (now events))
         × (k < length (now starts)) × (k < length (now «test_counts»)) ⌝ }
-    requires { ⌜ RecordFits (widthOf version) locations limit k base (drop at (now s)) (length (now timers)) (length (now codes)) (length (now constants)) ⌝ }
+    requires { ⌜ RecordFits (widthOf version) locations limit k base (drop at (now s))
+        (length (now timers)) (length (now codes)) (length (now constants)) ⌝ }
     ensures read { λ r. ⌜ fieldAs (now (s .entry)) r ≡ skipTransition (widthOf version) locations limit k (drop at (now (s .entry))) ⌝ }
-    ensures stored { λ _. ⌜ ((r : Transition) (t : List ℕ) → readTransition (widthOf version) locations limit k (drop at (now (s .entry))) ≡ value r t
+    ensures stored { λ _. ⌜ ((r : Transition) (t : List ℕ)
+        → readTransition (widthOf version) locations limit k (drop at (now (s .entry))) ≡ value r t
         → HeadStored r k (now (sources .entry)) (now (targets .entry)) (now (events .entry)) (now (starts .entry)) (now («test_counts» .entry))
         (now (sources .exit)) (now (targets .exit)) (now (events .exit)) (now (starts .exit)) (now («test_counts» .exit))
         × TestsStored (r .tests) base (now (timers .entry)) (now (codes .entry)) (now (constants .entry))
@@ -136,9 +138,11 @@ pub fn fill_records(
 ) -> Field
     requires { ⌜ (limit ≤ 64) × (n ≤ length (now sources)) × (n ≤ length (now targets)) × (n ≤ length (now events))
         × (n ≤ length (now starts)) × (n ≤ length (now «test_counts»)) ⌝ }
-    requires { ⌜ TestsFit (widthOf version) locations limit n (drop at (now s)) (length (now timers)) (length (now codes)) (length (now constants)) ⌝ }
+    requires { ⌜ TestsFit (widthOf version) locations limit n (drop at (now s))
+        (length (now timers)) (length (now codes)) (length (now constants)) ⌝ }
     ensures read { λ r. ⌜ fieldAs (now (s .entry)) r ≡ skipTransitions (widthOf version) locations limit n (drop at (now (s .entry))) ⌝ }
-    ensures stored { λ _. ⌜ ((rs : List Transition) (t : List ℕ) → readTransitions (widthOf version) locations limit n (drop at (now (s .entry))) ≡ value rs t
+    ensures stored { λ _. ⌜ ((rs : List Transition) (t : List ℕ)
+        → readTransitions (widthOf version) locations limit n (drop at (now (s .entry))) ≡ value rs t
         → HeadsStored rs (now (sources .entry)) (now (targets .entry)) (now (events .entry)) (now (starts .entry)) (now («test_counts» .entry))
         (now (sources .exit)) (now (targets .exit)) (now (events .exit)) (now (starts .exit)) (now («test_counts» .exit))
         × TestsStored (allTests rs) 0 (now (timers .entry)) (now (codes .entry)) (now (constants .entry))

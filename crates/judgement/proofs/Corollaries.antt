@@ -87,7 +87,7 @@ module _ (bs : List ℕ) where
     pub refusals-of-judgedIn : (n p : ℕ) → judgedIn bs ≡ refused n p → RefusalOfJudgement n p
     refusals-of-judgedIn n p e = out (chartIn bs) refl
       where
-        of : {d : Chart} → Valid 2 d → judged d ≡ refused n p → Judgement d → RefusalOfJudgement n p
+        of : {W : ℕ} {d : Chart} → Valid W d → judged d ≡ refused n p → Judgement d → RefusalOfJudgement n p
         of v f (is-unreached q g l) = let k : p ≡ q = cc in of-unreached (cc) (omega (arith, l .below, v .few-locations))
         of {d} v f (is-unstarted i g l) =
             let k : p ≡ i = cc in

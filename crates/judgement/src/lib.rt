@@ -192,7 +192,7 @@ pub fn judge(
     test_counts: &mut [u8],
     timers: &mut [u8],
     codes: &mut [u8],
-    constants: &mut [u16],
+    constants: &mut [u32],
     tested: &mut [u64],
 ) -> Read
     requires { ⌜ LargestLists (passed accepting sources targets events starts «test_counts» timers codes constants)

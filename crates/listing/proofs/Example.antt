@@ -21,6 +21,7 @@ use Rattle.model.specs.Judge.{judged, fitted, rewriting}
 use Rattle.file_format.specs.Parse.{number, below, many, entry, rising}
 use Rattle.file_format.specs.Body.{readComparison, readTest, readTests, recordLength, readTransition, readTransitions}
 use Rattle.file_format.specs.Body.{readHeader, chartOf, readBody}
+use Rattle.model.specs.Version.{knownVersion, widthOf}
 use Rattle.file_format.specs.File.{readFrame, judgeFrame, readFile, chartIn}
 use Rattle.file_format.specs.Cases.{bytesOfA, bytesOfB}
 use Rattle.listing.specs.Text.{decimalIn, decimal, refusedWord, usedWord, floorWord, seenWord, limitWord, atWord}
@@ -73,6 +74,6 @@ unfolding bytesOfA bytesOfB linesOfA linesOfB lineOfFloor lineOfSeen
     placings meetingDiffer planned fewest searched fullest floor
     judged fitted rewriting
     number below many entry rising readComparison readTest readTests recordLength readTransition readTransitions readHeader chartOf readBody
-    readFrame judgeFrame readFile chartIn
+    knownVersion widthOf readFrame judgeFrame readFile chartIn
     decimalIn decimal refusedWord usedWord floorWord seenWord limitWord atWord refusedText firstLine lineOf chartText accepted textOf
 texts = record { text-of-A = refl; text-of-B = refl; line-of-floor = refl; line-of-seen = refl }

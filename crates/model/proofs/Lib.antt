@@ -32,6 +32,7 @@ pub mod EqualRuns
 pub mod RewrittenPaths
 pub mod RewrittenValid
 pub mod Versions
+pub mod AnyVersion
 pub mod PlayerNumbers
 pub mod PlayerLaws
 pub mod PlayerAnswer

@@ -16,7 +16,7 @@ use Rattle.model.specs.Judge.{Rewriting, judged, fitted, rewriting}
 use Rattle.model.specs.Player.{played}
 use Rattle.model.proofs.Answers.{result-same, not-result, unless-result}
 use Rattle.model.proofs.EqualRuns.{plan-alike}
-use Rattle.model.proofs.RewrittenValid.{rewritten-valid}
+use Rattle.model.proofs.RewrittenValid.{rewritten-storable}
 use Rattle.model.proofs.PlayerNumbers.{judged-is}
 use Rattle.model.proofs.PlayerLaws.{CountsAllowed, alike-played}
 pub use Rattle.model.specs.Returned.{NotRefused, RewritingAlike}
@@ -58,7 +58,7 @@ module _ (K : ℕ) (c : Chart) (plan : Plan c (numbering (board c))) (fits-unblo
         used = y .used;
         fits = rw (y .used) fits;
         limit = y .limit;
-        valid = λ W v. rw (y .chart) (rewritten-valid c (numbering (board c)) plan W v (omega (arith, y .limit)));
+        storable = λ s. rw (y .chart) (rewritten-storable c (numbering (board c)) plan s (omega (arith, y .limit)));
       }
 
   -- the player, from counts that 12 allows for each, gives one answer

@@ -9,7 +9,8 @@ use lib.ListN.{length, length-map}
 use Rattle.lists.specs.Rising.{All}
 use Rattle.lists.proofs.Gather.{pick-rising}
 use Rattle.model.specs.Chart.{Test, Transition, Chart, Nth}
-use Rattle.model.specs.Valid.{Valid, ValidTest, ValidTransition}
+use Rattle.model.specs.Version.{widthOf}
+use Rattle.model.specs.Valid.{Valid, ValidTest, ValidTransition, Storable}
 use Rattle.model.specs.Rewrite.{Numbering, newTests, newStarts, newTransition, rewrittenBy, NamesBelow}
 use Rattle.model.specs.Plan.{Plan}
 use Rattle.model.proofs.Rewritten.{old-nth, tests-none, tests-some, tested-old, starts-below}
@@ -59,6 +60,11 @@ module _ (c : Chart) (N : Numbering) (P : Plan c N) where
             few-tests = omega (arith, k .short, y .few-tests);
             tests = k .valid;
           }
+
+  -- in a file of the version that the chart has
+  pub rewritten-storable : Storable c → N .used ≤ 64 → Storable (rewrittenBy N c)
+  unfolding rewrittenBy
+  rewritten-storable s few = record { known = s .known; valid = rewritten-valid (widthOf (c .version)) (s .valid) few }
 
   pub names-below : (i : ℕ) (r : Transition) → Nth (rewrittenBy N c) i r → NamesBelow (N .used) r
   names-below i r n = let o = old-nth N c i n in rw (← (o .2)) (go (o .0))

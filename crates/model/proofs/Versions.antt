@@ -38,6 +38,23 @@ width-most v = go (eqb v 1)
     go true = omega arith
     go false = omega arith
 
+-- by the width that the version has: two bytes for 1, four for another
+by-version : (P : ℕ → Type 0) (v : ℕ) → (v ≡ 1 → P 2) → (eqb v 1 ≡ false → P 4) → P (widthOf v)
+unfolding widthOf
+by-version P v two four = go (eqb v 1) refl
+  where
+    go : (b : Bool) → eqb v 1 ≡ b → P (elim b [ true ↦ 2 | false ↦ 4 ])
+    go true e = two (same-number e)
+    go false e = four e
+
+-- two bytes or four
+pub width-cases : (v : ℕ) → (widthOf v ≡ 2) ⊎ (widthOf v ≡ 4)
+width-cases v = by-version (λ W. (W ≡ 2) ⊎ (W ≡ 4)) v (λ e. inl refl) (λ e. inr refl)
+
+-- a constant fits 32 bits
+pub width-fits : (v : ℕ) → 256 ^ widthOf v ≤ 4294967296
+width-fits v = by-version (λ W. 256 ^ W ≤ 4294967296) v (λ e. omega arith) (λ e. omega arith)
+
 -- ---- the same chart with wider or narrower constants
 
 -- valid for W is valid for W′, if each constant that fits W bytes fits W′; Q is what else is known of the tests
@@ -123,15 +140,6 @@ widened c v =
     valid-as 2 4 (λ t. Unit {0}) (λ t q h. omega arith) c (all-have (λ (r : Transition). all-have (λ t. tt) (r .tests)) (c .transitions)) v
 
 -- ---- what a file can hold
-
--- by the width that the version has: two bytes for 1, four for another
-by-version : (P : ℕ → Type 0) (v : ℕ) → (v ≡ 1 → P 2) → (eqb v 1 ≡ false → P 4) → P (widthOf v)
-unfolding widthOf
-by-version P v two four = go (eqb v 1) refl
-  where
-    go : (b : Bool) → eqb v 1 ≡ b → P (elim b [ true ↦ 2 | false ↦ 4 ])
-    go true e = two (same-number e)
-    go false e = four e
 
 -- exactly when: the version is known, four bytes hold every constant, and 17 does not refuse
 pub record StorableBy (c : Chart) : Type 0 where

@@ -16,6 +16,7 @@ pub mod Player
 pub mod Cases
 pub mod Plan
 pub mod Equivalence
+pub mod AnyVersion
 pub mod Returned
 pub mod Places
 pub mod Chain

@@ -4,7 +4,7 @@ use mathlib.Core.Bool.{false}
 use Prim.Native.Nat.{ℕ, _≤_}
 use Rattle.model.specs.Answer.{result}
 use Rattle.model.specs.Chart.{Chart}
-use Rattle.model.specs.Valid.{Valid}
+use Rattle.model.specs.Valid.{Storable}
 use Rattle.model.specs.FirstFit.{board, usedBy, blocked}
 use Rattle.model.specs.Rewrite.{numbering, rewrittenBy}
 use Rattle.model.specs.Judge.{Rewriting, judged}
@@ -25,4 +25,4 @@ pub record RewritingAlike (K : ℕ) (c : Chart) (x : Rewriting) : Type 0 where
   pub used : x .used ≡ numbering (board c) .used
   pub fits : x .used ≤ K
   pub limit : K ≤ 64
-  pub valid : (W : ℕ) → Valid W c → Valid W (x .chart)
+  pub storable : Storable c → Storable (x .chart)

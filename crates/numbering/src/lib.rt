@@ -155,7 +155,7 @@ pub fn number_file(file: &[u8], live: &mut [u64], cells: &mut [u16]) -> FileNumb
     let mut test_counts = [0u8; MOST_TRANSITIONS];
     let mut timers = [0u8; MOST_TESTS];
     let mut codes = [0u8; MOST_TESTS];
-    let mut constants = [0u16; MOST_TESTS];
+    let mut constants = [0u32; MOST_TESTS];
     let mut tested = [0u64; MOST_TRANSITIONS];
     let a = judgement::judge(
         file,

@@ -87,7 +87,7 @@ fn play_chart<'a>(
     test_counts: &'a [u8],
     timers: &'a [u8],
     codes: &'a [u8],
-    constants: &'a [u16],
+    constants: &'a [u32],
     header: Header,
     counts: &[u32],
     transitions: &[u32],
@@ -143,7 +143,7 @@ pub fn play(file: &[u8], counts: &[u32], transitions: &[u32], times: &[u64]) -> 
     let mut test_counts = [0u8; MOST_TRANSITIONS];
     let mut timers = [0u8; MOST_TESTS];
     let mut codes = [0u8; MOST_TESTS];
-    let mut constants = [0u16; MOST_TESTS];
+    let mut constants = [0u32; MOST_TESTS];
     let mut tested = [0u64; MOST_TRANSITIONS];
     let answer = judgement::judge(
         file,

@@ -5,7 +5,7 @@ use Prim.Native.Nat.{ℕ, _≤_}
 use native.Mathlib.Omega.{arith}
 use Rattle.model.specs.Answer.{result}
 use Rattle.model.specs.Chart.{Transition, Chart, Nth}
-use Rattle.model.specs.Valid.{Valid}
+use Rattle.model.specs.Valid.{Valid, Storable}
 use Rattle.model.specs.FirstFit.{board, used}
 use Rattle.model.specs.Rewrite.{numbering, rewrittenBy}
 use Rattle.model.specs.Plan.{Plan, Numbered}
@@ -13,7 +13,7 @@ use Rattle.model.specs.Judge.{judged}
 use Rattle.model.proofs.Paths.{live-here}
 use Rattle.model.proofs.BoardPlan.{board-plan, live-number}
 use Rattle.model.proofs.Judgement.{accepted}
-use Rattle.model.proofs.RewrittenValid.{rewritten-valid}
+use Rattle.model.proofs.RewrittenValid.{rewritten-storable}
 use Rattle.renaming.specs.Renaming.{CellsOf}
 use Rattle.numbering.specs.declared.Numbered.{Numbered as Count}
 use Rattle.numbering.specs.ChartNumbered.{ChartNumbered}
@@ -24,7 +24,7 @@ unfolding numbering
 tests-numbered valid i r n j t =
     live-number valid (r .source) j (live-here (record { number = i; transition = r; is-nth = n; leaves = refl; tests-it = t }))
 
-module _ {c : Chart} (valid : Valid 2 c) (e : judged c ≡ result c) where
+module _ {W : ℕ} {c : Chart} (valid : Valid W c) (e : judged c ≡ result c) where
   pub judged-plan : Plan c (numbering (board c))
   judged-plan = board-plan valid (λ i r n u. accepted valid .0 e .no-unstarted-test i (record { transition = r; is-nth = n; test = u }))
 
@@ -43,5 +43,5 @@ module _ {c : Chart} (valid : Valid 2 c) (e : judged c ≡ result c) where
         numbered = tests-numbered valid;
       }
 
-      pub board-valid : Valid 2 (rewrittenBy (numbering (board c)) c)
-      board-valid = rewritten-valid c (numbering (board c)) judged-plan 2 valid (omega (arith, board-used, few))
+      pub board-storable : Storable c → Storable (rewrittenBy (numbering (board c)) c)
+      board-storable s = rewritten-storable c (numbering (board c)) judged-plan s (omega (arith, board-used, few))

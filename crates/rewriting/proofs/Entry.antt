@@ -3,9 +3,9 @@ use mathlib.Core.Path.{_≡_, sym, ap, _∙_}
 use mathlib.Core.List.{List}
 use Prim.Native.Nat.{ℕ}
 use Rattle.model.specs.Answer.{Answer, result, refused, then}
-use Rattle.model.specs.Valid.{Valid}
+use Rattle.model.specs.Valid.{Storable}
 use Rattle.model.specs.Live.{testedSets}
-use Rattle.file_format.proofs.File.{reads-valid}
+use Rattle.file_format.proofs.File.{reads-storable}
 use Rattle.chart_lists.specs.Lists.{Lists, overwritten}
 use Rattle.chart_lists.specs.declared.Header.{Header}
 use Rattle.chart_lists.specs.declared.Read.{Read}
@@ -22,10 +22,10 @@ use Rattle.rewriting.proofs.Order.{into-refused, into-accepted, values-
 
 -- the chart of a judgement that is no refusal, and where it stands
 pub accepted-into : {bs : List ℕ} {answer : Read} {l : Lists} {sets : List ℕ} → JudgedInto bs answer l sets → {m : Header} → answer ≡ read.Chart m
-    → (a : AcceptedChart bs m) × Valid 2 (a .chart) × Holds (a .chart) l × Begins (testedSets (a .chart)) sets
+    → (a : AcceptedChart bs m) × Storable (a .chart) × Holds (a .chart) l × Begins (testedSets (a .chart)) sets
 accepted-into {bs} j e =
     let a = judged-chart bs (sym (ap readAs e) ∙ j .answers) in
-    (a, reads-valid bs (a .chart) (j .bytes) (a .reads), j .lists (a .chart) (a .reads), j .tested (a .chart) (a .reads))
+    (a, reads-storable bs (a .chart) (j .bytes) (a .reads), j .lists (a .chart) (a .reads), j .tested (a .chart) (a .reads))
 
 module _ (K room : ℕ) (bs : List ℕ) where
   module _ {n p : ℕ} (e : refused n p ≡ judgedHeader bs) where

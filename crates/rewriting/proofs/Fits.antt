@@ -6,7 +6,8 @@ use Prim.Native.Nat.{ℕ}
 use lib.Dec.{leb}
 use lib.ListN.{length}
 use Rattle.model.specs.Answer.{result, nowhere}
-use Rattle.model.specs.Valid.{Valid}
+use Rattle.model.specs.Version.{widthOf}
+use Rattle.model.specs.Valid.{Storable}
 use Rattle.model.specs.FirstFit.{board}
 use Rattle.model.specs.Rewrite.{numbering}
 use Rattle.model.specs.Judge.{Rewriting, rewriting}
@@ -16,7 +17,7 @@ use Rattle.model.proofs.EqualAnswers.{equal-behaviour}
 use Rattle.file_format.specs.Parse.{Bytes}
 use Rattle.file_format.specs.File.{chartIn, fileOf}
 use Rattle.file_format.proofs.Answers.{then-result, unless-result}
-use Rattle.file_format.proofs.File.{reads-valid, chart-survives}
+use Rattle.file_format.proofs.File.{reads-storable, chart-survives}
 use Rattle.rewriting.specs.Rewriting.{rewriteInto}
 use Rattle.rewriting.specs.Returned.{RewritingOf, FitsBoard}
 use Rattle.rewriting.proofs.Board.{judged-plan}
@@ -30,22 +31,23 @@ rewriting-of K room bs x e =
     record { chart = a .0; reads = a .1; made = b .1 ∙ d .1 }
 
 module _ {K : ℕ} {bs : List ℕ} (bytes : Bytes bs) {x : Rewriting} (o : RewritingOf K bs x) where
-  valid-chart : Valid 2 (o .chart)
-  valid-chart = reads-valid bs (o .chart) bytes (o .reads)
+  storable-chart : Storable (o .chart)
+  storable-chart = reads-storable bs (o .chart) bytes (o .reads)
 
   rewriting-fits : FitsBoard K x
   unfolding numbering
   rewriting-fits =
       let c = o .chart in
-      let b = equal-behaviour 2 K c valid-chart x (o .made) in
-      let plan = judged-plan valid-chart (rewriting-is K c x (o .made) .accepted) in
-      let w = b .valid 2 valid-chart in
+      let valid = storable-chart .valid in
+      let b = equal-behaviour (widthOf (c .version)) K c valid x (o .made) in
+      let plan = judged-plan valid (rewriting-is K c x (o .made) .accepted) in
+      let s = b .storable storable-chart in
       record {
         names-below = rw (b .chart, b .used) (names-below c (numbering (board c)) plan);
         fits = b .fits;
         limit = b .limit;
-        valid = w;
-        read-again = chart-survives (x .chart) w;
+        storable = s;
+        read-again = chart-survives (x .chart) s;
       }
 
 pub answer-fits : (K room : ℕ) (bs : List ℕ) → Bytes bs → (x : Rewriting) → rewriteInto K room bs ≡ result x → FitsBoard K x

@@ -14,7 +14,7 @@ abbrev testing : Transition
 testing = record { source = 0; target = 0; event = 0; starts = []; tests = record { timer = 1; comparison = AtMost; constant = 0 } ∷ [] }
 
 abbrev chart : Chart
-chart = record { locations = 1; initial = 0; timers = 2; accepting = []; transitions = testing ∷ [] }
+chart = record { version = 1; locations = 1; initial = 0; timers = 2; accepting = []; transitions = testing ∷ [] }
 
 abbrev pub named-beyond : Rewriting
 named-beyond = record { used = 1; chart = chart }

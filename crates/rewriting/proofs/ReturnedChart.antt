@@ -58,9 +58,10 @@ module _ (c : Chart) where
       → PlaceByPlace (RewrittenTransition c) (c .transitions) (map (newTransition (numbering (board c))) (c .transitions))
   transitions-rewritten valid = place-by-place-map _ (c .transitions) (λ i r e. transition-rewritten valid i r (record { there = e }))
 
-  chart-rewritten : {K : ℕ} {x : Rewriting} → Valid 2 c → NotRefused K c x → RewrittenChart c x
+  chart-rewritten : {W K : ℕ} {x : Rewriting} → Valid W c → NotRefused K c x → RewrittenChart c x
   unfolding rewrittenBy numbering used
   chart-rewritten valid y = record {
+    version = ap (λ (d : Chart). d .version) (y .chart);
     locations = ap (λ (d : Chart). d .locations) (y .chart);
     initial = ap (λ (d : Chart). d .initial) (y .chart);
     accepting = ap (λ (d : Chart). d .accepting) (y .chart);
@@ -97,6 +98,7 @@ module _ (c : Chart) where
   pub rewritten-only : {W W′ : ℕ} {x : Rewriting} → Valid W c → Valid W′ (x .chart) → RewrittenChart c x → x .chart ≡ rewritten c
   unfolding rewritten rewrittenBy numbering used
   rewritten-only {x = x} valid valid′ a i = record {
+    version = a .version i;
     locations = a .locations i;
     initial = a .initial i;
     timers = (a .timers ∙ a .used) i;

@@ -56,23 +56,29 @@ abbrev pub withNames : Lists → (starts timers : List ℕ) → Lists
 withNames l w j = lists (l .accepting) (l .sources) (l .targets) (l .events) w (l .test-counts) j (l .codes) (l .constants)
 
 abbrev pub withTimers : Header → ℕ → Header
-withTimers m n =
-    record { locations = m .locations; initial = m .initial; timers = n; accepting = m .accepting; transitions = m .transitions }
+withTimers m n = record {
+  version = m .version;
+  locations = m .locations;
+  initial = m .initial;
+  timers = n;
+  accepting = m .accepting;
+  transitions = m .transitions;
+}
 
 begins-same : {xs ys l : List ℕ} → xs ≡ ys → Begins ys l → Begins xs l
 begins-same e b = rw e b
 
 module _ (N : Numbering) (c : Chart) where
   -- the starts and the timers of tests are new, the other lists the chart's
-  pub holds-rewritten : ((i : ℕ) (r : Transition) → Nth c i r → Numbered N (r .source) (r .tests)) → Valid 2 (rewrittenBy N c)
+  pub holds-rewritten : ((i : ℕ) (r : Transition) → Nth c i r → Numbered N (r .source) (r .tests)) → {W : ℕ} → Valid W (rewrittenBy N c)
       → {l : Lists} → Holds c l → {starts timers : List ℕ}
       → Begins (listsOf (rewrittenBy N c) .starts) starts → Begins (listsOf (rewrittenBy N c) .timers) timers
       → Holds (rewrittenBy N c) (withNames l starts timers)
   unfolding listsOf rewrittenBy newTransition
-  holds-rewritten numbered valid h w j =
+  holds-rewritten numbered {W} valid h w j =
       let each : AllNumbered N (c .transitions) = λ i r n. numbered i r (record { there = n }) in
       record {
-        width = 2;
+        width = W;
         valid = valid;
         accepting = h .accepting;
         sources = begins-same (map-map (λ (r : Transition). r .source) (newTransition N) (c .transitions)) (h .sources);

@@ -8,7 +8,7 @@ use lib.Dec.{leb}
 use lib.ListN.{length}
 use Rattle.model.specs.Answer.{Answer, result, then, unless, nowhere}
 use Rattle.model.specs.Chart.{Transition, Chart, Nth}
-use Rattle.model.specs.Valid.{Valid}
+use Rattle.model.specs.Valid.{Storable}
 use Rattle.model.specs.FirstFit.{board, used}
 use Rattle.model.specs.Rewrite.{Numbering, numbering, rewrittenBy, rewritten}
 use Rattle.model.specs.Plan.{Numbered}
@@ -30,13 +30,13 @@ use Rattle.rewriting.proofs.Order.{fitted-into}
 -- ---- the writer, called on the renamed lists
 
 module _ (N : Numbering) (c : Chart) (numbered : (i : ℕ) (r : Transition) → Nth c i r → Numbered N (r .source) (r .tests))
-    (valid : Valid 2 (rewrittenBy N c)) {m : Header} (is : m ≡ headerOf c) {l : Lists} (held : Holds c l) {count : ℕ} (u : count ≡ N .used)
+    (storable : Storable (rewrittenBy N c)) {m : Header} (is : m ≡ headerOf c) {l : Lists} (held : Holds c l) {count : ℕ} (u : count ≡ N .used)
     (x y : List ℕ) {starts timers : List ℕ} (w : starts ≡ put (listsOf (rewrittenBy N c) .starts) x)
     (j : timers ≡ put (listsOf (rewrittenBy N c) .timers) y) where
   chart-from : chartFrom (withTimers m count) (withNames l starts timers) ≡ result (rewrittenBy N c)
   chart-from =
-      let h = holds-rewritten N c numbered valid held (begins-put _ x w) (begins-put _ y j) in
-      rw (header-rewritten N c is u) (valid-from (rewrittenBy N c) valid (withNames l starts timers) h)
+      let h = holds-rewritten N c numbered (storable .valid) held (begins-put _ x w) (begins-put _ y j) in
+      rw (header-rewritten N c is u) (valid-from (rewrittenBy N c) storable (withNames l starts timers) h)
 
   pub write-into : (room : ℕ) → writeInto room (withTimers m count) (withNames l starts timers) ≡ intoRoom room (rewrittenBy N c)
   unfolding writeInto intoRoom

@@ -10,7 +10,7 @@ use Rattle.lists.specs.Lists.{memb}
 use Rattle.lists.specs.Elements.{PlaceByPlace}
 use Rattle.model.specs.Answer.{result}
 use Rattle.model.specs.Chart.{Test, Transition, Chart, Nth}
-use Rattle.model.specs.Valid.{Valid}
+use Rattle.model.specs.Valid.{Storable}
 use Rattle.model.specs.Path.{Born}
 use Rattle.model.specs.FirstFit.{numberAt, board, used}
 use Rattle.model.specs.Rewrite.{NamesBelow}
@@ -42,6 +42,7 @@ pub record RewrittenTransition (c : Chart) (r r′ : Transition) : Type 0 where
 
 -- x is the chart rewritten: all is kept but the number of timers and the timers that tests and starts name
 pub record RewrittenChart (c : Chart) (x : Rewriting) : Type 0 where
+  pub version : x .chart .version ≡ c .version
   pub locations : x .chart .locations ≡ c .locations
   pub initial : x .chart .initial ≡ c .initial
   pub accepting : x .chart .accepting ≡ c .accepting
@@ -55,5 +56,5 @@ pub record FitsBoard (K : ℕ) (x : Rewriting) : Type 0 where
   pub names-below : (i : ℕ) (r : Transition) → Nth (x .chart) i r → NamesBelow (x .used) r
   pub fits : x .used ≤ K
   pub limit : K ≤ 64
-  pub valid : Valid 2 (x .chart)
+  pub storable : Storable (x .chart)
   pub read-again : chartIn (fileOf (x .chart)) ≡ result (x .chart)

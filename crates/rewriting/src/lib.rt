@@ -5,7 +5,7 @@ ghost use Prim.Native.Nat.{ℕ};
 ghost use lib.ListN.{length};
 ghost use Rattle.model.specs.Answer.{result, then};
 ghost use Rattle.model.specs.Chart.{Chart};
-ghost use Rattle.model.specs.Valid.{Valid};
+ghost use Rattle.model.specs.Valid.{Storable};
 ghost use Rattle.model.specs.Live.{testedSets};
 ghost use Rattle.model.specs.Rewrite.{Numbering, rewrittenBy};
 ghost use Rattle.model.specs.Judge.{judged};
@@ -46,7 +46,7 @@ fn write_renamed<'a>(
     test_counts: &'a [u8; MOST_TRANSITIONS],
     timers: &'a [u8; MOST_TESTS],
     codes: &'a [u8; MOST_TESTS],
-    constants: &'a [u16; MOST_TESTS],
+    constants: &'a [u32; MOST_TESTS],
     used: u8,
     cells: &'a [u16; MOST_CELLS],
     out: &mut [u8],
@@ -55,11 +55,11 @@ fn write_renamed<'a>(
         × Holds c (passed accepting sources targets events starts «test_counts» timers codes constants) × CellsOf c N (now cells)) ⌝ }
     ensures answer { λ r. ⌜ ((c : Chart) (N : Numbering) → header ≡ headerOf c
         → Holds c (atEntry accepting sources targets events starts «test_counts» timers codes constants) → CellsOf c N (now (cells .entry))
-        → Valid 2 (rewrittenBy N c) → used ≡ N .used
+        → Storable (rewrittenBy N c) → used ≡ N .used
         → writtenAs r ≡ then (intoRoom (length (now (out .entry))) (rewrittenBy N c)) (λ d. result (length (fileOf d)))) ⌝ }
     ensures lent { λ _. ⌜ ((c : Chart) (N : Numbering) → header ≡ headerOf c
         → Holds c (atEntry accepting sources targets events starts «test_counts» timers codes constants) → CellsOf c N (now (cells .entry))
-        → Valid 2 (rewrittenBy N c) → used ≡ N .used
+        → Storable (rewrittenBy N c) → used ≡ N .used
         → now (out .exit) ≡ overwritten fileOf (intoRoom (length (now (out .entry))) (rewrittenBy N c)) (now (out .entry))) ⌝ }
 {
     let mut new_starts = [0u64; MOST_TRANSITIONS];
@@ -67,6 +67,7 @@ fn write_renamed<'a>(
     let mut new_timers = [0u8; MOST_TESTS];
     renaming::rename_tests(header, sources, test_counts, timers, cells, &mut new_timers);
     let board = Header {
+        version: header.version,
         locations: header.locations,
         initial: header.initial,
         timers: used,
@@ -99,18 +100,18 @@ fn fit<'a>(
     test_counts: &'a [u8; MOST_TRANSITIONS],
     timers: &'a [u8; MOST_TESTS],
     codes: &'a [u8; MOST_TESTS],
-    constants: &'a [u16; MOST_TESTS],
+    constants: &'a [u32; MOST_TESTS],
     tested: &'a [u64; MOST_TRANSITIONS],
     k: u32,
     out: &mut [u8],
 ) -> Rewritten
-    requires { ⌜ ((c : Chart) × (header ≡ headerOf c) × (judged c ≡ result c) × Valid 2 c
+    requires { ⌜ ((c : Chart) × (header ≡ headerOf c) × (judged c ≡ result c) × Storable c
         × Holds c (passed accepting sources targets events starts «test_counts» timers codes constants) × Begins (testedSets c) (now tested)) ⌝ }
-    ensures answer { λ r. ⌜ ((c : Chart) → header ≡ headerOf c → judged c ≡ result c → Valid 2 c
+    ensures answer { λ r. ⌜ ((c : Chart) → header ≡ headerOf c → judged c ≡ result c → Storable c
         → Holds c (atEntry accepting sources targets events starts «test_counts» timers codes constants)
         → Begins (testedSets c) (now (tested .entry))
         → rewrittenAs r ≡ then (fittedInto k (length (now (out .entry))) c) (λ x. result (valuesOf x))) ⌝ }
-    ensures lent { λ _. ⌜ ((c : Chart) → header ≡ headerOf c → judged c ≡ result c → Valid 2 c
+    ensures lent { λ _. ⌜ ((c : Chart) → header ≡ headerOf c → judged c ≡ result c → Storable c
         → Holds c (atEntry accepting sources targets events starts «test_counts» timers codes constants)
         → Begins (testedSets c) (now (tested .entry))
         → now (out .exit) ≡ overwritten newFile (fittedInto k (length (now (out .entry))) c) (now (out .entry))) ⌝ }
@@ -165,7 +166,7 @@ fn rewrite_judged<'a>(
     test_counts: &'a [u8; MOST_TRANSITIONS],
     timers: &'a [u8; MOST_TESTS],
     codes: &'a [u8; MOST_TESTS],
-    constants: &'a [u16; MOST_TESTS],
+    constants: &'a [u32; MOST_TESTS],
     tested: &'a [u64; MOST_TRANSITIONS],
     k: u32,
     out: &mut [u8],
@@ -213,7 +214,7 @@ pub fn rewrite(file: &[u8], k: u32, out: &mut [u8]) -> Rewritten
     let mut test_counts = [0u8; MOST_TRANSITIONS];
     let mut timers = [0u8; MOST_TESTS];
     let mut codes = [0u8; MOST_TESTS];
-    let mut constants = [0u16; MOST_TESTS];
+    let mut constants = [0u32; MOST_TESTS];
     let mut tested = [0u64; MOST_TRANSITIONS];
     let answer = judgement::judge(
         file,

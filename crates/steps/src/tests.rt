@@ -28,7 +28,7 @@ pub fn find_firsts(test_counts: &[u8], n: usize, firsts: &mut [u16])
 }
 
 // One test, decided by the table of the comparisons.
-fn test_met(code: u8, count: u32, constant: u16) -> bool
+fn test_met(code: u8, count: u32, constant: u32) -> bool
     ensures { λ r. ⌜ ((x : Comparison) → code ≡ codeOf x → r ≡ met x count constant) ⌝ }
 {
     let a = comparison::decode(code);
@@ -44,7 +44,7 @@ pub fn enabled<'a>(
     firsts: &'a [u16],
     timers: &'a [u8],
     codes: &'a [u8],
-    constants: &'a [u16],
+    constants: &'a [u32],
     i: usize,
     counts: &'a [u32],
 ) -> bool

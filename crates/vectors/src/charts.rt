@@ -14,7 +14,7 @@ struct Lists {
     test_counts: [u8; MOST_TRANSITIONS],
     timers: [u8; MOST_TESTS],
     codes: [u8; MOST_TESTS],
-    constants: [u16; MOST_TESTS],
+    constants: [u32; MOST_TESTS],
 }
 
 // Reads a file into lists of the given lengths.
@@ -35,8 +35,8 @@ pub fn read(file: &[u8], lengths: &[u8]) {
     let g = lent8(&mut timers, lengths, 6);
     let mut codes = [FILLED8; MOST_TESTS];
     let h = lent8(&mut codes, lengths, 7);
-    let mut constants = [FILLED16; MOST_TESTS];
-    let i = lent16(&mut constants, lengths, 8);
+    let mut constants = [FILLED32; MOST_TESTS];
+    let i = lent32(&mut constants, lengths, 8);
     let answer = reader::read_chart(file, a, b, c, d, e, f, g, h, i);
     let lists = Lists {
         accepting,
@@ -81,8 +81,8 @@ pub fn count_changed(vector: &[u8], positions: &[u8]) {
     list8(field(vector, 8), &mut timers);
     let mut codes = [FILLED8; MOST_TESTS];
     list8(field(vector, 9), &mut codes);
-    let mut constants = [FILLED16; MOST_TESTS];
-    list16(field(vector, 10), &mut constants);
+    let mut constants = [FILLED32; MOST_TESTS];
+    list32(field(vector, 10), 0, &mut constants);
     let lists = Lists {
         accepting,
         sources,
@@ -115,13 +115,14 @@ fn changed(lists: Lists, a: usize, n: usize, g: usize) -> usize {
     sum = changed8(sum, &lists.test_counts, n);
     sum = changed8(sum, &lists.timers, g);
     sum = changed8(sum, &lists.codes, g);
-    changed16(sum, &lists.constants, g)
+    changed32(sum, &lists.constants, g)
 }
 
 fn show_chart(header: Header, lists: Lists) {
     let a = header.accepting as usize;
     let n = header.transitions as usize;
-    item(b"locations ", header.locations as u64);
+    item(b"version ", header.version as u64);
+    item(b" locations ", header.locations as u64);
     item(b" initial ", header.initial as u64);
     item(b" timers ", header.timers as u64);
     item(b" accepting ", a as u64);
@@ -180,7 +181,7 @@ fn tests(lists: Lists, from: usize, to: usize) {
 fn test(lists: Lists, i: usize) {
     item(b" ", byte(&lists.timers, i));
     item(b":", byte(&lists.codes, i));
-    item(b":", entry16(&lists.constants, i));
+    item(b":", entry32(&lists.constants, i));
 }
 
 fn write_again(header: Header, lists: Lists) {
@@ -204,7 +205,7 @@ fn write_again(header: Header, lists: Lists) {
 // Writes the nine lists of a vector.
 pub fn write(vector: &[u8], values: &[u8]) {
     let mut out = [FILLED8; BUFFER];
-    write_lent(vector, header(values), lent8(&mut out, values, 5));
+    write_lent(vector, header(values), lent8(&mut out, values, 6));
 }
 
 fn write_lent(vector: &[u8], header: Header, out: &mut [u8]) {
@@ -220,19 +221,20 @@ fn write_lent(vector: &[u8], header: Header, out: &mut [u8]) {
     let f = field(vector, 7);
     let g = field(vector, 8);
     let h = field(vector, 9);
-    let mut constants = [0u16; MOST_TRANSITIONS];
-    let i = list16(field(vector, 10), &mut constants);
+    let mut constants = [0u32; MOST_TRANSITIONS];
+    let i = list32(field(vector, 10), 0, &mut constants);
     let answer = writer::write(header, a, b, c, d, e, f, g, h, i, out);
     show_written(answer, out);
 }
 
 fn header(values: &[u8]) -> Header {
     Header {
-        locations: low16(number(values, 0)),
-        initial: low16(number(values, 1)),
-        timers: low8(number(values, 2)),
-        accepting: low16(number(values, 3)),
-        transitions: low16(number(values, 4)),
+        version: low8(number(values, 0)),
+        locations: low16(number(values, 1)),
+        initial: low16(number(values, 2)),
+        timers: low8(number(values, 3)),
+        accepting: low16(number(values, 4)),
+        transitions: low16(number(values, 5)),
     }
 }
 

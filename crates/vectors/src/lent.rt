@@ -5,6 +5,8 @@ pub const FILLED8: u8 = 170;
 
 pub const FILLED16: u16 = 43690;
 
+pub const FILLED32: u32 = 2863311530;
+
 pub const FILLED64: u64 = 12297829382473034410;
 
 // The length of the longest buffer to lend.
@@ -21,6 +23,11 @@ pub fn lent16<'a>(list: &'a mut [u16], lengths: &[u8], k: usize) -> &'a mut [u16
     &mut list[0..n]
 }
 
+pub fn lent32<'a>(list: &'a mut [u32], lengths: &[u8], k: usize) -> &'a mut [u32] {
+    let n = count(lengths, k, list.len());
+    &mut list[0..n]
+}
+
 pub fn lent64<'a>(list: &'a mut [u64], lengths: &[u8], k: usize) -> &'a mut [u64] {
     let n = count(lengths, k, list.len());
     &mut list[0..n]
@@ -30,9 +37,17 @@ fn wide16(x: u16) -> u64 {
     x as u64
 }
 
+fn wide32(x: u32) -> u64 {
+    x as u64
+}
+
 // An entry of a list, 0 past its end.
 pub fn entry16(list: &[u16], i: usize) -> u64 {
     if i < list.len() { wide16(list[i]) } else { 0 }
+}
+
+pub fn entry32(list: &[u32], i: usize) -> u64 {
+    if i < list.len() { wide32(list[i]) } else { 0 }
 }
 
 pub fn entry64(list: &[u64], i: usize) -> u64 {
@@ -52,6 +67,14 @@ pub fn changed16(before: usize, list: &[u16], from: usize) -> usize {
     let mut sum = before;
     for i in from..list.len() {
         sum = plus(sum, (list[i] != FILLED16) as usize);
+    }
+    sum
+}
+
+pub fn changed32(before: usize, list: &[u32], from: usize) -> usize {
+    let mut sum = before;
+    for i in from..list.len() {
+        sum = plus(sum, (list[i] != FILLED32) as usize);
     }
     sum
 }

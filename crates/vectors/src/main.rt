@@ -18,7 +18,7 @@ mod show;
 use crate::input::*;
 
 fn main() {
-    let mut bytes = [0u8; 262144];
+    let mut bytes = [0u8; 524288];
     let n = io::read_full(0, &mut bytes);
     run(&bytes[..n]);
 }

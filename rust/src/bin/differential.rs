@@ -3,8 +3,9 @@
 //!
 //! usage: differential [ROUNDS] [SEED] [--without-program]
 //!
-//! Exit status 0 if all agree and every refusal number and every kind of floor came; 1 at the first difference, with its
-//! input in hex; 2 if one that should come never did, or the program is missing. A thousand rounds bring all.
+//! Exit status 0 if all agree and every refusal number, every kind of floor and every kind of version and constant came;
+//! 1 at the first difference, with its input in hex; 2 if one that should come never did, or the program is missing. A
+//! thousand rounds bring all.
 
 use std::fmt::{Debug, Display, Formatter};
 use std::io::{ErrorKind, Write};
@@ -12,18 +13,22 @@ use std::path::{Path, PathBuf};
 use std::process::{exit, Command, Stdio};
 
 use timing_chart::analysis::{self, Analysis};
-use timing_chart::chart::Chart;
+use timing_chart::chart::{Chart, Comparison, Test};
 use timing_chart::drawing::*;
 use timing_chart::generator::*;
 use timing_chart::limits::{
-    MOST_INPUT, MOST_LOCATIONS, MOST_STARTS, MOST_TESTS, MOST_TICKS, MOST_TIMERS, NOWHERE, TIMERS,
+    LARGEST_CONSTANT_VERSION_1, MOST_INPUT, MOST_LOCATIONS, MOST_STARTS, MOST_TESTS, MOST_TICKS, MOST_TIMERS, NOWHERE,
+    TIMERS,
 };
 use timing_chart::listing::listing;
 use timing_chart::player;
 use timing_chart::rewriting::{self, Rewriting};
+use timing_chart::version::Version;
 use timing_chart::{library, Answer, Refusal};
 
-/// The numbers that calls of the library bring, each of which must come.
+/// The numbers that calls of the library bring, each of which must come. 17 is not among them: it is the writer's, which
+/// may be handed a chart of version 1 with a constant over 65,535. The library's calls read their chart from a file, and
+/// in a file of version 1 a constant has two bytes; so none of them can meet it.
 const EXPECTED: [usize; 20] = [1, 2, 3, 4, 5, 6, 7, 8, 9, 10, 11, 12, 13, 14, 15, 20, 21, 22, 23, 24];
 
 /// The number that the program alone brings.
@@ -42,6 +47,7 @@ struct Tally {
     /// The program's, the number taken from its text.
     listings: ByNumber,
     floors: Floors,
+    versions: Versions,
     /// Texts of the program with either word.
     printed_floor: u64,
     printed_seen: u64,
@@ -87,6 +93,75 @@ impl Display for Floors {
     }
 }
 
+/// How often which versions and constants came.
+#[derive(Default)]
+struct Versions {
+    /// Charts that were analysed, and charts that were rewritten, by version.
+    analysed: [u64; Version::ALL.len()],
+    rewritten: [u64; Version::ALL.len()],
+    /// Good files of one version that are good files of the other too.
+    relabelled: u64,
+    /// Steps with tests that [ask for a long count](asks_for_long): taken, and refused since the count was not.
+    long: u64,
+    too_short: u64,
+    /// Steps with tests that [allow a long count](allows_long): taken, and refused since the count was longer.
+    within: u64,
+    too_long: u64,
+}
+
+/// Whether a test asks for a count that has come to a constant which version 1 does not hold.
+fn asks_for_long(test: &Test) -> bool {
+    is_long(test) && matches!(test.comparison, Comparison::AtLeast | Comparison::Above | Comparison::Equal)
+}
+
+/// Whether a test asks for a count that has not gone beyond such a constant.
+fn allows_long(test: &Test) -> bool {
+    is_long(test) && matches!(test.comparison, Comparison::AtMost | Comparison::Below)
+}
+
+fn is_long(test: &Test) -> bool {
+    test.constant > LARGEST_CONSTANT_VERSION_1
+}
+
+impl Versions {
+    /// Counts the steps that were tried: so many were taken and, if `refused`, the next one was refused by a test.
+    fn count_steps(&mut self, chart: &Chart, steps: &Steps, taken: usize, refused: bool) {
+        let transition = |step: usize| &chart.transitions()[steps.transitions[step] as usize];
+        for step in 0..taken {
+            let tests = chart.tests(transition(step));
+            self.long += u64::from(tests.iter().any(asks_for_long));
+            self.within += u64::from(tests.iter().any(allows_long));
+        }
+        if refused {
+            let not_met = |test: &&Test| {
+                // A timer is only tested once it was started.
+                let start = (0..taken).rev().find(|&step| transition(step).starts.has(test.timer));
+                let count = steps.times[taken] - start.map_or(0, |step| steps.times[step]);
+                !test.comparison.met(count as u32, test.constant)
+            };
+            let tests: Vec<&Test> = chart.tests(transition(taken)).iter().filter(not_met).collect();
+            self.too_short += u64::from(tests.iter().any(|test| asks_for_long(test)));
+            self.too_long += u64::from(tests.iter().any(|test| allows_long(test)));
+        }
+    }
+
+    /// Whether each came.
+    fn all_came(&self) -> bool {
+        let others = [self.relabelled, self.long, self.too_short, self.within, self.too_long];
+        self.analysed.iter().chain(&self.rewritten).chain(&others).all(|&count| count > 0)
+    }
+}
+
+impl Display for Versions {
+    fn fmt(&self, f: &mut Formatter<'_>) -> std::fmt::Result {
+        let Versions { analysed, rewritten, relabelled, long, too_short, within, too_long } = self;
+        let most = LARGEST_CONSTANT_VERSION_1;
+        write!(f, "by version: analysed {analysed:?}, rewritten {rewritten:?}; good under either: {relabelled}; ")?;
+        write!(f, "steps with tests for a count over {most}, taken: {long}, refused, too short: {too_short}; ")?;
+        write!(f, "with tests for no more than a constant over {most}, taken: {within}, refused, too long: {too_long}")
+    }
+}
+
 impl Tally {
     fn all(&self) -> [&ByNumber; 4] {
         [&self.analyses, &self.rewritings, &self.playings, &self.listings]
@@ -101,6 +176,11 @@ impl Tally {
 /// The place of an answer in a tally: 0 for a result.
 fn number_of<T>(answer: &Answer<T>) -> usize {
     answer.as_ref().err().map_or(0, |refusal| refusal.number as usize)
+}
+
+/// The place of a version in a tally.
+fn place_of(version: Version) -> usize {
+    version as usize - 1
 }
 
 fn hex(bytes: &[u8]) -> String {
@@ -137,6 +217,7 @@ impl Trial {
             let sets = &rust[..usize::from(chart.locations())];
             let fullest = sets.iter().map(|set| u64::from(set.count_ones())).max().unwrap_or(0);
             self.tally.floors.count(figures, fullest);
+            self.tally.versions.analysed[place_of(chart.version())] += 1;
         }
         answer
     }
@@ -156,7 +237,9 @@ impl Trial {
         self.tally.rewritings[number_of(&answer)] += 1;
         let Rewriting { used, length } = answer?;
         rust.truncate(length as usize);
-        assert_eq!(Chart::read(&rust).map(|chart| u64::from(chart.timers())), Ok(used));
+        let board = Chart::read(&rust).expect("the rewritten file is good");
+        assert_eq!((u64::from(board.timers()), board.version() as u8), (used, file[0]));
+        self.tally.versions.rewritten[place_of(board.version())] += 1;
         Ok(rust)
     }
 
@@ -167,11 +250,15 @@ impl Trial {
             differ("player", file, &(counts, &steps.transitions, &steps.times), &proved, &answer);
         }
         self.tally.playings[number_of(&answer)] += 1;
-        self.tally.steps_taken += match answer {
-            Ok(_) => steps.times.len() as u64,
-            Err(Refusal { number: 14 | 15 | 22..=24, place }) => place,
+        let taken = match answer {
+            Ok(_) => steps.times.len(),
+            Err(Refusal { number: 14 | 15 | 22..=24, place }) => place as usize,
             Err(_) => 0,
         };
+        self.tally.steps_taken += taken as u64;
+        if let Ok(chart) = Chart::read(file) {
+            self.tally.versions.count_steps(&chart, steps, taken, number_of(&answer) == 24);
+        }
         answer
     }
 
@@ -224,6 +311,9 @@ impl Trial {
                     let wait = self.random.pick(&[0, 2, 20, 70_000, 1 << 20]);
                     let mut steps = run(&mut self.random, drawing, most_steps, wait, true);
                     if self.random.chance(1, 2) {
+                        if self.random.chance(1, 2) {
+                            steps.cut(&mut self.random);
+                        }
                         lengthen(&mut self.random, drawing, &mut steps);
                     }
                     if self.random.chance(1, 8) {
@@ -287,7 +377,10 @@ impl Trial {
                 accepted(random, &shape)
             }
             86 => accepted(random, &Shape::LARGEST),
-            87 if random.chance(1, 2) => longest(random),
+            87 if random.chance(1, 2) => {
+                let version = random.pick(&Version::ALL);
+                longest(random, version)
+            }
             87 => {
                 let starts = random.pick(&[(1, 1), (10, 40), (40, MOST_STARTS)]);
                 accepted(random, &Shape { cycle: true, starting: 90, starts, ..Shape::LARGEST })
@@ -304,6 +397,10 @@ impl Trial {
             }
             _ => sixty_five_numbers(random.between(1, u64::from(MOST_TIMERS) - 1) as u8),
         };
+        if random.chance(1, 4) {
+            let whole = random.pick(&[1, 4, 20]);
+            store_long(random, &mut drawing, whole);
+        }
         if !drawing.transitions.is_empty() && random.chance(1, 4) {
             // One transition is changed: often 9 or 10 then applies, or the families are others.
             let transition = random.below(drawing.transitions.len() as u64) as usize;
@@ -317,13 +414,18 @@ impl Trial {
         }
         let good = drawing.file();
         self.tally.largest = self.tally.largest.max(good.len() as u64);
-        match random.below(10) {
+        match random.below(11) {
             0..=5 => self.all_calls(&good, Some(&drawing), most_steps),
-            6 | 7 => {
+            6 => {
+                let file = relabelled(random, &good);
+                self.tally.versions.relabelled += u64::from(Chart::read(&file).is_ok());
+                self.all_calls(&file, None, 0);
+            }
+            7 | 8 => {
                 let file = spoilt(random, &drawing);
                 self.all_calls(&file, None, 0);
             }
-            8 => {
+            9 => {
                 let file = damaged(random, &good);
                 self.all_calls(&file, None, 0);
             }
@@ -345,7 +447,8 @@ impl Trial {
 
     /// Lists that are longer than a place of 16 bits tells, and starting counts of every kind on them.
     fn long_lists(&mut self) {
-        let shape = Shape { locations: 9, transitions: 30, cycle: true, lenient: true, ..Shape::LARGEST };
+        let version = self.random.pick(&Version::ALL);
+        let shape = Shape { version, locations: 9, transitions: 30, cycle: true, lenient: true, ..Shape::LARGEST };
         let drawing = accepted(&mut self.random, &shape);
         let file = drawing.file();
         let steps = run(&mut self.random, &drawing, 70_000, 0, false);
@@ -375,12 +478,14 @@ impl Trial {
         for length in [MOST_INPUT - 1, MOST_INPUT, MOST_INPUT + 1, MOST_INPUT + 2, 70_000, 200_000] {
             let mut body = chart_b().file()[5..].to_vec();
             body.resize(length - 6, 0);
-            self.print(&with_k(enclosed(&body)));
+            self.print(&with_k(enclosed(1, &body)));
         }
         let longest_text = accepted(&mut self.random, &Shape { starts: (1, 1), starting: 5, ..Shape::LARGEST });
         self.print(&with_k(longest_text.file()));
-        let longest_file = longest(&mut self.random);
-        self.print(&with_k(longest_file.file()));
+        for version in Version::ALL {
+            let longest_file = longest(&mut self.random, version);
+            self.print(&with_k(longest_file.file()));
+        }
     }
 }
 
@@ -429,6 +534,7 @@ fn main() {
     println!("rounds {rounds}, seed {seed}; largest chart {} bytes", tally.largest);
     println!("steps taken: {}", tally.steps_taken);
     println!("analyses with {}", tally.floors);
+    println!("{}", tally.versions);
     println!("texts with floor: {}, with seen: {}", tally.printed_floor, tally.printed_seen);
     println!("how often each answer came (0: a result)");
     println!("{:>6} {:>10} {:>10} {:>10} {:>10}", "number", "analysis", "rewriting", "player", "program");
@@ -441,8 +547,9 @@ fn main() {
     let program = trial.program.is_some().then_some(OF_PROGRAM);
     let missing: Vec<usize> = EXPECTED.into_iter().chain(program).filter(|&number| !tally.came(number)).collect();
     let words_came = trial.program.is_none() || tally.printed_floor > 0 && tally.printed_seen > 0;
-    if !missing.is_empty() || !tally.floors.all_came() || !words_came {
-        println!("never came: {missing:?}, or one of: {}, or a word of the program", tally.floors);
+    if !missing.is_empty() || !tally.floors.all_came() || !tally.versions.all_came() || !words_came {
+        let Tally { floors, versions, .. } = tally;
+        println!("never came: {missing:?}, or one of: {floors}; or one of: {versions}; or a word of the program");
         exit(2);
     }
     let calls: u64 = tally.all().into_iter().flatten().sum();

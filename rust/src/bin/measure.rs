@@ -1,5 +1,5 @@
 //! Measures the proved library beside this crate: analysis, rewriting and player on small, typical and largest charts,
-//! growth by transitions, and the player's time for a step.
+//! the larger ones as version 2 too, growth by transitions, and the player's time for a step.
 //!
 //! usage: measure [REPETITIONS]
 
@@ -12,6 +12,7 @@ use timing_chart::generator::{accepted, five_groups, hardest_floor, longest, man
 use timing_chart::limits::{LOCATIONS, MOST_TIMERS, MOST_TRANSITIONS};
 use timing_chart::player::{self, Playing};
 use timing_chart::rewriting::{self, Rewriting};
+use timing_chart::version::Version;
 use timing_chart::{library, Answer};
 
 /// The steps of a long list.
@@ -194,7 +195,11 @@ fn main() {
         ("small (chart A)", small),
         ("typical", typical()),
         ("largest", largest(MOST_TRANSITIONS)),
-        ("longest file", longest(&mut Random::new(1))),
+        ("longest file", longest(&mut Random::new(1), Version::One)),
+        // The same charts with constants of four bytes; the longest file has long ones.
+        ("typical, version 2", typical().version(2)),
+        ("largest, version 2", largest(MOST_TRANSITIONS).version(2)),
+        ("longest file, version 2", longest(&mut Random::new(1), Version::Two)),
     ];
     for (name, drawing) in &charts {
         describe(name, drawing);

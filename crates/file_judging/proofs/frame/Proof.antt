@@ -1,10 +1,11 @@
 -- `frame` reads the version and the length, and judges the length before the version. Assumes nothing.
-use mathlib.Core.Path.{_≡_}
+use mathlib.Core.Path.{_≡_, sym, _∙_}
 use mathlib.Core.List.{List}
 use Prim.Native.Nat.{ℕ}
 use lib.ListN.{drop}
 use denote.Ref.{now}
 use native.Mathlib.Omega.{arith}
+use Rattle.lists.proofs.Bools.{not-true, not-false}
 use Rattle.file_format.specs.Parse.{value, number}
 use Rattle.fields.specs.Meaning.{fieldAs}
 use Rattle.fields.proofs.Answers.{told}
@@ -69,15 +70,22 @@ returns-3 c =
     let d = c .before in
     wrong-length (file (second d)) (version (second d)) (follow d) (c .if1 .taken)
 
+known-version-requires : tie.Need-known-version-requires
+known-version-requires c κs = search needs
+
 returns-4 : tie.Need-returns-4
 returns-4 c =
-    let d = c .before .before in
-    wrong-version (file (second d)) (version (second d)) (follow d) (c .before .if1 .left) (c .if2 .taken)
+    let e = c .before .before in
+    let d = e .before in
+    let k = sym (c .before .known-version .ensures) ∙ not-true _ (c .if2 .taken) in
+    wrong-version (file (second d)) (version (second d)) (follow d) (e .if1 .left) k
 
 returns-5 : tie.Need-returns-5
 returns-5 c =
-    let d = c .before .before in
-    good-frame (file (second d)) (version (second d)) (follow d) (c .before .if1 .left) (c .if2 .left)
+    let e = c .before .before in
+    let d = e .before in
+    let k = sym (c .before .known-version .ensures) ∙ not-false _ (c .if2 .left) in
+    good-frame (file (second d)) (version (second d)) (follow d) (e .if1 .left) k
 
 pub frame-spec : {M : Type 1} → statement M
 frame-spec =
@@ -93,5 +101,6 @@ frame-spec =
     returns-2
     add-if1
     returns-3
+    known-version-requires
     returns-4
     returns-5)

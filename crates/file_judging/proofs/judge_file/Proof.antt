@@ -1,12 +1,13 @@
 -- `judge_file` judges frame, header and transitions one after another, and that no byte is left. Assumes nothing.
 use Rattle.fields.proofs.Answers.{told, turned}
 use mathlib.Core.Path.{sym, ap, _∙_}
+use native.Mathlib.Omega.{arith}
 use denote.Ref.{now}
 use Rattle.file_format.proofs.Frame.{end-at, more-at}
 use Rattle.fields.specs.Meaning.{fieldAs}
 use Rattle.file_judging.specs.Meaning.{frameAs, headerAs}
 use Rattle.file_judging.proofs.HeaderParts.{header-few}
-use Rattle.file_judging.proofs.JudgeParts.{judge-frame, judge-header, judge-transitions, judge-left, judge-good}
+use Rattle.file_judging.proofs.JudgeParts.{judge-frame, judge-version, judge-header, judge-transitions, judge-left, judge-good}
 use borrow.Author.Needs.{needs}
 use Rattle.file_judging.proofs.judge_file.Statement.{statement}
 use Rattle.file_judging.proofs.judge_file.Tie as tie
@@ -28,6 +29,11 @@ returns c =
     let s = now (c .before .before .before .before .before .args .s) in
     let e = sym (c .before .before .before .frame .ensures) ∙ ap (frameAs s) (c .before .enum-told .given .1) in
     rw (c .refusal-of .ensures, c .before .enum-told .given .1) (judge-frame s e)
+
+cast-header-at : tie.Need-cast-header-at
+cast-header-at c =
+    let s = now (c .before .before .before .before .before .args .s) in
+    omega (arith, judge-version s (sym (c .before .before .before .frame .ensures) ∙ ap (frameAs s) (c .before .a .given .1)))
 
 header-at-requires : tie.Need-header-at-requires
 header-at-requires c κs = search needs
@@ -52,7 +58,7 @@ returns-2 c =
 skip-records-requires : tie.Need-skip-records-requires
 skip-records-requires c κs =
     let s = now (c .before .before .before .before .before .before .before .before .before .args .s) in
-    header-few _ (told (headerAs s) (c .before .b .given .1) (c .before .before .before .header-at .ensures)) .timers
+    header-few _ _ (told (headerAs s) (c .before .b .given .1) (c .before .before .before .header-at .ensures)) .timers
 
 enum-known-d : tie.Need-enum-known-d
 enum-known-d c = search needs
@@ -101,6 +107,7 @@ judge-file-spec =
     enum-told
     refusal-of-requires
     returns
+    cast-header-at
     header-at-requires
     enum-known-b
     enum-told-2

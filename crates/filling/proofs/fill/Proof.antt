@@ -3,10 +3,12 @@
 use mathlib.Core.Path.{_≡_, sym, ap, _∙_}
 use mathlib.Core.List.{List}
 use Prim.Native.Nat.{ℕ}
+use native.Mathlib.Omega.{arith}
 use lib.ListN.{drop}
 use denote.Ref.{now}
 use borrow.Author.Needs.{needs}
 use Rattle.model.specs.Answer.{result}
+use Rattle.model.specs.Version.{knownVersion}
 use Rattle.chart_lists.specs.Lists.{Lists, lists}
 use Rattle.file_format.specs.Parse.{value}
 use Rattle.file_format.specs.File.{readFrame, judgeFrame}
@@ -14,7 +16,7 @@ use Rattle.fields.proofs.Answers.{told}
 use Rattle.file_judging.specs.Parts.{skipHeader}
 use Rattle.file_judging.specs.Meaning.{frameAs, headerAs}
 use Rattle.file_judging.proofs.HeaderParts.{header-few}
-use Rattle.file_judging.proofs.JudgeParts.{judge-frame, judge-header}
+use Rattle.file_judging.proofs.JudgeParts.{judge-frame, judge-version, judge-header}
 use Rattle.filling.proofs.ChartParts.{accepting-fit, heads-fit, tests-fit}
 use Rattle.filling.proofs.FillParts.{refused-read, refused-none, ended-read, lists-filled}
 use Rattle.filling.proofs.fill.Statement.{statement}
@@ -41,7 +43,8 @@ before d =
 abbrev framed : tie.After-known-told → tie.After-frame
 framed c = c .before .before .before
 
-body : (c : tie.After-known-told) → judgeFrame 1 (readFrame (file (framed c))) ≡ result (drop (c .before .a .given .0 .1 .0) (file (framed c)))
+body : (c : tie.After-known-told) → let g = c .before .a .given .0 in
+    judgeFrame knownVersion (readFrame (file (framed c))) ≡ result (record { version = g .0; body = drop (g .1 .0) (file (framed c)) })
 body c = sym (framed c .frame .ensures) ∙ ap (frameAs (file (framed c))) (c .before .a .given .1)
 
 -- where the header is known
@@ -52,7 +55,8 @@ abbrev known : tie.After-known-told2 → tie.After-known-told
 known c = headed c .before .before
 
 header : (c : tie.After-known-told2) → let s = file (framed (known c)) in
-    skipHeader (drop (known c .before .a .given .0 .1 .0) s) ≡ value (c .before .b .given .0 .0) (drop (c .before .b .given .0 .1 .0) s)
+    let g = known c .before .a .given .0 in
+    skipHeader (g .0) (drop (g .1 .0) s) ≡ value (c .before .b .given .0 .0) (drop (c .before .b .given .0 .1 .0) s)
 header c = told (headerAs (file (framed (known c)))) (c .before .b .given .1) (headed c .fill-header .ensures .0)
 
 -- where the transitions are read, from the end
@@ -81,6 +85,9 @@ returns c =
     let d = c .before .before .before in
     let e = judge-frame (file d) (sym (d .frame .ensures) ∙ ap (frameAs (file d)) (c .before .enum-told .given .1)) in
     (rw (c .refusal-of .ensures, c .before .enum-told .given .1) (refused-read (file d) e), (λ x q. absurd (refused-none (file d) e x q)))
+
+cast-fill-header : tie.Need-cast-fill-header
+cast-fill-header c = omega (arith, judge-version (file (framed c)) (body c))
 
 fill-header-requires : tie.Need-fill-header-requires
 fill-header-requires c κs = let k = c .before in accepting-fit (file (framed k)) (body k) (start (framed k) .pre)
@@ -111,7 +118,7 @@ fill-records-requires c κs =
     let k = known h in
     let r = start (framed k) .pre in
     let f = heads-fit (file (framed k)) (body k) r (header h) in
-    ((header-few _ (header h) .timers, f .0, f .1, f .2, f .3, f .4), tests-fit (file (framed k)) (body k) r (header h))
+    ((header-few _ _ (header h) .timers, f .0, f .1, f .2, f .3, f .4), tests-fit (file (framed k)) (body k) r (header h))
 
 ended-requires : tie.Need-ended-requires
 ended-requires c κs = search needs
@@ -162,6 +169,7 @@ fill-spec =
     enum-told
     refusal-of-requires
     returns
+    cast-fill-header
     fill-header-requires
     enum-known-b
     enum-told-2

@@ -38,8 +38,8 @@ returns : tie.Need-returns
 returns c =
     let d = c .before .before .before in
     let e = told (limitsAs (now (start d .args .s))) (c .before .enum-told .given .1) (d .limits-at .ensures) in
-    let r = header-limits _ e in
-    (rw (c .limits-refusal .ensures, c .before .enum-told .given .1) r, (λ h t q. absurd (header-never _ r h t q)))
+    let r = header-limits _ _ e in
+    (rw (c .limits-refusal .ensures, c .before .enum-told .given .1) r, (λ h t q. absurd (header-never _ _ r h t q)))
 
 fill-accepting-requires : tie.Need-fill-accepting-requires
 fill-accepting-requires c κs = let k = c .before in accepting-room (start (k .before .before .before) .pre) (limits k)
@@ -62,8 +62,8 @@ returns-2 c =
     let k = f .before .before in
     let s = now (start (k .before .before .before) .args .s) in
     let e = turned s (c .before .enum-told2 .given .1) (c .refusal-of .ensures) (f .fill-accepting .ensures .0) in
-    let r = header-accepting _ (limits k) e in
-    (r, (λ h t q. absurd (header-never _ r h t q)))
+    let r = header-accepting _ _ (limits k) e in
+    (r, (λ h t q. absurd (header-never _ _ r h t q)))
 
 count-at-requires : tie.Need-count-at-requires
 count-at-requires c κs = search needs
@@ -77,7 +77,7 @@ returns-3 c =
     let k = f .before .before in
     let s = now (start (k .before .before .before) .args .s) in
     let e = told (fieldAs s) (c .before .before .b .given .1) (f .fill-accepting .ensures .0) in (
-      c .count-at .ensures ∙ header-rest _ (limits k) e,
+      c .count-at .ensures ∙ header-rest _ _ (limits k) e,
       (λ h t q. f .fill-accepting .ensures .1 (h .accepting) _ (header-entries _ (limits k) h t q .1)),
     )
 

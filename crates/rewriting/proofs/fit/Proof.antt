@@ -7,7 +7,7 @@ use lib.ListN.{length}
 use borrow.Author.Needs.{needs}
 use Rattle.model.specs.Answer.{result, then}
 use Rattle.model.specs.Chart.{Chart}
-use Rattle.model.specs.Valid.{Valid}
+use Rattle.model.specs.Valid.{Storable}
 use Rattle.model.specs.Live.{testedSets}
 use Rattle.model.specs.FirstFit.{board}
 use Rattle.model.specs.Rewrite.{numbering}
@@ -29,7 +29,7 @@ use Rattle.writer.specs.Writing.{writtenAs}
 use Rattle.rewriting.specs.Rewriting.{newFile, valuesOf}
 use Rattle.rewriting.specs.Parts.{fittedInto}
 use Rattle.rewriting.proofs.Order.{fitted-into, values-refused, buffer-refused}
-use Rattle.rewriting.proofs.Board.{board-used, board-cells, board-valid}
+use Rattle.rewriting.proofs.Board.{board-used, board-cells, board-storable}
 use Rattle.rewriting.proofs.Written.{made, values-written, buffer-written}
 use Rattle.rewriting.proofs.fit.Statement.{statement}
 use Rattle.rewriting.proofs.fit.Tie as tie
@@ -47,7 +47,7 @@ entry c = start (numbered c .before)
 -- the lists are those of the chart, which is judged
 abbrev Given : tie.Start → Chart → Type 0
 Given s d = let a = s .args in
-    (a .header ≡ headerOf d) × (judged d ≡ result d) × Valid 2 d
+    (a .header ≡ headerOf d) × (judged d ≡ result d) × Storable d
     × Holds d (passed (a .accepting) (a .sources) (a .targets) (a .events) (a .starts) (a .test-counts) (a .timers) (a .codes) (a .constants))
     × Begins (testedSets d) (now (a .tested))
 
@@ -136,7 +136,7 @@ buffer c d g =
     let x = left (judged-so (told c)) d g in
     let u = few (told c) in
     let cells = board-cells (g .2) (g .1) x u in
-    c .write-renamed .ensures .1 d (numbering (board d)) (g .0) (g .3) cells (board-valid (g .2) (g .1) x u) (board-used (g .2) (g .1) x)
+    c .write-renamed .ensures .1 d (numbering (board d)) (g .0) (g .3) cells (board-storable (g .2) (g .1) x u) (board-used (g .2) (g .1) x)
     ∙ buffer-written (a .k) (length (now (a .out))) d (enough c d g) (now (a .out))
 
 -- the writer's answer, with the timers used
@@ -148,7 +148,7 @@ values c e d g =
     let x = left (judged-so (told c)) d g in
     let u = few (told c) in
     let cells = board-cells (g .2) (g .1) x u in
-    let r = c .write-renamed .ensures .0 d (numbering (board d)) (g .0) (g .3) cells (board-valid (g .2) (g .1) x u)
+    let r = c .write-renamed .ensures .0 d (numbering (board d)) (g .0) (g .3) cells (board-storable (g .2) (g .1) x u)
     (board-used (g .2) (g .1) x) in
     values-written (a .k) (length (now (a .out))) d (enough c d g) (x .used-is) (sym (ap writtenAs e) ∙ r)
 

@@ -4,6 +4,7 @@ use native.Mathlib.Omega.{arith}
 use lib.ListN.{drop}
 use denote.Ref.{now}
 use borrow.Author.Needs.{needs}
+use Rattle.model.specs.Version.{widthOf}
 use Rattle.file_format.specs.Parse.{value, below}
 use Rattle.file_format.proofs.Parsed.{below-limit}
 use Rattle.fields.specs.Meaning.{fieldAs, endsAs}
@@ -46,7 +47,8 @@ starts-at c = told (fieldAs (now (first (second (third c)) .args .s))) (c .befor
 
 tests-at : (c : tie.After-known-told4) → let d = fourth c in let a = first (second (third d)) .args in let g = c .before .e .given .0 in
     let h = third d .before .b .given .0 in let f = second (third d) .before .a .given .0 in
-    readTestCount 2 (f .0) (h .0) (a .place) (drop (d .before .d .given .0 .1 .0) (now (a .s))) ≡ value (g .0) (drop (g .1 .0) (now (a .s)))
+    readTestCount (widthOf (a .version)) (f .0) (h .0) (a .place) (drop (d .before .d .given .0 .1 .0) (now (a .s)))
+    ≡ value (g .0) (drop (g .1 .0) (now (a .s)))
 tests-at c =
     told (fieldAs (now (first (second (third (fourth c))) .args .s))) (c .before .e .given .1) (c .before .before .before .test-count-at .ensures)
 
@@ -68,7 +70,7 @@ returns : tie.Need-returns
 returns c =
     let a = c .before .before .before .before .before .args in
     let e = told (endsAs (now (a .s))) (c .before .enum-told .given .1) (c .before .before .before .ends-at .ensures) in
-    rw (c .ends-refusal .ensures, c .before .enum-told .given .1) (head-ends (a .locations) (a .timers) (a .place) _ e)
+    rw (c .ends-refusal .ensures, c .before .enum-told .given .1) (head-ends (widthOf (a .version)) (a .locations) (a .timers) (a .place) _ e)
 
 byte-below-requires : tie.Need-byte-below-requires
 byte-below-requires c κs = search needs
@@ -87,7 +89,7 @@ returns-2 c =
     let c₁ = c .before .before .before .before in
     let a = first c₁ .args in
     let e = turned (now (a .s)) (c .before .enum-told2 .given .1) (c .refusal-of .ensures) (c .before .before .before .byte-below .ensures) in
-    head-count (a .locations) (a .timers) (a .place) _ (ends-at c₁) e
+    head-count (widthOf (a .version)) (a .locations) (a .timers) (a .place) _ (ends-at c₁) e
 
 starts-at-requires : tie.Need-starts-at-requires
 starts-at-requires c κs = search needs
@@ -107,7 +109,7 @@ returns-3 c =
     let c₁ = second c₂ in
     let a = first c₁ .args in
     let e = turned (now (a .s)) (c .before .enum-told3 .given .1) (c .refusal-of2 .ensures) (c .before .before .before .starts-at .ensures) in
-    head-starts (a .locations) (a .timers) (a .place) _ (ends-at c₁) (count-at c₂) e
+    head-starts (widthOf (a .version)) (a .locations) (a .timers) (a .place) _ (ends-at c₁) (count-at c₂) e
 
 test-count-at-requires : tie.Need-test-count-at-requires
 test-count-at-requires c κs = omega (arith, below-limit _ _ _ _ _ (count-at (third c)))
@@ -128,10 +130,10 @@ returns-4 c =
     let c₁ = second c₂ in
     let a = first c₁ .args in
     let e = turned (now (a .s)) (c .before .enum-told4 .given .1) (c .refusal-of3 .ensures) (c .before .before .before .test-count-at .ensures) in
-    head-tests (a .locations) (a .timers) (a .place) _ (ends-at c₁) (count-at c₂) (starts-at c₃) e
+    head-tests (widthOf (a .version)) (a .locations) (a .timers) (a .place) _ (ends-at c₁) (count-at c₂) (starts-at c₃) e
 
-cast-t25 : tie.Need-cast-t25
-cast-t25 c = record { fits = omega (arith, count-few _ _ _ _ _ (tests-at c)) }
+cast-t26 : tie.Need-cast-t26
+cast-t26 c = record { fits = omega (arith, count-few _ _ _ _ _ (tests-at c)) }
 
 returns-5 : tie.Need-returns-5
 returns-5 c =
@@ -139,7 +141,7 @@ returns-5 c =
     let c₂ = third c₃ in
     let c₁ = second c₂ in
     let a = first c₁ .args in
-    head-whole (a .locations) (a .timers) (a .place) _ (ends-at c₁) (count-at c₂) (starts-at c₃) (tests-at c)
+    head-whole (widthOf (a .version)) (a .locations) (a .timers) (a .place) _ (ends-at c₁) (count-at c₂) (starts-at c₃) (tests-at c)
 
 pub head-at-spec : {M : Type 1} → statement M
 head-at-spec =
@@ -165,5 +167,5 @@ head-at-spec =
     enum-told-4
     refusal-of-requires-3
     returns-4
-    cast-t25
+    cast-t26
     returns-5)

@@ -1,9 +1,13 @@
 -- `test_count_at` reads the number of tests, then judges the record's length and that number. Assumes nothing.
-use mathlib.Core.Path.{_≡_, _∙_}
+use mathlib.Core.Path.{_≡_, sym, ap, _∙_}
+use Prim.Native.Nat.{ℕ, _+_, _*_, _≤_, _<_}
+use native.Mathlib.Nat.{mul-le-mul}
 use native.Mathlib.Omega.{arith}
 use lib.ListN.{drop}
 use denote.Ref.{now}
 use borrow.Author.Needs.{needs}
+use Rattle.model.specs.Version.{widthOf}
+use Rattle.model.proofs.Versions.{width-most}
 use Rattle.file_format.specs.Parse.{value, number}
 use Rattle.fields.specs.Meaning.{fieldAs}
 use Rattle.fields.proofs.Answers.{told}
@@ -19,6 +23,10 @@ read-at : (c : tie.After-known-told) → let a = start c .args in let g = c .bef
     number 1 (drop (a .at) (now (a .s))) ≡ value (g .0) (drop (g .1 .0) (now (a .s)))
 read-at c = told (fieldAs (now (start c .args .s))) (c .before .a .given .1) (c .before .before .before .byte-at .ensures .reads)
 
+-- it is a byte
+small-at : (c : tie.After-known-told) → c .before .a .given .0 .0 < 256
+small-at c = c .before .before .before .byte-at .ensures .small _ _ (c .before .a .given .1)
+
 byte-at-requires : tie.Need-byte-at-requires
 byte-at-requires c κs = search needs
 
@@ -33,32 +41,55 @@ returns c =
     let a = c .before .before .before .before .args in
     let k = c .before .before .byte-at .ensures .reads in
     let h = told (fieldAs (now (a .s))) (c .enum-told .given .1) k in
-    (k ∙ h) ∙ count-cut (a .length) (a .n) (a .place) _ h
+    (k ∙ h) ∙ count-cut (widthOf (a .version)) (a .length) (a .n) (a .place) _ h
+
+width-of-requires : tie.Need-width-of-requires
+width-of-requires c κs = search needs
+
+-- what one test has in bytes, times the number of tests
+product-small : (v : ℕ) {w g : ℕ} → w ≡ widthOf v → g < 256 → (2 + w) * g ≤ 1530
+product-small v {w} {g} e h =
+    let a : 2 + w ≤ 6 = omega (arith, e, width-most v) in
+    let b : g ≤ 255 = omega arith in
+    mul-le-mul a b
 
 add-if1 : tie.Need-add-if1
 add-if1 c = search needs
 
-mul-if1 : tie.Need-mul-if1
-mul-if1 c = record { fits = omega (arith, c .before .before .before .byte-at .ensures .small _ _ (c .before .a .given .1)) }
-
 add-if1-2 : tie.Need-add-if1-2
-add-if1-2 c =
-    record { fits = omega (arith, start c .pre, c .before .before .before .byte-at .ensures .small _ _ (c .before .a .given .1)) }
+add-if1-2 c = record { fits = omega (arith, c .width-of .ensures, width-most (start (c .before) .args .version)) }
+
+mul-if1 : tie.Need-mul-if1
+mul-if1 c = record { fits = omega (arith, product-small (start (c .before) .args .version) (c .width-of .ensures) (small-at (c .before))) }
+
+add-if1-3 : tie.Need-add-if1-3
+add-if1-3 c =
+    let m = product-small (start (c .before) .args .version) (c .width-of .ensures) (small-at (c .before)) in
+    record { fits = omega (arith, start (c .before) .pre, m) }
+
+-- the width that the code has is the version's
+as-wide : (c : tie.After-width-of) → let a = start (c .before) .args in let g = c .before .before .a .given .0 .0 in
+    7 + a .n + (2 + c .width-of .result) * g ≡ 7 + a .n + (2 + widthOf (a .version)) * g
+as-wide c = let a = start (c .before) .args in
+    ap (λ (w : ℕ). 7 + a .n + (2 + w) * (c .before .before .a .given .0 .0)) (c .width-of .ensures)
 
 returns-2 : tie.Need-returns-2
-returns-2 c = let a = start (c .before) .args in count-length (a .length) (a .n) (a .place) _ (read-at (c .before)) (c .if1 .taken)
+returns-2 c =
+    let d = c .before in
+    let a = start (d .before) .args in
+    count-length (widthOf (a .version)) (a .length) (a .n) (a .place) _ (read-at (d .before)) (λ q. c .if1 .taken (q ∙ sym (as-wide d)))
 
 returns-3 : tie.Need-returns-3
 returns-3 c =
     let d = c .before .before in
-    let a = start d .args in
-    count-most (a .length) (a .n) (a .place) _ (read-at d) (c .before .if1 .left) (c .if2 .taken)
+    let a = start (d .before) .args in
+    count-most (widthOf (a .version)) (a .length) (a .n) (a .place) _ (read-at (d .before)) (c .before .if1 .left ∙ as-wide d) (c .if2 .taken)
 
 returns-4 : tie.Need-returns-4
 returns-4 c =
     let d = c .before .before in
-    let a = start d .args in
-    count-whole (a .length) (a .n) (a .place) _ (read-at d) (c .before .if1 .left) (c .if2 .left)
+    let a = start (d .before) .args in
+    count-whole (widthOf (a .version)) (a .length) (a .n) (a .place) _ (read-at (d .before)) (c .before .if1 .left ∙ as-wide d) (c .if2 .left)
 
 pub test-count-at-spec : {M : Type 1} → statement M
 test-count-at-spec =
@@ -68,9 +99,11 @@ test-count-at-spec =
     enum-known-a
     enum-told
     returns
+    width-of-requires
     add-if1
-    mul-if1
     add-if1-2
+    mul-if1
+    add-if1-3
     returns-2
     returns-3
     returns-4)

@@ -7,6 +7,8 @@ use denote.Ref.{now}
 use borrow.Author.Needs.{needs}
 use Rattle.comparison.specs.Comparison.{comparisonOf}
 use Rattle.comparison.specs.Decoding.{decodedOf}
+use Rattle.model.specs.Version.{widthOf}
+use Rattle.model.proofs.Versions.{width-fits}
 use Rattle.file_format.specs.Parse.{value, number, below}
 use Rattle.file_format.proofs.Parsed.{below-limit}
 use Rattle.fields.specs.Meaning.{fieldAs}
@@ -42,10 +44,11 @@ code-at c = told (fieldAs (now (first (second c) .args .s))) (c .before .b .give
 comparison-at : (c : tie.After-known-told3) → comparisonOf (third c .before .b .given .0 .0) ≡ some (c .before .d .given .0 .0)
 comparison-at c = sym (c .before .before .before .decode .ensures) ∙ ap decodedOf (c .before .d .given .1)
 
-constant-at : (c : tie.After-known-told4) → let d = third (fourth c) in let a = first (second d) .args in let g = c .before .e .given .0 in
-    number 2 (drop (d .before .b .given .0 .1 .0) (now (a .s))) ≡ value (g .0) (drop (g .1 .0) (now (a .s)))
-constant-at c =
-    told (fieldAs (now (first (second (third (fourth c))) .args .s))) (c .before .e .given .1) (c .before .before .before .pair-at .ensures .reads)
+constant-there : (c : tie.After-known-told4) → let d = third (fourth c) in let a = first (second d) .args in let g = c .before .e .given .0 in
+    number (widthOf (a .version)) (drop (d .before .b .given .0 .1 .0) (now (a .s))) ≡ value (g .0) (drop (g .1 .0) (now (a .s)))
+constant-there c =
+    let k = c .before .before .before .constant-at .ensures in
+    told (fieldAs (now (first (second (third (fourth c))) .args .s))) (c .before .e .given .1) (k .reads)
 
 -- ----
 
@@ -65,7 +68,7 @@ returns : tie.Need-returns
 returns c =
     let a = c .before .before .before .before .before .args in
     let e = turned (now (a .s)) (c .before .enum-told .given .1) (c .refusal-of .ensures) (c .before .before .before .byte-below .ensures) in
-    test-timer 2 (a .timers) (a .place) _ e
+    test-timer (widthOf (a .version)) (a .timers) (a .place) _ e
 
 byte-at-requires : tie.Need-byte-at-requires
 byte-at-requires c κs = search needs
@@ -84,7 +87,7 @@ returns-2 c =
     let c₁ = c .before .before .before .before in
     let a = first c₁ .args in
     let e = turned (now (a .s)) (c .before .enum-told2 .given .1) (c .refusal-of2 .ensures) (c .before .before .before .byte-at .ensures .reads) in
-    test-code 2 (a .timers) (a .place) _ (timer-at c₁) e
+    test-code (widthOf (a .version)) (a .timers) (a .place) _ (timer-at c₁) e
 
 cast-decode : tie.Need-cast-decode
 cast-decode c = record { fits = omega (arith, c .before .before .before .byte-at .ensures .small _ _ (c .before .b .given .1)) }
@@ -104,10 +107,10 @@ returns-3 c =
     let c₁ = second c₂ in
     let a = first c₁ .args in
     let e = sym (c .before .before .decode .ensures) ∙ ap decodedOf (c .enum-told3 .given .1) in
-    test-unknown 2 (a .timers) (a .place) _ (timer-at c₁) (code-at c₂) e
+    test-unknown (widthOf (a .version)) (a .timers) (a .place) _ (timer-at c₁) (code-at c₂) e
 
-pair-at-requires : tie.Need-pair-at-requires
-pair-at-requires c κs = search needs
+constant-at-requires : tie.Need-constant-at-requires
+constant-at-requires c κs = search needs
 
 enum-known-e : tie.Need-enum-known-e
 enum-known-e c = search needs
@@ -124,16 +127,19 @@ returns-4 c =
     let c₂ = third c₃ in
     let c₁ = second c₂ in
     let a = first c₁ .args in
-    let e = turned (now (a .s)) (c .before .enum-told4 .given .1) (c .refusal-of3 .ensures) (c .before .before .before .pair-at .ensures .reads) in
-    test-constant 2 (a .timers) (a .place) _ (timer-at c₁) (code-at c₂) (comparison-at c₃) e
+    let k = c .before .before .before .constant-at .ensures in
+    let e = turned (now (a .s)) (c .before .enum-told4 .given .1) (c .refusal-of3 .ensures) (k .reads) in
+    test-constant (widthOf (a .version)) (a .timers) (a .place) _ (timer-at c₁) (code-at c₂) (comparison-at c₃) e
 
-cast-t19 : tie.Need-cast-t19
-cast-t19 c =
+cast-t20 : tie.Need-cast-t20
+cast-t20 c =
     let d = second (third (fourth c)) in
     record { fits = omega (arith, below-limit _ _ _ _ _ (timer-at d), first d .good) }
 
-cast-t22 : tie.Need-cast-t22
-cast-t22 c = record { fits = omega (arith, c .before .before .before .pair-at .ensures .small _ _ (c .before .e .given .1)) }
+cast-t23 : tie.Need-cast-t23
+cast-t23 c =
+    let most = width-fits (first (second (third (fourth c))) .args .version) in
+    record { fits = omega (arith, most, c .before .before .before .constant-at .ensures .small _ _ (c .before .e .given .1)) }
 
 returns-5 : tie.Need-returns-5
 returns-5 c =
@@ -141,7 +147,7 @@ returns-5 c =
     let c₂ = third c₃ in
     let c₁ = second c₂ in
     let a = first c₁ .args in
-    test-whole 2 (a .timers) (a .place) _ (timer-at c₁) (code-at c₂) (comparison-at c₃) (constant-at c)
+    test-whole (widthOf (a .version)) (a .timers) (a .place) _ (timer-at c₁) (code-at c₂) (comparison-at c₃) (constant-there c)
 
 pub test-at-spec : {M : Type 1} → statement M
 test-at-spec =
@@ -162,11 +168,11 @@ test-at-spec =
     enum-known-d
     enum-told-3
     returns-3
-    pair-at-requires
+    constant-at-requires
     enum-known-e
     enum-told-4
     refusal-of-requires-3
     returns-4
-    cast-t19
-    cast-t22
+    cast-t20
+    cast-t23
     returns-5)

@@ -24,18 +24,18 @@ refusal-of-requires c κs = search needs
 returns : tie.Need-returns
 returns c =
     let a = c .before .before .before .before .before .args in
-    count-refused (a .locations) (a .initial) (a .timers) (a .accepting) _
+    count-refused (a .version) (a .locations) (a .initial) (a .timers) (a .accepting) _
     (turned (now (a .s)) (c .before .enum-told .given .1) (c .refusal-of .ensures) (c .before .before .before .pair-below .ensures))
 
-cast-t12 : tie.Need-cast-t12
-cast-t12 c =
+cast-t13 : tie.Need-cast-t13
+cast-t13 c =
     let s = now (c .before .before .before .before .before .args .s) in
     omega (arith, below-limit _ _ _ _ _ (told (fieldAs s) (c .before .a .given .1) (c .before .before .before .pair-below .ensures)))
 
 returns-2 : tie.Need-returns-2
 returns-2 c =
     let a = c .before .before .before .before .before .args in
-    count-found (a .locations) (a .initial) (a .timers) (a .accepting) _
+    count-found (a .version) (a .locations) (a .initial) (a .timers) (a .accepting) _
     (told (fieldAs (now (a .s))) (c .before .a .given .1) (c .before .before .before .pair-below .ensures))
 
 pub count-at-spec : {M : Type 1} → statement M
@@ -47,5 +47,5 @@ count-at-spec =
     enum-told
     refusal-of-requires
     returns
-    cast-t12
+    cast-t13
     returns-2)

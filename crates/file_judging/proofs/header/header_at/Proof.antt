@@ -25,7 +25,7 @@ returns : tie.Need-returns
 returns c =
     let s = now (c .before .before .before .before .before .args .s) in
     let e = told (limitsAs s) (c .before .enum-told .given .1) (c .before .before .before .limits-at .ensures) in
-    rw (c .limits-refusal .ensures, c .before .enum-told .given .1) (header-limits _ e)
+    rw (c .limits-refusal .ensures, c .before .enum-told .given .1) (header-limits _ _ e)
 
 skip-accepting-requires : tie.Need-skip-accepting-requires
 skip-accepting-requires c κs = search needs
@@ -44,7 +44,7 @@ returns-2 c =
     let c₁ = c .before .before .before .before in
     let s = now (c₁ .before .before .before .before .before .args .s) in
     let e₁ = told (limitsAs s) (c₁ .before .a .given .1) (c₁ .before .before .before .limits-at .ensures) in
-    header-accepting _ e₁ (turned s (c .before .enum-told2 .given .1) (c .refusal-of .ensures) (c .before .before .before .skip-accepting .ensures))
+    header-accepting _ _ e₁ (turned s (c .before .enum-told2 .given .1) (c .refusal-of .ensures) (c .before .before .before .skip-accepting .ensures))
 
 count-at-requires : tie.Need-count-at-requires
 count-at-requires c κs = search needs
@@ -56,7 +56,7 @@ returns-3 c =
     let s = now (c₁ .before .before .before .before .before .args .s) in
     let e₁ = told (limitsAs s) (c₁ .before .a .given .1) (c₁ .before .before .before .limits-at .ensures) in
     let e₂ = told (fieldAs s) (c₂ .before .b .given .1) (c₂ .before .before .before .skip-accepting .ensures) in
-    c .count-at .ensures ∙ header-rest _ e₁ e₂
+    c .count-at .ensures ∙ header-rest _ _ e₁ e₂
 
 pub header-at-spec : {M : Type 1} → statement M
 header-at-spec =

@@ -5,6 +5,7 @@ use Prim.Native.Nat.{_-_}
 use mathlib.Core.Path.{_∙_}
 use denote.Ref.{now}
 use lib.ListN.{drop}
+use Rattle.model.specs.Version.{widthOf}
 use Rattle.fields.specs.Meaning.{fieldAs}
 use Rattle.fields.proofs.Answers.{told}
 use Rattle.file_judging.proofs.RecordParts.{skip-at-most}
@@ -13,13 +14,14 @@ use Rattle.file_judging.proofs.records.skip_records.Statement.{statemen
 use Rattle.file_judging.proofs.records.skip_records.Tie as tie
 
 abbrev Inv-loop : tie.InvT-loop
-Inv-loop s at n locations timers here₀ tests₀ i₀ here tests i = TestsCounted locations timers n i tests (drop at s) (drop here s)
+Inv-loop s at version n locations timers here₀ tests₀ i₀ here tests i =
+    TestsCounted (widthOf version) locations timers n i tests (drop at s) (drop here s)
 
 abbrev μ-loop : tie.MeasureT-loop
-μ-loop s at n locations timers here₀ tests₀ i₀ here tests i = n - i
+μ-loop s at version n locations timers here₀ tests₀ i₀ here tests i = n - i
 
 loop-holds : tie.Need-loop-holds Inv-loop μ-loop
-loop-holds c = let a = c .before .args in counted-first (a .locations) (a .timers) (a .n) (drop (a .at) (now (a .s)))
+loop-holds c = let a = c .before .args in counted-first (widthOf (a .version)) (a .locations) (a .timers) (a .n) (drop (a .at) (now (a .s)))
 
 cast-skip-record : tie.Need-cast-skip-record Inv-loop μ-loop
 cast-skip-record c = search needs

@@ -2,6 +2,7 @@
 use Prim.Native.Nat.{_-_}
 use denote.Ref.{now}
 use borrow.Author.Needs.{needs}
+use Rattle.model.specs.Version.{widthOf}
 use Rattle.fields.specs.Meaning.{testAs}
 use Rattle.fields.proofs.Answers.{told}
 use Rattle.file_judging.proofs.TestsLoop.{Skipping, tests-begin, tests-done, tests-refused, tests-again}
@@ -9,13 +10,13 @@ use Rattle.file_judging.proofs.records.skip_tests.Statement.{statement}
 use Rattle.file_judging.proofs.records.skip_tests.Tie as tie
 
 abbrev Inv-loop : tie.InvT-loop
-Inv-loop s at g timers place here₀ k₀ here k = Skipping 2 timers place s at g here k
+Inv-loop s at version g timers place here₀ k₀ here k = Skipping (widthOf version) timers place s at g here k
 
 abbrev μ-loop : tie.MeasureT-loop
-μ-loop s at g timers place here₀ k₀ here k = g - k
+μ-loop s at version g timers place here₀ k₀ here k = g - k
 
 loop-holds : tie.Need-loop-holds Inv-loop μ-loop
-loop-holds c = let a = c .before .args in tests-begin 2 (a .timers) (a .place) (now (a .s)) (a .at) (a .g)
+loop-holds c = let a = c .before .args in tests-begin (widthOf (a .version)) (a .timers) (a .place) (now (a .s)) (a .at) (a .g)
 
 test-at-requires : tie.Need-test-at-requires Inv-loop μ-loop
 test-at-requires c κs = search needs

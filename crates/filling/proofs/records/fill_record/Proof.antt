@@ -3,6 +3,7 @@ use mathlib.Core.Path.{_≡_, _∙_}
 use lib.ListN.{drop}
 use denote.Ref.{now}
 use borrow.Author.Needs.{needs}
+use Rattle.model.specs.Version.{widthOf}
 use Rattle.file_format.specs.Parse.{value}
 use Rattle.file_format.proofs.Parsed.{value-refused}
 use Rattle.fields.specs.Parts.{readHead}
@@ -23,7 +24,7 @@ start d = lent d .before .before .before .before .before
 
 -- the head, where it is known
 head : (c : tie.After-known-told) → let a = start (c .before .before .before) .args in let g = c .before .a .given .0 in
-    readHead 2 (a .locations) (a .limit) (a .k) (drop (a .at) (now (a .s)))
+    readHead (widthOf (a .version)) (a .locations) (a .limit) (a .k) (drop (a .at) (now (a .s)))
     ≡ value (record { source = g .0; target = g .1 .0; event = g .1 .1 .0; starts = g .1 .1 .1 .0; tests = g .1 .1 .1 .1 .0 })
     (drop (g .1 .1 .1 .1 .1 .0) (now (a .s)))
 head c = let d = c .before .before .before in told (headAs (now (start d .args .s))) (c .before .a .given .1) (d .head-at .ensures)
@@ -45,8 +46,8 @@ returns c =
     let d = c .before .before .before in
     let a = start d .args in
     let e = told (headAs (now (a .s))) (c .before .enum-told .given .1) (d .head-at .ensures) in (
-      rw (c .head-refusal .ensures, c .before .enum-told .given .1) (skip-head-refused 2 (a .locations) (a .limit) (a .k) _ e),
-      (λ r t q. absurd (value-refused q (transition-head-refused 2 (a .locations) (a .limit) (a .k) _ e))),
+      rw (c .head-refusal .ensures, c .before .enum-told .given .1) (skip-head-refused (widthOf (a .version)) (a .locations) (a .limit) (a .k) _ e),
+      (λ r t q. absurd (value-refused q (transition-head-refused (widthOf (a .version)) (a .locations) (a .limit) (a .k) _ e))),
     )
 
 mul-sources : tie.Need-mul-sources
@@ -109,10 +110,10 @@ returns-2 c =
     let k = f .before .before .before .before in
     let a = start (k .before .before .before) .args in
     let x = f .fill-tests .ensures in (
-      x .0 ∙ skip-tests-left 2 (a .locations) (a .limit) (a .k) _ (head k),
+      x .0 ∙ skip-tests-left (widthOf (a .version)) (a .locations) (a .limit) (a .k) _ (head k),
       (λ r t q. (
-        head-stored (a .locations) (a .limit) (a .k) _ (head k) r t q,
-        x .1 (r .tests) t (tests-behind (a .locations) (a .limit) (a .k) _ (head k) r t q),
+        head-stored (widthOf (a .version)) (a .locations) (a .limit) (a .k) _ (head k) r t q,
+        x .1 (r .tests) t (tests-behind (widthOf (a .version)) (a .locations) (a .limit) (a .k) _ (head k) r t q),
       )),
     )
 

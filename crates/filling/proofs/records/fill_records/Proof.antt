@@ -5,6 +5,7 @@ use native.Mathlib.Omega.{arith}
 use denote.Ref.{now}
 use lib.ListN.{length, drop}
 use borrow.Author.Needs.{needs}
+use Rattle.model.specs.Version.{widthOf}
 use Rattle.file_format.specs.Parse.{value}
 use Rattle.fields.specs.Meaning.{fieldAs}
 use Rattle.fields.proofs.Answers.{told}
@@ -16,13 +17,13 @@ use Rattle.filling.proofs.records.fill_records.Statement.{statement}
 use Rattle.filling.proofs.records.fill_records.Tie as tie
 
 abbrev Inv-loop : tie.InvT-loop
-Inv-loop s at n locations limit a₁ a₂ a₃ a₄ a₅ a₆ a₇ a₈ here₀ base₀ k₀ b₁ b₂ b₃ b₄ b₅ b₆ b₇ b₈ here base k =
+Inv-loop s at version n locations limit a₁ a₂ a₃ a₄ a₅ a₆ a₇ a₈ here₀ base₀ k₀ b₁ b₂ b₃ b₄ b₅ b₆ b₇ b₈ here base k =
     (length b₁ ≡ length a₁) × (length b₂ ≡ length a₂) × (length b₃ ≡ length a₃) × (length b₄ ≡ length a₄) × (length b₅ ≡ length a₅)
     × (length b₆ ≡ length a₆) × (length b₇ ≡ length a₇) × (length b₈ ≡ length a₈)
-    × RecordsFilled locations limit n k base (drop at s) (drop here s) a₁ a₂ a₃ a₄ a₅ a₆ a₇ a₈ b₁ b₂ b₃ b₄ b₅ b₆ b₇ b₈
+    × RecordsFilled (widthOf version) locations limit n k base (drop at s) (drop here s) a₁ a₂ a₃ a₄ a₅ a₆ a₇ a₈ b₁ b₂ b₃ b₄ b₅ b₆ b₇ b₈
 
 abbrev μ-loop : tie.MeasureT-loop
-μ-loop s at n locations limit a₁ a₂ a₃ a₄ a₅ a₆ a₇ a₈ here₀ base₀ k₀ b₁ b₂ b₃ b₄ b₅ b₆ b₇ b₈ here base k = n - k
+μ-loop s at version n locations limit a₁ a₂ a₃ a₄ a₅ a₆ a₇ a₈ here₀ base₀ k₀ b₁ b₂ b₃ b₄ b₅ b₆ b₇ b₈ here base k = n - k
 
 -- ---- places
 
@@ -54,7 +55,7 @@ turn d = stored d .before .before .before .before .before .before .before .befor
 
 -- the record, where it is known
 read : (c : tie.After-known-told Inv-loop μ-loop) → let d = c .before .before .before in let l = turn d .before in let a = start l .args in
-    skipTransition 2 (a .locations) (a .limit) (l .loop .k) (drop (l .loop .here) (now (a .s)))
+    skipTransition (widthOf (a .version)) (a .locations) (a .limit) (l .loop .k) (drop (l .loop .here) (now (a .s)))
     ≡ value (c .before .a .given .0 .0) (drop (c .before .a .given .0 .1 .0) (now (a .s)))
 read c = let d = c .before .before .before in
     told (fieldAs (now (start (turn d .before) .args .s))) (c .before .a .given .1) (stored d .fill-record .ensures .0)
@@ -66,7 +67,8 @@ has-room h r e = omega arith
 loop-holds : tie.Need-loop-holds Inv-loop μ-loop
 loop-holds c =
     let a = c .before .before .before .before .before .before .before .before .before .args in
-    (refl, refl, refl, refl, refl, refl, refl, refl, records-first (a .locations) (a .limit) (a .n) (drop (a .at) (now (a .s))) _ _ _ _ _ _ _ _)
+    let f = records-first (widthOf (a .version)) (a .locations) (a .limit) (a .n) (drop (a .at) (now (a .s))) _ _ _ _ _ _ _ _ in
+    (refl, refl, refl, refl, refl, refl, refl, refl, f)
 
 fill-record-requires : tie.Need-fill-record-requires Inv-loop μ-loop
 fill-record-requires c κs =

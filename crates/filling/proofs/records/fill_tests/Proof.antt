@@ -4,6 +4,7 @@ use Prim.Native.Nat.{_-_}
 use denote.Ref.{now}
 use lib.ListN.{length, length-set}
 use borrow.Author.Needs.{needs}
+use Rattle.model.specs.Version.{widthOf}
 use Rattle.fields.specs.Meaning.{testAs}
 use Rattle.fields.proofs.Answers.{told}
 use Rattle.file_judging.proofs.TestsLoop as skipping
@@ -12,12 +13,12 @@ use Rattle.filling.proofs.records.fill_tests.Statement.{statement}
 use Rattle.filling.proofs.records.fill_tests.Tie as tie
 
 abbrev Inv-loop : tie.InvT-loop
-Inv-loop s at g limit place base timers₀ codes₀ constants₀ here₀ k₀ timers codes constants here k =
+Inv-loop s at version g limit place base timers₀ codes₀ constants₀ here₀ k₀ timers codes constants here k =
     (length timers ≡ length timers₀) × (length codes ≡ length codes₀) × (length constants ≡ length constants₀)
-    × TestsFilled limit place s at g base here k timers₀ codes₀ constants₀ timers codes constants
+    × TestsFilled (widthOf version) limit place s at g base here k timers₀ codes₀ constants₀ timers codes constants
 
 abbrev μ-loop : tie.MeasureT-loop
-μ-loop s at g limit place base timers₀ codes₀ constants₀ here₀ k₀ timers codes constants here k = g - k
+μ-loop s at version g limit place base timers₀ codes₀ constants₀ here₀ k₀ timers codes constants here k = g - k
 
 -- where a test was read
 abbrev Read : Type 0
@@ -30,7 +31,7 @@ loop-holds : tie.Need-loop-holds Inv-loop μ-loop
 loop-holds c =
     let a = c .before .before .before .before .args in
     let p = c .before .before .before .before .pre in
-    (refl, refl, refl, tests-begin (a .limit) (a .place) (now (a .s)) (a .at) (a .g) (a .base) _ _ _ (p .0) (p .1) (p .2))
+    (refl, refl, refl, tests-begin (widthOf (a .version)) (a .limit) (a .place) (now (a .s)) (a .at) (a .g) (a .base) _ _ _ (p .0) (p .1) (p .2))
 
 test-at-requires : tie.Need-test-at-requires Inv-loop μ-loop
 test-at-requires c κs = search needs
@@ -61,7 +62,8 @@ returns c =
     let f = d .before .before .loop .inv .3 in
     let h = told (testAs (now (a .s))) (c .before .enum-told .given .1) (d .test-at .ensures) in
     let taken = d .before .loop-test .taken in
-    let never = tests-never (a .limit) (a .place) (now (a .s)) (a .at) (a .g) (a .base) _ _ _ (p .0) (p .1) (p .2) f taken h in (
+    let w = widthOf (a .version) in
+    let never = tests-never w (a .limit) (a .place) (now (a .s)) (a .at) (a .g) (a .base) _ _ _ (p .0) (p .1) (p .2) f taken h in (
       rw (c .test-refusal .ensures, c .before .enum-told .given .1) (skipping.tests-refused (f .read) taken h),
       (λ ts t e. absurd (never ts t e)),
     )
@@ -100,11 +102,12 @@ loop-again c =
     let p = start d .pre in
     let l = d .before .before .loop .inv in
     let h = told (testAs (now (a .s))) (c .before .before .a .given .1) (d .test-at .ensures) in
-    let taken = d .before .loop-test .taken in (
+    let taken = d .before .loop-test .taken in
+    let w = widthOf (a .version) in (
       simp length-set (l .0),
       simp length-set (l .1),
       simp length-set (l .2),
-      tests-again (a .limit) (a .place) (now (a .s)) (a .at) (a .g) (a .base) _ _ _ (p .0) (p .1) (p .2) (l .3) taken h (c .code-of .ensures),
+      tests-again w (a .limit) (a .place) (now (a .s)) (a .at) (a .g) (a .base) _ _ _ (p .0) (p .1) (p .2) (l .3) taken h (c .code-of .ensures),
     )
 
 same-length-4 : tie.Need-same-length-4 Inv-loop μ-loop
@@ -122,7 +125,7 @@ returns-2 c =
     let p = c .before .before .before .before .before .before .pre in
     let f = c .before .loop .inv .3 in (
       skipping.tests-done (f .read) (c .loop-test .left),
-      tests-done (a .limit) (a .place) (now (a .s)) (a .at) (a .g) (a .base) _ _ _ (p .0) (p .1) (p .2) f (c .loop-test .left),
+      tests-done (widthOf (a .version)) (a .limit) (a .place) (now (a .s)) (a .at) (a .g) (a .base) _ _ _ (p .0) (p .1) (p .2) f (c .loop-test .left),
     )
 
 pub fill-tests-spec : {M : Type 1} → statement M

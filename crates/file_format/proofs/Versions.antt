@@ -1,0 +1,128 @@
+-- What a file's version is to its chart: the first byte is the chart's version; what is not a file of version 2 is read as it was before there was
+-- one; and a chart may be stored as the other version and back. Nothing is hard: the round trips of File, at another version. Assumes nothing.
+use mathlib.Core.Path.{_≡_, refl, sym, ap, _∙_, subst}
+use mathlib.Core.Logic.{_⊎_, inl, inr, _↔_}
+use mathlib.Core.Bool.{Bool, true, false}
+use mathlib.Core.Option.{some}
+use mathlib.Core.List.{List, [], _∷_}
+use Prim.Native.Nat.{ℕ, _+_, _*_, _%_, _≤_}
+use native.Mathlib.Omega.{arith}
+use lib.Dec.{leb, eqb}
+use lib.ListN.{length, getElem?}
+use Rattle.lists.proofs.Bools.{same-bool, same-number}
+use Rattle.model.specs.Answer.{Answer, result, then, unless, nowhere}
+use Rattle.model.specs.Chart.{Chart}
+use Rattle.model.specs.Version.{knownVersion, widthOf, inVersion, largeConstant}
+use Rattle.model.specs.Valid.{Valid, Storable}
+use Rattle.model.proofs.Versions.{known-some, known-most, StorableBy, storable-iff, narrowed, narrow-small}
+use Rattle.file_format.specs.Parse.{Bytes, Parsed, value, refusal, number, digits}
+use Rattle.file_format.specs.Body.{readBody}
+use Rattle.file_format.specs.File.{Frame, Versioned, readFrame, judgeFrame, answered, readFile, writeFile, chartIn, fileOf}
+use Rattle.file_format.specs.Versions.{chartInVersion1, StoredAs}
+use Rattle.file_format.proofs.Parsed.{value-refused, same-value, bind-value}
+use Rattle.file_format.proofs.Bytes.{file-bytes}
+use Rattle.file_format.proofs.File.{chart-survives, file-survives, reads-storable}
+
+-- ---- stored as the other version
+
+-- the limits that a chart has do not speak of its version
+valid-in : (W version : ℕ) (c : Chart) → Valid W c → Valid W (inVersion version c)
+unfolding inVersion
+valid-in W version c v = record {
+  some-location = v .some-location;
+  few-locations = v .few-locations;
+  initial = v .initial;
+  few-timers = v .few-timers;
+  accepting = v .accepting;
+  few-transitions = v .few-transitions;
+  transitions = v .transitions;
+}
+
+-- there and back
+back : (version : ℕ) (c : Chart) → inVersion (c .version) (inVersion version c) ≡ c
+unfolding inVersion
+back version c = refl
+
+module _ (bs : List ℕ) (c : Chart) (by : Bytes bs) (e : chartIn bs ≡ result c) where
+  stored : (version : ℕ) → Storable (inVersion version c) → StoredAs version bs c
+  stored version s = record { reads = chart-survives (inVersion version c) s; returns = ap fileOf (back version c) ∙ file-survives bs c by e }
+
+  wide : Valid 4 c
+  wide = (storable-iff c .0 (reads-storable bs c by e)) .valid
+
+  -- every chart as version 2
+  pub stored-as-2 : StoredAs 2 bs c
+  unfolding inVersion knownVersion widthOf
+  stored-as-2 = stored 2 (record { known = refl; valid = valid-in 4 2 c wide })
+
+  -- as version 1 exactly when no constant is over 65,535
+  pub stored-as-1 : StoredAs 1 bs c ↔ (largeConstant c ≡ false)
+  unfolding inVersion knownVersion widthOf fileOf
+  stored-as-1 = (
+    λ s. small (reads-storable (fileOf (inVersion 1 c)) (inVersion 1 c) (file-bytes 2 (inVersion 1 c)) (s .reads)),
+    λ f. stored 1 (record { known = refl; valid = valid-in 2 1 c (narrowed c f wide) }),
+  )
+    where
+      small : Storable (inVersion 1 c) → largeConstant c ≡ false
+      small s = narrow-small c (valid-in 2 (c .version) (inVersion 1 c) (s .valid))
+
+-- ---- the version is the first byte
+
+-- of a file that is read as a chart it is the chart's version
+pub version-first : (bs : List ℕ) (c : Chart) → Bytes bs → chartIn bs ≡ result c → getElem? bs 0 ≡ some (c .version)
+unfolding fileOf writeFile digits
+version-first bs c by e =
+    let q : c .version % 256 ≡ c .version = omega (arith, known-most (c .version) (reads-storable bs c by e .known)) in
+    subst (λ (x : List ℕ). getElem? x 0 ≡ some (c .version)) (file-survives bs c by e) (ap some q)
+
+-- a frame begins with the first byte
+first-byte : (bs : List ℕ) {f : Frame} {body : List ℕ} → readFrame bs ≡ value f body → getElem? bs 0 ≡ some (f .version)
+unfolding readFrame number
+first-byte [] e = absurd (value-refused e refl)
+first-byte (b ∷ t) {f} e =
+    let i = bind-value (number 4 t) _ _ _ e in
+    let q : 0 * 256 + b ≡ f .version = ap (λ (f : Frame). f .version) (same-value (i .3)) in
+    let v : b ≡ f .version = omega (arith, q) in
+    ap some v
+
+-- two readers that know a frame's version alike, and read it with the same width if they know it, answer alike
+module _ (known known′ : ℕ → Bool) (width width′ : ℕ → ℕ) where
+  alike : (x : Parsed Frame)
+      → ((f : Frame) (body : List ℕ) → x ≡ value f body → (known (f .version) ≡ known′ (f .version))
+      × (known′ (f .version) ≡ true → width (f .version) ≡ width′ (f .version)))
+      → then (judgeFrame known x) (λ b. answered (readBody (b .version) (width (b .version)) (b .body)))
+      ≡ then (judgeFrame known′ x) (λ b. answered (readBody (b .version) (width′ (b .version)) (b .body)))
+  unfolding judgeFrame
+  alike (refusal n p) h = refl
+  alike (value f body) h = let k = h f body refl in rw (k .0) (go (eqb (f .follow) (length body)) (known′ (f .version)) (k .1))
+    where
+      go : (a b : Bool) → (b ≡ true → width (f .version) ≡ width′ (f .version))
+          → then (unless a 1 nowhere (unless b 2 nowhere (result (record { version = f .version; body = body }))))
+          (λ (b : Versioned). answered (readBody (b .version) (width (b .version)) (b .body)))
+          ≡ then (unless a 1 nowhere (unless b 2 nowhere (result (record { version = f .version; body = body }))))
+          (λ (b : Versioned). answered (readBody (b .version) (width′ (b .version)) (b .body)))
+      go false b h = refl
+      go true false h = refl
+      go true true h = ap (λ W. answered (readBody (f .version) W body)) (h refl)
+
+-- 1 is the one version but 2
+known-1 : (v : ℕ) → (v ≡ 2 → ⊥) → knownVersion v ≡ eqb v 1
+unfolding knownVersion
+known-1 v h = same-bool (knownVersion v) (eqb v 1) (λ e. one (known-some v e) (known-most v e)) (λ e. yes (same-number e))
+  where
+    one : 1 ≤ v → v ≤ 2 → eqb v 1 ≡ true
+    one l m = let q : v ≡ 1 = omega (arith, h) in ap (λ x. eqb x 1) q
+
+    yes : v ≡ 1 → knownVersion v ≡ true
+    yes q = ap knownVersion q
+
+width-1 : (v : ℕ) → v ≡ 1 → widthOf v ≡ 2
+unfolding widthOf
+width-1 v e = ap widthOf e
+
+-- what is not of version 2 is read as it was: the same chart, or the same refusal
+pub reads-as-before : (bs : List ℕ) → (getElem? bs 0 ≡ some 2 → ⊥) → chartIn bs ≡ chartInVersion1 bs
+unfolding chartIn chartInVersion1 readFile
+reads-as-before bs h =
+    alike knownVersion (λ v. eqb v 1) widthOf (λ v. 2) (readFrame bs)
+    (λ f body e. (known-1 (f .version) (λ q. h (first-byte bs e ∙ ap some q)), λ k. width-1 (f .version) (same-number k)))

@@ -1,0 +1,19 @@
+-- The reader of version 1 alone, and a chart stored as another version (document 02, P2). Assumes nothing.
+use mathlib.Core.Path.{_≡_}
+use mathlib.Core.List.{List}
+use Prim.Native.Nat.{ℕ}
+use lib.Dec.{eqb}
+use Rattle.model.specs.Answer.{Answer, result}
+use Rattle.model.specs.Chart.{Chart}
+use Rattle.model.specs.Version.{inVersion}
+use Rattle.file_format.specs.File.{readFile, chartIn, fileOf}
+
+-- the chart of a file, or its refusal, as document 01 has it: only version 1 is known, and constants have two bytes
+unfoldable pub chartInVersion1 : List ℕ → Answer Chart
+chartInVersion1 bs = readFile (λ version. eqb version 1) (λ version. 2) bs
+
+-- nothing is lost when the chart c of the file bs is stored as that version: the new file is read as the same chart in that version, and what is
+-- written of this in the version of c is bs again, byte for byte
+pub record StoredAs (version : ℕ) (bs : List ℕ) (c : Chart) : Type 0 where
+  pub reads : chartIn (fileOf (inVersion version c)) ≡ result (inVersion version c)
+  pub returns : fileOf (inVersion (c .version) (inVersion version c)) ≡ bs
