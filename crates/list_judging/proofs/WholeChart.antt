@@ -83,7 +83,7 @@ sizes-room l locations timers n e =
 -- ---- the length of the file
 
 -- of the records, with their own lengths
-lengths-sum : (W : ℕ) (rs : List Transition) → sumOf (map (transitionLength W) rs)
+pub lengths-sum : (W : ℕ) (rs : List Transition) → sumOf (map (transitionLength W) rs)
     ≡ 9 * length rs + totalSizes rs .starts + (2 + W) * totalSizes rs .tests
 unfolding sumOf transitionLength recordLength totalSizes
 lengths-sum W [] = omega arith

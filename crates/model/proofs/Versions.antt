@@ -39,7 +39,7 @@ width-most v = go (eqb v 1)
     go false = omega arith
 
 -- by the width that the version has: two bytes for 1, four for another
-by-version : (P : ℕ → Type 0) (v : ℕ) → (v ≡ 1 → P 2) → (eqb v 1 ≡ false → P 4) → P (widthOf v)
+pub by-version : (P : ℕ → Type 0) (v : ℕ) → (v ≡ 1 → P 2) → (eqb v 1 ≡ false → P 4) → P (widthOf v)
 unfolding widthOf
 by-version P v two four = go (eqb v 1) refl
   where
@@ -95,6 +95,11 @@ all-have : {A : Type 0} {P : A → Type 0} → ((a : A) → P a) → (l : List A
 all-have h [] = tt
 all-have h (a ∷ l) = (h a, all-have h l)
 
+-- what holds of each, as what it implies
+all-as : {A : Type 0} {P Q : A → Type 0} → ((a : A) → P a → Q a) → (l : List A) → All P l → All Q l
+all-as h [] x = tt
+all-as h (a ∷ l) x = (h a (x .0), all-as h l (x .1))
+
 -- none passes: each fails, and the other way round
 module _ {A : Type 0} (f : A → Bool) where
   none-passes : (l : List A) → anyOf f l ≡ false → All (λ a. f a ≡ false) l
@@ -115,17 +120,20 @@ module _ {A : Type 0} (f : A → Bool) where
   each-fails P h [] x = refl
   each-fails P h (a ∷ l) x = rw (h a (x .0), each-fails P h l (x .1))
 
+-- every constant has two bytes where none is large
+pub small-constants : (c : Chart) → largeConstant c ≡ false
+    → All (λ (r : Transition). All (λ (t : Test). t .constant < 256 ^ 2) (r .tests)) (c .transitions)
+unfolding largeConstant isLarge
+small-constants c e =
+    all-as (λ (r : Transition) q. all-as small (r .tests) (none-passes (λ (t : Test). isLarge (t .constant)) (r .tests) q)) (c .transitions)
+    (none-passes (λ (r : Transition). anyOf (λ (t : Test). isLarge (t .constant)) (r .tests)) (c .transitions) e)
+  where
+    small : (t : Test) → isLarge (t .constant) ≡ false → t .constant < 256 ^ 2
+    small t q = omega (arith, ltb-false 65535 (t .constant) q)
+
 -- two bytes hold what four hold if no constant is large, and only then
 pub narrowed : (c : Chart) → largeConstant c ≡ false → Valid 4 c → Valid 2 c
-unfolding largeConstant isLarge
-narrowed c e v =
-    valid-as 4 2 (λ t. isLarge (t .constant) ≡ false) (λ t q h. omega (arith, ltb-false 65535 (t .constant) q)) c
-    (all-as (λ (r : Transition) q. none-passes (λ (t : Test). isLarge (t .constant)) (r .tests) q) (c .transitions)
-    (none-passes (λ (r : Transition). anyOf (λ (t : Test). isLarge (t .constant)) (r .tests)) (c .transitions) e)) v
-  where
-    all-as : {A : Type 0} {P Q : A → Type 0} → ((a : A) → P a → Q a) → (l : List A) → All P l → All Q l
-    all-as h [] x = tt
-    all-as h (a ∷ l) x = (h a (x .0), all-as h l (x .1))
+narrowed c e v = valid-as 4 2 (λ t. t .constant < 256 ^ 2) (λ t q h. q) c (small-constants c e) v
 
 pub narrow-small : (c : Chart) → Valid 2 c → largeConstant c ≡ false
 unfolding largeConstant isLarge
