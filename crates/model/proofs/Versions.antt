@@ -5,7 +5,8 @@ use mathlib.Core.Path.{_≡_, refl, sym, subst}
 use mathlib.Core.Logic.{_⊎_, inl, inr, _↔_}
 use mathlib.Core.Bool.{Bool, true, false, _||_, _&&_}
 use mathlib.Core.List.{List, [], _∷_}
-use Prim.Native.Nat.{ℕ, _^_, _≤_, _<_}
+use Prim.Native.Nat.{ℕ, _+_, _*_, _^_, _≤_, _<_}
+use native.Mathlib.Nat.{mul-le-mul}
 use native.Mathlib.Omega.{arith}
 use lib.Dec.{leb, ltb, eqb}
 use borrow.Author.Tests.{ne-eqb, leb-true, ltb-false, le-ltb}
@@ -54,6 +55,13 @@ width-cases v = by-version (λ W. (W ≡ 2) ⊎ (W ≡ 4)) v (λ e. inl refl) (�
 -- a constant fits 32 bits
 pub width-fits : (v : ℕ) → 256 ^ widthOf v ≤ 4294967296
 width-fits v = by-version (λ W. 256 ^ W ≤ 4294967296) v (λ e. omega arith) (λ e. omega arith)
+
+-- the bytes of n tests, w being the width
+pub tests-most : (v n limit : ℕ) {w : ℕ} → w ≡ widthOf v → n ≤ limit → ((2 + w) * n ≤ 6 * limit) × (w ≤ 4)
+tests-most v n limit {w} e h =
+    let few : w ≤ 4 = omega (arith, e, width-most v) in
+    let all : 2 + w ≤ 6 = omega arith in
+    (mul-le-mul all h, few)
 
 -- ---- the same chart with wider or narrower constants
 
@@ -148,6 +156,10 @@ widened c v =
     valid-as 2 4 (λ t. Unit {0}) (λ t q h. omega arith) c (all-have (λ (r : Transition). all-have (λ t. tt) (r .tests)) (c .transitions)) v
 
 -- ---- what a file can hold
+
+-- there are two widths
+pub width-not-two : (v : ℕ) → (widthOf v ≡ 2 → ⊥) → widthOf v ≡ 4
+width-not-two v = by-version (λ W. (W ≡ 2 → ⊥) → W ≡ 4) v (λ e h. absurd (h refl)) (λ e h. refl)
 
 -- exactly when: the version is known, four bytes hold every constant, and 17 does not refuse
 pub record StorableBy (c : Chart) : Type 0 where

@@ -1,10 +1,10 @@
 -- The file of the chart that the lists describe is what the code writes for it, part by part. Assumes nothing.
-use mathlib.Core.Path.{_≡_, sym, ap, _∙_, subst}
+use mathlib.Core.Path.{_≡_, refl, sym, ap, _∙_, subst}
 use mathlib.Core.Bool.{false, _&&_}
 use mathlib.Core.Option.{some}
 use mathlib.Core.List.{List, _++_, map, append-assoc}
 use Prim.Native.Nat.{ℕ, _+_, _-_, _*_, _^_, _≤_, _<_}
-use native.Mathlib.Nat.{zero-add, mul-le-mul}
+use native.Mathlib.Nat.{zero-add}
 use native.Mathlib.Omega.{arith}
 use lib.Dec.{eqb}
 use lib.ListN.{length, getD, getElem?, length-append}
@@ -15,7 +15,7 @@ use Rattle.lists.proofs.Nth.{getD-nth}
 use Rattle.model.specs.Answer.{Answer, result}
 use Rattle.model.specs.Chart.{Test, Transition, Chart}
 use Rattle.model.specs.Version.{widthOf, largeConstant, largeInVersion1}
-use Rattle.model.proofs.Versions.{width-most, by-version, small-constants}
+use Rattle.model.proofs.Versions.{tests-most, by-version, small-constants}
 use Rattle.model.proofs.Answers.{result-same}
 use Rattle.file_format.specs.Parse.{digits, writeAll}
 use Rattle.file_format.specs.Body.{writeTransition, writeHeader, writeBody}
@@ -108,11 +108,8 @@ module _ (m : Header) (l : Lists) (c : Chart) (h : ChartOf m l c) where
   unfolding checkTransitions
   records-most =
       let most = transitions-most l (m .locations) (m .timers) (m .transitions) {z = totalSizes (c .transitions)} (rw (h .transitions)) in
-      let tests : (2 + W) * totalSizes (c .transitions) .tests ≤ 6 * 4096 = tests-most (width-most (m .version)) (omega (arith, most .1, h .few-transitions)) in
+      let tests = tests-most (m .version) (totalSizes (c .transitions) .tests) 4096 refl (omega (arith, most .1, h .few-transitions)) .0 in
       omega (arith, records-length, lengths-sum W (c .transitions), h .few-transitions, transition-count m l c h, most .0, tests)
-    where
-      tests-most : {w n : ℕ} → w ≤ 4 → n ≤ 4096 → (2 + w) * n ≤ 6 * 4096
-      tests-most {w} {n} a b = let d : 2 + w ≤ 6 = omega arith in mul-le-mul d b
 
   -- the constants fit the width: those of version 1 are not large, and those of another have at most four bytes
   module _ (small : largeInVersion1 c ≡ false) (wide : (k : ℕ) → getD (l .constants) k 0 < 256 ^ 4) where

@@ -1,23 +1,14 @@
 -- `file_length` meets its contract. What is hard is that nothing overflows: a version gives a constant at most 4 bytes. Assumes nothing.
-use Prim.Native.Nat.{ℕ, _+_, _*_, _≤_, _<_}
-use native.Mathlib.Nat.{mul-le-mul}
+use Prim.Native.Nat.{_+_, _*_, _≤_}
 use native.Mathlib.Omega.{arith}
 use borrow.Author.Needs.{needs}
-use Rattle.model.proofs.Versions.{width-most}
+use Rattle.model.proofs.Versions.{tests-most}
 use Rattle.list_judging.proofs.file_length.Statement.{statement}
 use Rattle.list_judging.proofs.file_length.Tie as tie
 
 -- the bytes of all tests
-product : (w tests : ℕ) → w ≤ 4 → tests < 4294967296 → (2 + w) * tests ≤ 6 * 4294967296
-product w tests h m =
-    let a : 2 + w ≤ 6 = omega arith in
-    let b : tests ≤ 4294967296 = omega arith in
-    mul-le-mul a b
-
 few : (c : tie.After-width-of) → ((2 + c .width-of .result) * c .before .args .tests ≤ 6 * 4294967296) × (c .width-of .result ≤ 4)
-few c =
-    let w : c .width-of .result ≤ 4 = omega (arith, c .width-of .ensures, width-most (c .before .args .version)) in
-    (product (c .width-of .result) (c .before .args .tests) w (omega (arith, c .before .pre)), w)
+few c = tests-most _ (c .before .args .tests) 4294967296 (c .width-of .ensures) (omega (arith, c .before .pre))
 
 width-of-requires : tie.Need-width-of-requires
 width-of-requires c κs = search needs
