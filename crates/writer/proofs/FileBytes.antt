@@ -40,7 +40,8 @@ use Rattle.writer.proofs.FieldBytes.{gather-all}
 written-parts : (c : Chart) (n : ℕ) (m : Header) → n ≡ length (writeBody (widthOf (c .version)) c)
     → m .version ≡ c .version → m .locations ≡ c .locations → m .initial ≡ c .initial → m .timers ≡ c .timers
     → m .accepting ≡ length (c .accepting) → m .transitions ≡ length (c .transitions)
-    → ((frontBytes n m ++ writeAll (digits 2) (c .accepting)) ++ digits 2 (m .transitions)) ++ records (widthOf (m .version)) (c .transitions) ≡ fileOf c
+    → ((frontBytes n m ++ writeAll (digits 2) (c .accepting)) ++ digits 2 (m .transitions)) ++ records (widthOf (m .version)) (c .transitions)
+    ≡ fileOf c
 unfolding frontBytes fileOf writeFile writeBody writeHeader records
 written-parts c n m e v a b d f g = rw (e, v, a, b, d, f, g) (simp append-assoc)
 

@@ -1,5 +1,5 @@
--- The writer refuses with 2 to 8, 17 and 21 only, 4 to 8 at the header or at a transition below 512; and with 17 exactly when a chart of version 1 has a
--- constant over 65,535, whatever the room is. What is hard is that no field gives 17: the fields' refusals are counted apart. Assumes nothing.
+-- The writer refuses with 2 to 8, 17 and 21 only, 4 to 8 at the header or at a transition below 512; and with 17 exactly when a chart of version 1
+-- has a constant over 65,535, whatever the room is. What is hard is that no field gives 17: their refusals are told apart. Assumes nothing.
 use mathlib.Core.Path.{_≡_, refl, subst₂}
 use mathlib.Core.Logic.{_↔_}
 use mathlib.Core.Bool.{Bool, true, false, not}
@@ -177,10 +177,10 @@ module _ (m : Header) (l : Lists) where
   large-in : LargeInVersion1 m l → chartFrom m l ≡ refused 17 nowhere
   unfolding chartFrom largeInVersion1 largeConstant isLarge
   large-in h =
-      let one = any-in (λ (t : Test). isLarge (t .constant)) (h .r .tests) (h .k) (h .test) (lt-ltb 65535 (h .t .constant) (h .over)) in
-      let large : largeInVersion1 (h .chart) ≡ true =
-          and-both (eq-eqb (h .chart .version) 1 (h .version))
-          (any-in (λ (r : Transition). anyOf (λ (t : Test). isLarge (t .constant)) (r .tests)) (h .chart .transitions) (h .i) (h .there .there) one) in
+      let test = any-in (λ (t : Test). isLarge (t .constant)) (h .r .tests) (h .k) (h .test) (lt-ltb 65535 (h .t .constant) (h .over)) in
+      let some-large = any-in (λ (r : Transition). anyOf (λ (t : Test). isLarge (t .constant)) (r .tests)) (h .chart .transitions) (h .i)
+          (h .there .there) test in
+      let large : largeInVersion1 (h .chart) ≡ true = and-both (eq-eqb (h .chart .version) 1 (h .version)) some-large in
       rw (h .is, large)
 
   chart-large : chartFrom m l ≡ refused 17 nowhere → LargeInVersion1 m l

@@ -117,10 +117,12 @@ returns c =
     let count = transitions .before .before .before .before in
     let accepting = count .before .before .before .before .before in
     let front = accepting .before .before .before .before in
-    let j = call (front .before .before .before) .pre in
+    let s = call (front .before .before .before) in
+    let j = s .pre in
+    let bytes = records (widthOf (s .args .header .version)) in
     let a = fields-next (fields-first (front .put-front .ensures)) 12 _ (length-front _ _) (accepting .put-accepting .ensures) in
     let b = fields-next a _ _ (length-accepted _ _ _) (count .put-pair .ensures) in
-    let written = transitions .write-records .ensures ∙ overwritten-result (records (widthOf (call (front .before .before .before) .args .header .version))) _ (writable-transitions _ _ _ _ j) in
+    let written = transitions .write-records .ensures ∙ overwritten-result bytes _ (writable-transitions _ _ _ _ j) in
     let d = fields-next b _ _ (length-counted _ _ _) written in
     fields-done _ d (writable-parts _ _ _ _ j) ∙ sym (overwritten-result fileOf _ (j .is))
 

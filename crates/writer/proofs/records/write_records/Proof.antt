@@ -16,8 +16,8 @@ use Rattle.writer.proofs.records.write_records.Tie as tie
 
 abbrev Inv-loop : tie.InvT-loop
 Inv-loop out₀ header sources targets events starts test-counts timers codes constants at₀ k₀ i₀ out at k i =
-    Writing (widthOf (header .version)) (lists [] sources targets events starts test-counts timers codes constants) (header .locations) (header .timers)
-    (header .transitions) out₀ out at k i
+    Writing (widthOf (header .version)) (lists [] sources targets events starts test-counts timers codes constants) (header .locations)
+    (header .timers) (header .transitions) out₀ out at k i
 
 abbrev μ-loop : tie.MeasureT-loop
 μ-loop out₀ header sources targets events starts test-counts timers codes constants at₀ k₀ i₀ out at k i = header .transitions - i
