@@ -22,7 +22,7 @@ use Rattle.chart_lists.specs.Begins.{Begins}
 use Rattle.chart_lists.specs.declared.Header.{Header}
 use Rattle.chart_lists.proofs.Begins.{begins-take, begins-room}
 use Rattle.chart_lists.proofs.Tests.{tests-sum}
-use Rattle.list_judging.specs.FromLists.{acceptingFrom, transitionsFrom, fieldsFrom, chartFrom}
+use Rattle.list_judging.specs.FromLists.{transitionsFrom, fieldsFrom, chartFrom}
 use Rattle.list_judging.specs.Parts.{checkHeader, checkAccepting, totalSizes, checkTransitions, largeAmong, checkChart, Sizes}
 use Rattle.list_judging.specs.Lent.{transitionLists}
 use Rattle.list_judging.proofs.Answers.{then-then, then-unless, then-known, kept-result}

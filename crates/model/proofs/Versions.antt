@@ -8,13 +8,13 @@ use mathlib.Core.List.{List, [], _∷_}
 use Prim.Native.Nat.{ℕ, _+_, _*_, _^_, _≤_, _<_}
 use native.Mathlib.Nat.{mul-le-mul}
 use native.Mathlib.Omega.{arith}
-use lib.Dec.{leb, ltb, eqb}
+use lib.Dec.{leb, eqb}
 use borrow.Author.Tests.{ne-eqb, leb-true, ltb-false, le-ltb}
 use Rattle.lists.specs.Lists.{anyOf}
 use Rattle.lists.specs.Rising.{All}
-use Rattle.lists.proofs.Bools.{yes-or-no, not-both, and-left, and-right, same-number}
+use Rattle.lists.proofs.Bools.{not-both, and-left, and-right, same-number}
 use Rattle.model.specs.Chart.{Test, Transition, Chart}
-use Rattle.model.specs.Version.{knownVersion, widthOf, inVersion, isLarge, largeConstant, largeInVersion1}
+use Rattle.model.specs.Version.{knownVersion, widthOf, isLarge, largeConstant, largeInVersion1}
 use Rattle.model.specs.Valid.{ValidTest, ValidTransition, Valid, Storable}
 
 -- ---- versions and widths

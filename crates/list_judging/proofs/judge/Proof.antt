@@ -1,7 +1,6 @@
 -- `judge` meets its contract: the parts are judged in turn, and the first refusal is passed on. What is hard is that the length of the file is
 -- no large number. Assumes nothing.
 use mathlib.Core.Path.{_≡_, sym, ap, _∙_}
-use Prim.Native.Nat.{_≤_, _<_}
 use denote.Ref.{now}
 use native.Mathlib.Omega.{arith}
 use borrow.Author.Needs.{needs}
