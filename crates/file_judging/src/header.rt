@@ -169,7 +169,5 @@ pub fn header_at(s: &[u8], at: usize, version: u8) -> HeaderField
     let Field::Value(_, after) = b else {
         return HeaderField::Refused(fields::refusal_of(b));
     };
-    count_at(
-        s, after, version, locations, initial, timers, accepting,
-    )
+    count_at(s, after, version, locations, initial, timers, accepting)
 }

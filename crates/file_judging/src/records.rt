@@ -33,14 +33,7 @@ fn skip_tests(s: &[u8], at: usize, version: u8, g: u8, timers: u8, place: u64) -
 }
 
 // A whole record, judged and skipped: the number of its tests, with the place after it.
-fn skip_record(
-    s: &[u8],
-    at: usize,
-    version: u8,
-    locations: u16,
-    timers: u8,
-    place: u64,
-) -> Field
+fn skip_record(s: &[u8], at: usize, version: u8, locations: u16, timers: u8, place: u64) -> Field
     requires { ⌜ timers ≤ 64 ⌝ }
     ensures { λ r. ⌜ fieldAs (now (s .entry)) r ≡ skipTransition (widthOf version) locations timers place (drop at (now (s .entry))) ⌝ }
 {
@@ -60,14 +53,7 @@ fn skip_record(
 }
 
 // All transitions, judged and skipped: the number of their tests, with the place after them.
-pub fn skip_records(
-    s: &[u8],
-    at: usize,
-    version: u8,
-    n: u16,
-    locations: u16,
-    timers: u8,
-) -> Field
+pub fn skip_records(s: &[u8], at: usize, version: u8, n: u16, locations: u16, timers: u8) -> Field
     requires { ⌜ timers ≤ 64 ⌝ }
     ensures { λ r. ⌜ fieldAs (now (s .entry)) r ≡ skipTransitions (widthOf version) locations timers n (drop at (now (s .entry))) ⌝ }
 {
