@@ -4,11 +4,12 @@ use mathlib.Core.List.{List, [], _∷_, _++_, map-append, append-assoc, append-n
 use Prim.Native.Nat.{ℕ, zero, suc, _*_, _≤_, _<_}
 use native.Mathlib.Omega.{arith}
 use lib.ListN.{length, getD, length-append}
+use Rattle.lists.specs.Lists.{sumOf}
 use Rattle.lists.specs.Rising.{All}
 use Rattle.model.specs.Chart.{Test, Transition, Chart}
 use Rattle.model.specs.Valid.{Valid, ValidTest, ValidTransition}
 use Rattle.chart_lists.specs.Limits.{mostTests}
-use Rattle.chart_lists.specs.Lists.{allTests, timersOf, listsOf}
+use Rattle.chart_lists.specs.Lists.{allTests, timersOf, testCountsOf, listsOf}
 
 pub tests-append : (rs ss : List Transition) → allTests (rs ++ ss) ≡ allTests rs ++ allTests ss
 unfolding allTests
@@ -22,6 +23,12 @@ tests-more rs r = rw (tests-append, append-nil)
 -- a front of the transitions has no more tests than all
 pub tests-front : (rs ss : List Transition) {all : List Transition} → rs ++ ss ≡ all → length (allTests rs) ≤ length (allTests all)
 tests-front rs ss e = rw (← e, tests-append, length-append) (omega arith)
+
+-- as many as the transitions have together
+pub tests-sum : (rs : List Transition) → length (allTests rs) ≡ sumOf (testCountsOf rs)
+unfolding allTests sumOf
+tests-sum [] = refl
+tests-sum (r ∷ rs) = rw (length-append, tests-sum rs)
 
 -- at most 8 tests of each transition
 few-tests : (W locations timers : ℕ) (rs : List Transition) → All (ValidTransition W locations timers) rs → length (allTests rs) ≤ 8 * length rs

@@ -27,6 +27,10 @@ module _ {A B : Type 0} where
   then-same (result a) f g e = e a
   then-same (refused n p) f g e = refl
 
+  pub then-known : (x : Answer A) (f g : A → Answer B) → ((a : A) → x ≡ result a → f a ≡ g a) → then x f ≡ then x g
+  then-known (result a) f g e = e a refl
+  then-known (refused n p) f g e = refl
+
   -- where only something of the result is kept
   pub kept-result : (x : Answer A) (f : A → B) {b : B} → then x (λ a. result (f a)) ≡ result b → (a : A) × (x ≡ result a) × (f a ≡ b)
   kept-result (result a) f e = (a, refl, cc)

@@ -20,14 +20,14 @@ use Rattle.list_judging.specs.FromLists.{transitionFrom, chartFrom}
 use Rattle.list_judging.specs.Typed.{Typed}
 use Rattle.list_judging.proofs.Parts.{acceptingItem, nextLowest, testItem, noState, tests-each, nextTests, TransitionsEach}
 use Rattle.list_judging.proofs.TransitionOf.{accepting-of, TestOf, test-of, TransitionOf, transition-of}
-use Rattle.list_judging.proofs.ChartOf.{chart-of, each-accepted, accepted-length, each-transition, transition-count}
+use Rattle.list_judging.proofs.ChartOf.{ChartOf, chart-of, from-fields, each-accepted, accepted-length, each-transition, transition-count}
 use Rattle.list_judging.proofs.Beginnings.{begins-append, each-begins}
 use Rattle.list_judging.proofs.FromValid.{all-nth, from-valid}
 
 -- of each test something
 module _ (l : Lists) (locations timers : ℕ) (f : Test → ℕ) (w : List ℕ)
     (e : (k : ℕ) (t : Test) → TestOf l timers k t → getElem? w k ≡ some (f t)) where
-  tests-begin : (i k : ℕ) (rs : List Transition) → TransitionsEach l locations timers i k rs → Begins (map f (allTests rs)) (drop k w)
+  pub tests-begin : (i k : ℕ) (rs : List Transition) → TransitionsEach l locations timers i k rs → Begins (map f (allTests rs)) (drop k w)
   unfolding allTests
   tests-begin i k [] h = record { is = refl }
   tests-begin i k (r ∷ rs) h =
@@ -38,28 +38,36 @@ module _ (l : Lists) (locations timers : ℕ) (f : Test → ℕ) (w : List ℕ)
       (begins-append (map f (r .tests)) (map f (allTests rs)) w k first (rw (length-map (r .tests) f) others))
 
 module _ (m : Header) (l : Lists) (c : Chart) (e : chartFrom m l ≡ result c) where
+  abbrev fields : ChartOf m l c
+  fields = chart-of m l c (from-fields m l c e .0)
+
   pub from-header : headerOf c ≡ m
   unfolding headerOf
-  from-header =
-      let h = chart-of m l c e in
-      rw (h .locations, h .initial, h .timers, accepted-length m l c h, transition-count m l c h)
+  from-header = λ j. record {
+    version = fields .version j;
+    locations = fields .locations j;
+    initial = fields .initial j;
+    timers = fields .timers j;
+    accepting = accepted-length m l c fields j;
+    transitions = transition-count m l c fields j;
+  }
 
   accepting-begin : Begins (c .accepting) (l .accepting)
   accepting-begin =
       rw (← map-id (c .accepting))
       (each-begins (acceptingItem (m .locations) (l .accepting)) nextLowest (λ x. x) (l .accepting)
-      (λ k lo x q. accepting-of (m .locations) (l .accepting) k lo x q .0) 0 0 (c .accepting) (each-accepted m l c (chart-of m l c e)))
+      (λ k lo x q. accepting-of (m .locations) (l .accepting) k lo x q .0) 0 0 (c .accepting) (each-accepted m l c fields))
 
   transitions-begin : (f : Transition → ℕ) (w : List ℕ)
       → ((i k : ℕ) (r : Transition) → TransitionOf l (m .locations) (m .timers) i k r → getElem? w i ≡ some (f r))
       → Begins (map f (c .transitions)) w
   transitions-begin f w g =
       each-begins (transitionFrom l (m .locations) (m .timers)) nextTests f w
-      (λ i k r q. g i k r (transition-of l (m .locations) (m .timers) i k r q)) 0 0 (c .transitions) (each-transition m l c (chart-of m l c e))
+      (λ i k r q. g i k r (transition-of l (m .locations) (m .timers) i k r q)) 0 0 (c .transitions) (each-transition m l c fields)
 
   all-tests-begin : (f : Test → ℕ) (w : List ℕ) → ((k : ℕ) (t : Test) → TestOf l (m .timers) k t → getElem? w k ≡ some (f t))
       → Begins (map f (allTests (c .transitions))) w
-  all-tests-begin f w g = tests-begin l (m .locations) (m .timers) f w g 0 0 (c .transitions) (each-transition m l c (chart-of m l c e))
+  all-tests-begin f w g = tests-begin l (m .locations) (m .timers) f w g 0 0 (c .transitions) (each-transition m l c fields)
 
   module _ (typed : Typed l) where
     starts-begin : Begins (startsOf (c .transitions)) (l .starts)
@@ -71,8 +79,8 @@ module _ (m : Header) (l : Lists) (c : Chart) (e : chartFrom m l ≡ result c) w
     pub from-holds : Holds c l
     unfolding listsOf
     from-holds = record {
-      width = 2;
-      valid = from-valid l typed m c e;
+      width = 4;
+      valid = from-valid l typed m c (from-fields m l c e .0);
       accepting = accepting-begin;
       sources = transitions-begin (λ r. r .source) (l .sources) (λ i k r h. h .source);
       targets = transitions-begin (λ r. r .target) (l .targets) (λ i k r h. h .target);

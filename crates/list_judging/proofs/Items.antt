@@ -1,18 +1,22 @@
--- Items that come one after another, each by what the items before it left, and a loop over them that sums something up. What is hard
+-- Items that come one after another, each by what the items before it left, and a loop over them that adds up what they give. What is hard
 -- is that an item's state depends on all items before it: `Each` says it of the list of them. Assumes nothing.
 use mathlib.Core.Path.{_≡_, refl, sym, ap, _∙_, subst}
 use mathlib.Core.Option.{some, Option·some-injective, Option·none-ne-some}
-use mathlib.Core.List.{List, [], _∷_, map}
+use mathlib.Core.List.{List, [], _∷_}
 use Prim.Native.Nat.{ℕ, zero, suc, _+_, _-_, _≤_, _<_}
-use native.Mathlib.Nat.{add-assoc, add-zero, zero-add, sub-zero}
+use native.Mathlib.Nat.{add-zero, sub-zero}
 use native.Mathlib.Omega.{arith}
 use lib.ListN.{length, getElem?}
-use Rattle.lists.specs.Lists.{sumOf}
 use Rattle.lists.specs.Rising.{All}
 use Rattle.lists.proofs.Nth.{below-nth}
 use Rattle.model.specs.Answer.{Answer, result, refused, then}
 use Rattle.file_format.proofs.Answers.{then-result}
 use Rattle.list_judging.proofs.Answers.{then-then, then-same}
+
+-- z and the elements, one added after another
+unfoldable pub added : {A B : Type 0} → (add : B → A → B) → B → List A → B
+added add z [] = z
+added add z (a ∷ xs) = added add (add z a) xs
 
 module _ {A : Type 0} (item : (i s : ℕ) → Answer A) (next : ℕ → A → ℕ) where
   -- n items from number i on; s is what the items before left
@@ -69,20 +73,21 @@ module _ {A : Type 0} (item : (i s : ℕ) → Answer A) (next : ℕ → A → �
   each-room f w e i s [] h = omega arith
   each-room f w e i s (a ∷ xs) h = omega (arith, below-nth w i (e i s a (h .0)), each-room f w e (suc i) (next s a) xs (h .1))
 
-  -- ---- a loop that sums f up
+  -- ---- a loop that adds up what the items give
 
-  module _ (f : A → ℕ) where
-    unfoldable pub summed : (i s n : ℕ) → Answer ℕ
-    summed i s n = then (items i s n) (λ xs. result (sumOf (map f xs)))
-
-    -- whole is the sum of n items; k of them gave sum, those left begin with number i and state s
-    pub record Turn (whole : Answer ℕ) (n k i s sum : ℕ) : Type 0 where
+  module _ {B : Type 0} (add : B → A → B) where
+    -- whole is what n items come to; k of them came to sum, those left begin with number i and state s
+    pub record Turn (whole : Answer B) (n k i s : ℕ) (sum : B) : Type 0 where
       pub most : k ≤ n
-      pub left : whole ≡ then (items i s (n - k)) (λ xs. result (sum + sumOf (map f xs)))
+      pub left : whole ≡ then (items i s (n - k)) (λ xs. result (added add sum xs))
 
-    pub turn-first : (i s n : ℕ) → Turn (summed i s n) n 0 i s 0
-    unfolding summed
-    turn-first i s n = record { most = omega arith; left = simp (sub-zero, zero-add) }
+    -- g is what the items come to from z on
+    pub turn-first : (g : List A → B) (z : B) → ((xs : List A) → added add z xs ≡ g xs) → (i s n : ℕ)
+        → Turn (then (items i s n) (λ xs. result (g xs))) n 0 i s z
+    turn-first g z e i s n = record {
+      most = omega arith;
+      left = rw (sub-zero n) (then-same (items i s n) _ _ (λ xs. ap result (sym (e xs))));
+    }
 
 -- the same items one by one, the same all together
 pub items-same : {A : Type 0} (item item′ : (i s : ℕ) → Answer A) (next : ℕ → A → ℕ) → ((i s : ℕ) → item i s ≡ item′ i s)
@@ -92,17 +97,17 @@ items-same item item′ next e i s zero = refl
 items-same item item′ next e i s (suc n) =
     rw (e i s) (then-same (item′ i s) _ _ (λ a. rw (items-same item item′ next e (suc i) (next s a) n)))
 
-module _ {A : Type 0} {item : (i s : ℕ) → Answer A} {next : ℕ → A → ℕ} {f : A → ℕ} {whole : Answer ℕ} {n k i s sum : ℕ}
-    (h : Turn item next f whole n k i s sum) where
+module _ {A B : Type 0} {item : (i s : ℕ) → Answer A} {next : ℕ → A → ℕ} {add : B → A → B} {whole : Answer B} {n k i s : ℕ} {sum : B}
+    (h : Turn item next add whole n k i s sum) where
   pub turn-done : n ≤ k → whole ≡ result sum
-  unfolding items sumOf
-  turn-done l = let e : n - k ≡ 0 = omega (arith, h .most) in h .left ∙ rw e (ap result (add-zero sum))
+  unfolding items added
+  turn-done l = let e : n - k ≡ 0 = omega (arith, h .most) in h .left ∙ rw e
 
   module _ (l : k < n) where
     turn-step : whole ≡ then (item i s) (λ a.
         then (items item next (suc i) (next s a) (n - (k + 1))) (λ xs.
-        result (sum + (f a + sumOf (map f xs)))))
-    unfolding items sumOf
+        result (added add (add sum a) xs)))
+    unfolding items added
     turn-step =
         let e : n - k ≡ suc (n - (k + 1)) = omega arith in
         let rest : (a : A) → Answer (List A) = λ a. items item next (suc i) (next s a) (n - (k + 1)) in
@@ -111,7 +116,6 @@ module _ {A : Type 0} {item : (i s : ℕ) → Answer A} {next : ℕ → A → �
     pub turn-refused : {m p : ℕ} → item i s ≡ refused m p → whole ≡ refused m p
     turn-refused e = turn-step ∙ rw e
 
-    pub turn-again : {a : A} (i′ s′ sum′ : ℕ) → item i s ≡ result a → i′ ≡ suc i → s′ ≡ next s a → sum′ ≡ sum + f a
-        → Turn item next f whole n (k + 1) i′ s′ sum′
-    turn-again {a} i′ s′ sum′ e ei es em =
-        record { most = omega arith; left = turn-step ∙ rw (e, ei, es, em) (simp add-assoc) }
+    pub turn-again : {a : A} (i′ s′ : ℕ) (sum′ : B) → item i s ≡ result a → i′ ≡ suc i → s′ ≡ next s a → sum′ ≡ add sum a
+        → Turn item next add whole n (k + 1) i′ s′ sum′
+    turn-again {a} i′ s′ sum′ e ei es em = record { most = omega arith; left = turn-step ∙ rw (e, ei, es, em) }

@@ -1,9 +1,10 @@
 -- What the judgement of a part gives, by what its fields give. Assumes nothing.
 use mathlib.Core.Path.{_≡_}
-use mathlib.Core.Bool.{true, false}
+use mathlib.Core.Bool.{true, false, _&&_}
 use mathlib.Core.Option.{none, some}
 use mathlib.Core.List.{List}
 use Prim.Native.Nat.{ℕ, _+_, _*_, _≤_, _<_, _^_}
+use lib.Dec.{eqb}
 use lib.ListN.{length, getD}
 use lib.Count.{ones}
 use borrow.Author.Tests.{lt-ltb, le-ltb, le-leb, lt-leb}
@@ -12,52 +13,62 @@ use Rattle.timer_set.proofs.Counts.{ones-members}
 use Rattle.comparison.specs.declared.Comparison.{Comparison}
 use Rattle.comparison.specs.Comparison.{comparisonOf}
 use Rattle.model.specs.Answer.{result, refused, nowhere}
+use Rattle.model.specs.Version.{knownVersion, widthOf}
 use Rattle.chart_lists.specs.Lists.{Lists}
 use Rattle.chart_lists.specs.declared.Header.{Header}
 use Rattle.list_judging.specs.FromLists.{entryAt, entryBelow}
 use Rattle.list_judging.specs.Parts.{checkHeader, checkAccepting, checkCode, checkTest, checkTests, checkCount}
-use Rattle.list_judging.specs.Parts.{checkEnds, checkStarts, checkTransition, checkTransitions, checkChart}
+use Rattle.list_judging.specs.Parts.{checkEnds, checkStarts, checkTransition, Sizes, checkTransitions, largeAmong, checkChart}
 use Rattle.list_judging.specs.Lent.{transitionLists, testLists}
 use Rattle.list_judging.proofs.ListEntries.{entry-in, entry-out}
-use Rattle.list_judging.proofs.Parts.{acceptingItem, check-test, check-transition, check-chart}
+use Rattle.list_judging.proofs.Parts.{acceptingItem, check-test, check-transition}
+use Rattle.list_judging.proofs.WholeChart.{afterFields, check-chart}
 
 -- ---- the header
 
 module _ (m : Header) where
-  pub header-many : 257 ≤ m .locations → checkHeader m ≡ refused 4 nowhere
+  pub header-unknown : knownVersion (m .version) ≡ false → checkHeader m ≡ refused 2 nowhere
   unfolding checkHeader
-  header-many h = rw (le-ltb (m .locations) 257 h)
+  header-unknown h = rw h
 
-  module _ (few : m .locations < 257) where
-    pub header-none : m .locations < 1 → checkHeader m ≡ refused 4 nowhere
+  module _ (known : knownVersion (m .version) ≡ true) where
+    pub header-many : 257 ≤ m .locations → checkHeader m ≡ refused 4 nowhere
     unfolding checkHeader
-    header-none h = rw (lt-ltb (m .locations) 257 few, lt-leb 1 (m .locations) h)
+    header-many h = rw (known, le-ltb (m .locations) 257 h)
 
-    module _ (some-location : 1 ≤ m .locations) where
-      pub header-initial : m .locations ≤ m .initial → checkHeader m ≡ refused 5 nowhere
+    module _ (few : m .locations < 257) where
+      pub header-none : m .locations < 1 → checkHeader m ≡ refused 4 nowhere
       unfolding checkHeader
-      header-initial h = rw (lt-ltb (m .locations) 257 few, le-leb 1 (m .locations) some-location, le-ltb (m .initial) (m .locations) h)
+      header-none h = rw (known, lt-ltb (m .locations) 257 few, lt-leb 1 (m .locations) h)
 
-      module _ (initial : m .initial < m .locations) where
-        pub header-timers : 65 ≤ m .timers → checkHeader m ≡ refused 4 nowhere
+      module _ (some-location : 1 ≤ m .locations) where
+        pub header-initial : m .locations ≤ m .initial → checkHeader m ≡ refused 5 nowhere
         unfolding checkHeader
-        header-timers h =
-            rw (
-              lt-ltb (m .locations) 257 few,
-              le-leb 1 (m .locations) some-location,
-              lt-ltb (m .initial) (m .locations) initial,
-              le-ltb (m .timers) 65 h,
-            )
+        header-initial h =
+            rw (known, lt-ltb (m .locations) 257 few, le-leb 1 (m .locations) some-location, le-ltb (m .initial) (m .locations) h)
 
-        pub header-in : m .timers < 65 → checkHeader m ≡ result 0
-        unfolding checkHeader
-        header-in h =
-            rw (
-              lt-ltb (m .locations) 257 few,
-              le-leb 1 (m .locations) some-location,
-              lt-ltb (m .initial) (m .locations) initial,
-              lt-ltb (m .timers) 65 h,
-            )
+        module _ (initial : m .initial < m .locations) where
+          pub header-timers : 65 ≤ m .timers → checkHeader m ≡ refused 4 nowhere
+          unfolding checkHeader
+          header-timers h =
+              rw (
+                known,
+                lt-ltb (m .locations) 257 few,
+                le-leb 1 (m .locations) some-location,
+                lt-ltb (m .initial) (m .locations) initial,
+                le-ltb (m .timers) 65 h,
+              )
+
+          pub header-in : m .timers < 65 → checkHeader m ≡ result 0
+          unfolding checkHeader
+          header-in h =
+              rw (
+                known,
+                lt-ltb (m .locations) 257 few,
+                le-leb 1 (m .locations) some-location,
+                lt-ltb (m .initial) (m .locations) initial,
+                lt-ltb (m .timers) 65 h,
+              )
 
 -- ---- an accepting location
 
@@ -183,6 +194,12 @@ module _ (m : Header) (l : Lists) where
             → checkChart m l ≡ refused n p
         chart-transitions h = rw (check-chart m l, e, f, lt-ltb (m .transitions) 513 few, h)
 
-        pub chart-in : {b : ℕ} → checkTransitions (transitionLists l) (m .locations) (m .timers) (m .transitions) ≡ result b
-            → checkChart m l ≡ result (14 + 2 * a + b)
-        chart-in h = rw (check-chart m l, e, f, lt-ltb (m .transitions) 513 few, h)
+        module _ {b : Sizes} (h : checkTransitions (transitionLists l) (m .locations) (m .timers) (m .transitions) ≡ result b) where
+          pub chart-large : (eqb (m .version) 1 && largeAmong (b .tests) (l .constants)) ≡ true → checkChart m l ≡ refused 17 nowhere
+          unfolding afterFields
+          chart-large q = rw (check-chart m l, e, f, lt-ltb (m .transitions) 513 few, h, q)
+
+          pub chart-in : (eqb (m .version) 1 && largeAmong (b .tests) (l .constants)) ≡ false
+              → checkChart m l ≡ result (14 + 2 * a + (9 * m .transitions + b .starts + (2 + widthOf (m .version)) * b .tests))
+          unfolding afterFields
+          chart-in q = rw (check-chart m l, e, f, lt-ltb (m .transitions) 513 few, h, q)

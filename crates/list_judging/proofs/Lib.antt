@@ -2,14 +2,17 @@ pub mod Answers
 pub mod Items
 pub mod ListEntries
 pub mod Parts
+pub mod LargeAmong
 pub mod Judging
 pub mod TransitionOf
 pub mod Turns
 pub mod ChartOf
+pub mod Version
 pub mod Beginnings
 pub mod Starts
 pub mod FromValid
 pub mod FromHolds
+pub mod WholeChart
 pub mod ValidFrom
 pub mod FieldsGive
 pub mod FieldLengths

@@ -2,23 +2,17 @@
 -- are judged in the same order. Assumes nothing.
 use mathlib.Core.Path.{_≡_, refl, sym, _∙_}
 use mathlib.Core.Bool.{Bool, true, false}
-use mathlib.Core.List.{List, _∷_, map}
-use Prim.Native.Nat.{ℕ, zero, suc, _+_, _*_}
-use native.Mathlib.Omega.{arith}
-use lib.Dec.{leb, ltb}
+use mathlib.Core.List.{List, _∷_}
+use Prim.Native.Nat.{ℕ, zero, suc, _+_}
+use lib.Dec.{leb}
 use lib.ListN.{length}
-use Rattle.lists.specs.Lists.{sumOf}
 use Rattle.model.specs.Answer.{Answer, result, then, unless, nowhere}
-use Rattle.model.specs.Chart.{Test, Transition, Chart}
-use Rattle.file_format.specs.File.{fileOf}
-use Rattle.file_format.specs.Lengths.{transitionLength, bodyLength, fileLength}
-use Rattle.file_format.proofs.Lengths.{length-file}
+use Rattle.model.specs.Chart.{Test, Transition}
 use Rattle.chart_lists.specs.Lists.{Lists}
-use Rattle.chart_lists.specs.declared.Header.{Header}
 use Rattle.list_judging.specs.FromLists.{entryAt, entryBelow, acceptingFrom}
-use Rattle.list_judging.specs.FromLists.{testFrom, testsFrom, transitionFrom, transitionsFrom, chartFrom}
-use Rattle.list_judging.specs.Parts.{checkHeader, checkAccepting, checkCode, checkTest, checkTests, checkCount, checkEnds, checkStarts}
-use Rattle.list_judging.specs.Parts.{sizesOf, checkTransition, checkTransitions, checkChart}
+use Rattle.list_judging.specs.FromLists.{testFrom, testsFrom, transitionFrom, transitionsFrom}
+use Rattle.list_judging.specs.Parts.{checkCode, checkTest, checkTests, checkCount, checkEnds, checkStarts}
+use Rattle.list_judging.specs.Parts.{sizesOf, checkTransition}
 use Rattle.list_judging.specs.Lent.{transitionLists, testLists}
 use Rattle.list_judging.proofs.Answers.{then-id, then-then, then-unless, then-same}
 use Rattle.list_judging.proofs.Items.{items, Each, items-same, items-length, items-each, each-items}
@@ -147,16 +141,3 @@ pub check-transition : (l : Lists) (locations timers i k : ℕ) → checkTransit
     result (record { starts = s; tests = g }))))
 unfolding checkTransition transitionFrom checkEnds checkStarts checkCount checkTests sizesOf
 check-transition l locations timers i k = simp (then-then, then-unless, tests-only l)
-
-pub file-length : (c : Chart) → length (fileOf c) ≡ 14 + 2 * length (c .accepting) + sumOf (map (transitionLength 2) (c .transitions))
-unfolding fileOf fileLength bodyLength
-file-length c = omega (arith, length-file 1 2 c)
-
-pub check-chart : (m : Header) (l : Lists) → checkChart m l
-    ≡ then (checkHeader m) (λ z.
-    then (checkAccepting (m .locations) (l .accepting) (m .accepting)) (λ a.
-    unless (ltb (m .transitions) 513) 4 nowhere (
-    then (checkTransitions (transitionLists l) (m .locations) (m .timers) (m .transitions)) (λ b.
-    result (14 + 2 * a + b)))))
-unfolding checkChart chartFrom checkHeader checkAccepting checkTransitions
-check-chart m l = rw (← transitions-only l (m .locations) (m .timers) (m .transitions)) (simp (then-then, then-unless, file-length))

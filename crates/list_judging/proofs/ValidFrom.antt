@@ -1,5 +1,6 @@
--- Lists that hold a chart describe it, if its constants fit 2 bytes: the other direction of proofs/FromHolds. Assumes nothing.
+-- Lists that hold a chart describe it, if a file of its version can hold it: the other direction of proofs/FromHolds. Assumes nothing.
 use mathlib.Core.Path.{_≡_, refl, sym}
+use mathlib.Core.Bool.{true}
 use mathlib.Core.List.{List, [], _∷_, _++_, map, map-append}
 use Prim.Native.Nat.{ℕ, suc, _+_, _≤_}
 use native.Mathlib.Omega.{arith}
@@ -10,16 +11,18 @@ use Rattle.timer_set.proofs.Members.{members-setOf}
 use Rattle.comparison.specs.Comparison.{codeOf}
 use Rattle.model.specs.Answer.{result}
 use Rattle.model.specs.Chart.{Test, Transition, Chart}
-use Rattle.model.specs.Valid.{ValidTest, ValidTransition, Valid}
+use Rattle.model.specs.Valid.{ValidTest, ValidTransition, Valid, Storable}
+use Rattle.model.specs.Version.{knownVersion}
+use Rattle.model.proofs.Versions.{storable-iff}
 use Rattle.model.specs.Live.{startsSet}
 use Rattle.chart_lists.specs.Lists.{Lists, listsOf, allTests, eventsOf, sourcesOf, startsOf, targetsOf, testCountsOf, timersOf}
 use Rattle.chart_lists.specs.Begins.{Begins}
 use Rattle.chart_lists.specs.Holds.{Holds}
 use Rattle.chart_lists.specs.Header.{headerOf}
-use Rattle.list_judging.specs.FromLists.{chartFrom}
+use Rattle.list_judging.specs.FromLists.{fieldsFrom, chartFrom}
 use Rattle.list_judging.proofs.Parts.{AcceptingEach, each-accepting, TestsEach, each-tests, TransitionsEach, each-transitions}
 use Rattle.list_judging.proofs.TransitionOf.{of-accepting, of-test, of-transition}
-use Rattle.list_judging.proofs.ChartOf.{of-chart}
+use Rattle.list_judging.proofs.ChartOf.{of-chart, fields-from}
 use Rattle.list_judging.proofs.Beginnings.{begins-split, begins-front, begins-back}
 use Rattle.list_judging.proofs.Starts.{set-below}
 
@@ -41,7 +44,7 @@ tests-split f w k r rs b =
     )
 
 module _ (l : Lists) (locations timers : ℕ) (few : timers ≤ 64) where
-  tests-held : (i k : ℕ) (ts : List Test) → All (ValidTest 2 timers) ts
+  tests-held : (i k : ℕ) (ts : List Test) → All (ValidTest 4 timers) ts
       → Begins (timersOf ts) (drop k (l .timers)) → Begins (map (λ t. codeOf (t .comparison)) ts) (drop k (l .codes))
       → Begins (map (λ t. t .constant) ts) (drop k (l .constants)) → TestsEach l timers i k ts
   tests-held i k [] v a b d = tt
@@ -64,7 +67,7 @@ module _ (l : Lists) (locations timers : ℕ) (few : timers ≤ 64) where
     codes : Begins (map (λ t. codeOf (t .comparison)) (allTests rs)) (drop k (l .codes))
     constants : Begins (map (λ t. t .constant) (allTests rs)) (drop k (l .constants))
 
-  transitions-held : (i k : ℕ) (rs : List Transition) → All (ValidTransition 2 locations timers) rs → From i k rs
+  transitions-held : (i k : ℕ) (rs : List Transition) → All (ValidTransition 4 locations timers) rs → From i k rs
       → TransitionsEach l locations timers i k rs
   unfolding startsSet
   transitions-held i k [] v b = tt
@@ -103,13 +106,15 @@ module _ (l : Lists) (locations timers : ℕ) (few : timers ≤ 64) where
         }),
       )
 
-pub valid-from : (c : Chart) → Valid 2 c → (l : Lists) → Holds c l → chartFrom (headerOf c) l ≡ result c
+fields-held : (c : Chart) → knownVersion (c .version) ≡ true → Valid 4 c → (l : Lists) → Holds c l → fieldsFrom (headerOf c) l ≡ result c
 unfolding listsOf headerOf
-valid-from c v l b =
+fields-held c known v l b =
     of-chart (headerOf c) l c (record {
+      version = refl;
       locations = refl;
       initial = refl;
       timers = refl;
+      known = known;
       few-locations = omega (arith, v .few-locations);
       some-location = v .some-location;
       initial-below = v .initial;
@@ -129,3 +134,8 @@ valid-from c v l b =
             constants = b .constants;
           }));
     })
+
+pub valid-from : (c : Chart) → Storable c → (l : Lists) → Holds c l → chartFrom (headerOf c) l ≡ result c
+valid-from c s l b =
+    let h = storable-iff c .0 s in
+    fields-from (headerOf c) l c (fields-held c (h .known) (h .valid) l b) (h .not-refused)

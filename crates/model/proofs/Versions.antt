@@ -5,7 +5,8 @@ use mathlib.Core.Path.{_≡_, refl, sym, subst}
 use mathlib.Core.Logic.{_⊎_, inl, inr, _↔_}
 use mathlib.Core.Bool.{Bool, true, false, _||_, _&&_}
 use mathlib.Core.List.{List, [], _∷_}
-use Prim.Native.Nat.{ℕ, _^_, _≤_, _<_}
+use Prim.Native.Nat.{ℕ, _+_, _*_, _^_, _≤_, _<_}
+use native.Mathlib.Nat.{mul-le-mul}
 use native.Mathlib.Omega.{arith}
 use lib.Dec.{leb, ltb, eqb}
 use borrow.Author.Tests.{ne-eqb, leb-true, ltb-false, le-ltb}
@@ -39,7 +40,7 @@ width-most v = go (eqb v 1)
     go false = omega arith
 
 -- by the width that the version has: two bytes for 1, four for another
-by-version : (P : ℕ → Type 0) (v : ℕ) → (v ≡ 1 → P 2) → (eqb v 1 ≡ false → P 4) → P (widthOf v)
+pub by-version : (P : ℕ → Type 0) (v : ℕ) → (v ≡ 1 → P 2) → (eqb v 1 ≡ false → P 4) → P (widthOf v)
 unfolding widthOf
 by-version P v two four = go (eqb v 1) refl
   where
@@ -54,6 +55,13 @@ width-cases v = by-version (λ W. (W ≡ 2) ⊎ (W ≡ 4)) v (λ e. inl refl) (�
 -- a constant fits 32 bits
 pub width-fits : (v : ℕ) → 256 ^ widthOf v ≤ 4294967296
 width-fits v = by-version (λ W. 256 ^ W ≤ 4294967296) v (λ e. omega arith) (λ e. omega arith)
+
+-- the bytes of n tests, w being the width
+pub tests-most : (v n limit : ℕ) {w : ℕ} → w ≡ widthOf v → n ≤ limit → ((2 + w) * n ≤ 6 * limit) × (w ≤ 4)
+tests-most v n limit {w} e h =
+    let few : w ≤ 4 = omega (arith, e, width-most v) in
+    let all : 2 + w ≤ 6 = omega arith in
+    (mul-le-mul all h, few)
 
 -- ---- the same chart with wider or narrower constants
 
@@ -95,6 +103,11 @@ all-have : {A : Type 0} {P : A → Type 0} → ((a : A) → P a) → (l : List A
 all-have h [] = tt
 all-have h (a ∷ l) = (h a, all-have h l)
 
+-- what holds of each, as what it implies
+all-as : {A : Type 0} {P Q : A → Type 0} → ((a : A) → P a → Q a) → (l : List A) → All P l → All Q l
+all-as h [] x = tt
+all-as h (a ∷ l) x = (h a (x .0), all-as h l (x .1))
+
 -- none passes: each fails, and the other way round
 module _ {A : Type 0} (f : A → Bool) where
   none-passes : (l : List A) → anyOf f l ≡ false → All (λ a. f a ≡ false) l
@@ -115,17 +128,20 @@ module _ {A : Type 0} (f : A → Bool) where
   each-fails P h [] x = refl
   each-fails P h (a ∷ l) x = rw (h a (x .0), each-fails P h l (x .1))
 
+-- every constant has two bytes where none is large
+pub small-constants : (c : Chart) → largeConstant c ≡ false
+    → All (λ (r : Transition). All (λ (t : Test). t .constant < 256 ^ 2) (r .tests)) (c .transitions)
+unfolding largeConstant isLarge
+small-constants c e =
+    all-as (λ (r : Transition) q. all-as small (r .tests) (none-passes (λ (t : Test). isLarge (t .constant)) (r .tests) q)) (c .transitions)
+    (none-passes (λ (r : Transition). anyOf (λ (t : Test). isLarge (t .constant)) (r .tests)) (c .transitions) e)
+  where
+    small : (t : Test) → isLarge (t .constant) ≡ false → t .constant < 256 ^ 2
+    small t q = omega (arith, ltb-false 65535 (t .constant) q)
+
 -- two bytes hold what four hold if no constant is large, and only then
 pub narrowed : (c : Chart) → largeConstant c ≡ false → Valid 4 c → Valid 2 c
-unfolding largeConstant isLarge
-narrowed c e v =
-    valid-as 4 2 (λ t. isLarge (t .constant) ≡ false) (λ t q h. omega (arith, ltb-false 65535 (t .constant) q)) c
-    (all-as (λ (r : Transition) q. none-passes (λ (t : Test). isLarge (t .constant)) (r .tests) q) (c .transitions)
-    (none-passes (λ (r : Transition). anyOf (λ (t : Test). isLarge (t .constant)) (r .tests)) (c .transitions) e)) v
-  where
-    all-as : {A : Type 0} {P Q : A → Type 0} → ((a : A) → P a → Q a) → (l : List A) → All P l → All Q l
-    all-as h [] x = tt
-    all-as h (a ∷ l) x = (h a (x .0), all-as h l (x .1))
+narrowed c e v = valid-as 4 2 (λ t. t .constant < 256 ^ 2) (λ t q h. q) c (small-constants c e) v
 
 pub narrow-small : (c : Chart) → Valid 2 c → largeConstant c ≡ false
 unfolding largeConstant isLarge
@@ -140,6 +156,10 @@ widened c v =
     valid-as 2 4 (λ t. Unit {0}) (λ t q h. omega arith) c (all-have (λ (r : Transition). all-have (λ t. tt) (r .tests)) (c .transitions)) v
 
 -- ---- what a file can hold
+
+-- there are two widths
+pub width-not-two : (v : ℕ) → (widthOf v ≡ 2 → ⊥) → widthOf v ≡ 4
+width-not-two v = by-version (λ W. (W ≡ 2 → ⊥) → W ≡ 4) v (λ e h. absurd (h refl)) (λ e h. refl)
 
 -- exactly when: the version is known, four bytes hold every constant, and 17 does not refuse
 pub record StorableBy (c : Chart) : Type 0 where

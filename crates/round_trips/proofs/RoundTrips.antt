@@ -2,19 +2,19 @@
 -- that are handed over may be longer than the chart's own, which are their fronts. Assumes nothing.
 use mathlib.Core.Path.{_≡_, refl, sym, ap, _∙_}
 use mathlib.Core.Bool.{Bool, true}
-use mathlib.Core.List.{List, [], _∷_}
+use mathlib.Core.List.{List}
 use Prim.Native.Nat.{ℕ, _≤_}
 use lib.Dec.{leb}
-use lib.ListN.{length, take, length-append}
+use lib.ListN.{length, take}
 use borrow.Author.Tests.{le-leb}
 use Rattle.lists.specs.Lists.{sumOf}
 use Rattle.model.specs.Answer.{Answer, result, then, unless, nowhere}
-use Rattle.model.specs.Chart.{Transition, Chart}
+use Rattle.model.specs.Chart.{Chart}
 use Rattle.file_format.specs.File.{chartIn, fileOf}
 use Rattle.file_format.specs.Parse.{Bytes}
 use Rattle.file_format.proofs.Answers.{then-result, unless-result}
 use Rattle.file_format.proofs.File.{chart-survives, file-survives, reads-valid}
-use Rattle.chart_lists.specs.Lists.{Lists, allTests, listsOf, testCountsOf, putLists, overwritten, roomFor}
+use Rattle.chart_lists.specs.Lists.{Lists, allTests, listsOf, putLists, overwritten, roomFor}
 use Rattle.chart_lists.specs.Begins.{Begins}
 use Rattle.chart_lists.specs.Holds.{Holds}
 use Rattle.chart_lists.specs.Header.{headerOf}
@@ -23,6 +23,7 @@ use Rattle.chart_lists.proofs.Begins.{begins-take}
 use Rattle.chart_lists.proofs.Fronts.{accepting-are, each-front, sources-front, targets-front, starts-front}
 use Rattle.chart_lists.proofs.Holds.{holds-put, events-each, test-counts-each, timers-each, codes-each, constants-each}
 use Rattle.chart_lists.proofs.Put.{take-put}
+use Rattle.chart_lists.proofs.Tests.{tests-sum}
 use Rattle.list_judging.specs.FromLists.{chartFrom}
 use Rattle.list_judging.specs.Typed.{Typed}
 use Rattle.list_judging.specs.FileFrom.{testsBefore}
@@ -35,11 +36,6 @@ use Rattle.writer.specs.Writing.{writeInto, writeAnswer}
 use Rattle.round_trips.specs.RoundTrips.{fronts, ReadBack, WrittenBack}
 
 -- ---- the fronts of lists that describe a chart are the chart's own
-
-tests-sum : (rs : List Transition) → length (allTests rs) ≡ sumOf (testCountsOf rs)
-unfolding allTests sumOf
-tests-sum [] = refl
-tests-sum (r ∷ rs) = rw (length-append, tests-sum rs)
 
 module _ (m : Header) (l : Lists) (c : Chart) (typed : Typed l) (e : chartFrom m l ≡ result c) where
   abbrev header : m ≡ headerOf c

@@ -23,13 +23,13 @@ gather-all w (x ∷ xs) f e = gather-first f (length xs) ∙ rw (e 0 x refl, gat
 
 -- ---- tests
 
-pub length-test : (timer code constant : ℕ) → length (testBytes timer code constant) ≡ 4
+pub length-test : (W timer code constant : ℕ) → length (testBytes W timer code constant) ≡ 2 + W
 unfolding testBytes
-length-test timer code constant = simp (length-append, length-digits)
+length-test W timer code constant = simp (length-append, length-digits) (omega arith)
 
-pub length-testAt : (l : Lists) (k : ℕ) → length (testAt l k) ≡ 4
+pub length-testAt : (W : ℕ) (l : Lists) (k : ℕ) → length (testAt W l k) ≡ 2 + W
 unfolding testAt
-length-testAt l k = length-test _ _ _
+length-testAt W l k = length-test W _ _ _
 
 -- ---- started timers
 
@@ -41,14 +41,14 @@ length-starts w = omega (arith, length-numbers 1 (members w))
 
 -- ---- a record
 
-pub length-head : (source target event s g : ℕ) → length (headBytes source target event s g) ≡ 8
+pub length-head : (W source target event s g : ℕ) → length (headBytes W source target event s g) ≡ 8
 unfolding headBytes
-length-head source target event s g = simp (length-append, length-digits)
+length-head W source target event s g = simp (length-append, length-digits)
 
 -- its parts one after another, s being the number of started timers
-module _ (source target event w g s : ℕ) (e : s ≡ length (members w)) where
+module _ (W source target event w g s : ℕ) (e : s ≡ length (members w)) where
   abbrev head : List ℕ
-  head = headBytes source target event s g
+  head = headBytes W source target event s g
 
   pub length-started : 8 + s ≡ length (head ++ writeAll (digits 1) (members w))
   length-started = simp (length-append, length-head, length-starts) (omega arith)
@@ -57,6 +57,6 @@ module _ (source target event w g s : ℕ) (e : s ≡ length (members w)) where
   length-numbered = simp (length-append, length-head, length-starts, length-digits) (omega arith)
 
   pub record-parts : (l : Lists) (k : ℕ)
-      → ((head ++ writeAll (digits 1) (members w)) ++ digits 1 g) ++ testsBytes l k g ≡ recordBytes source target event w l k g
+      → ((head ++ writeAll (digits 1) (members w)) ++ digits 1 g) ++ testsBytes W l k g ≡ recordBytes W source target event w l k g
   unfolding recordBytes
   record-parts l k = rw e (simp append-assoc)

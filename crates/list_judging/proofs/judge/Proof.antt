@@ -1,16 +1,18 @@
 -- `judge` meets its contract: the parts are judged in turn, and the first refusal is passed on. What is hard is that the length of the file is
 -- no large number. Assumes nothing.
-use mathlib.Core.Path.{_≡_, sym, _∙_}
+use mathlib.Core.Path.{_≡_, sym, ap, _∙_}
 use Prim.Native.Nat.{_≤_, _<_}
 use denote.Ref.{now}
 use native.Mathlib.Omega.{arith}
 use borrow.Author.Needs.{needs}
 use Rattle.model.specs.Answer.{result}
-use Rattle.list_judging.specs.Parts.{checkHeader, checkAccepting}
-use Rattle.list_judging.specs.Meaning.{refusalOf}
+use Rattle.list_judging.specs.Parts.{checkHeader, checkAccepting, checkTransitions}
+use Rattle.list_judging.specs.Lent.{transitionsPassed}
+use Rattle.list_judging.specs.Meaning.{refusalOf, sizesAs, recordRefusal}
 use Rattle.list_judging.proofs.Turns.{accepting-count, transitions-most}
-use Rattle.list_judging.proofs.Answers.{found, refused-by, same-refusal}
-use Rattle.list_judging.proofs.Judging.{chart-header, chart-accepting, chart-many, chart-transitions, chart-in}
+use Rattle.list_judging.proofs.Answers.{means, found, refused-by, same-refusal}
+use Rattle.list_judging.proofs.WholeChart.{sizes-room}
+use Rattle.list_judging.proofs.Judging.{chart-header, chart-accepting, chart-many, chart-transitions, chart-large, chart-in}
 use Rattle.list_judging.proofs.judge.Statement.{statement}
 use Rattle.list_judging.proofs.judge.Tie as tie
 
@@ -87,40 +89,53 @@ enum-known-d c = search needs
 enum-told-4 : tie.Need-enum-told-4
 enum-told-4 c = search needs
 
-refusal-of-requires-3 : tie.Need-refusal-of-requires-3
-refusal-of-requires-3 c κs = search needs
+record-refusal-requires : tie.Need-record-refusal-requires
+record-refusal-requires c κs = search needs
 
 returns-4 : tie.Need-returns-4
 returns-4 c =
     let told = c .before .enum-told4 .given .1 in
     let e = c .before .before .before in
     let k = accepted e in
-    same-refusal refusalOf told (c .refusal-of3 .ensures)
-    ∙ sym (chart-transitions _ _ (header-in (headed k)) (accepting-in k) (search needs) (refused-by told (e .judge-transitions .ensures)))
+    same-refusal recordRefusal told (c .record-refusal .ensures)
+    ∙ sym (chart-transitions _ _ (header-in (headed k)) (accepting-in k) (search needs) (means sizesAs told (e .judge-transitions .ensures)))
 
--- the length of the file is no large number
-few : (c : tie.After-known-told2) → (accepted (c .before .before .before) .before .b .given .0 .0 < 65536) × (c .before .d .given .0 .0 ≤ 53760)
-few c =
-    let e = c .before .before .before in
-    let a = accepting-count _ _ _ (accepting-in (accepted e)) in
-    let t = transitions-most _ _ _ _ (found (c .before .d .given .1) (e .judge-transitions .ensures)) in
-    (omega (arith, a, e .before .before .struct-known), omega (arith, t, e .before .if1 .left))
+-- all transitions are judged
+abbrev judged : tie.After-known-told2 → tie.After-judge-transitions
+judged c = c .before .before .before
 
-mul-t22 : tie.Need-mul-t22
-mul-t22 c = omega (arith, few c .0, few c .1)
+transitions-in : (c : tie.After-known-told2) → let a = call (headed (accepted (judged c)) .before .before .before) .args in
+    checkTransitions (transitionsPassed (a .sources) (a .targets) (a .events) (a .starts) (a .test-counts) (a .timers) (a .codes) (a .constants))
+    (a .header .locations) (a .header .timers) (a .header .transitions)
+    ≡ result (record { starts = c .before .d .given .0 .0; tests = c .before .d .given .0 .1 .0 })
+transitions-in c = means sizesAs (c .before .d .given .1) (judged c .judge-transitions .ensures)
 
-add-t23 : tie.Need-add-t23
-add-t23 c = omega (arith, few c .0, few c .1)
-
-add-t25 : tie.Need-add-t25
-add-t25 c = omega (arith, few c .0, few c .1)
+too-large-requires : tie.Need-too-large-requires
+too-large-requires c κs = sizes-room _ _ _ _ (transitions-in c)
 
 returns-5 : tie.Need-returns-5
 returns-5 c =
-    let e = c .before .before .before in
-    let k = accepted e in
-    let t = found (c .before .d .given .1) (e .judge-transitions .ensures) in
-    sym (chart-in _ _ (header-in (headed k)) (accepting-in k) (search needs) t)
+    let t = c .before .before in
+    let k = accepted (judged t) in
+    let large = sym (c .before .too-large .ensures) ∙ c .if2 .taken in
+    sym (chart-large _ _ (header-in (headed k)) (accepting-in k) (search needs) (transitions-in t) large)
+
+-- the sizes are no large numbers
+file-length-requires : tie.Need-file-length-requires
+file-length-requires c κs =
+    let t = c .before .before in
+    let a = accepting-count _ _ _ (accepting-in (accepted (judged t))) in
+    let m = transitions-most _ _ _ _ (transitions-in t) in
+    let few = judged t .before .if1 .left in
+    (omega (arith, a, judged t .before .before .struct-known), omega (arith, m .0, few), omega (arith, m .1, few))
+
+returns-6 : tie.Need-returns-6
+returns-6 c =
+    let t = c .before .before .before in
+    let k = accepted (judged t) in
+    let small = sym (c .before .before .too-large .ensures) ∙ c .before .if2 .left in
+    ap result (c .file-length .ensures)
+    ∙ sym (chart-in _ _ (header-in (headed k)) (accepting-in k) (search needs) (transitions-in t) small)
 
 pub judge-spec : {M : Type 1} → statement M
 judge-spec =
@@ -141,9 +156,9 @@ judge-spec =
     judge-transitions-requires
     enum-known-d
     enum-told-4
-    refusal-of-requires-3
+    record-refusal-requires
     returns-4
-    mul-t22
-    add-t23
-    add-t25
-    returns-5)
+    too-large-requires
+    returns-5
+    file-length-requires
+    returns-6)

@@ -1,5 +1,5 @@
--- `judge_transitions` meets its contract: the turns are those of a loop over items that sums up the lengths of their records. What is hard
--- is that nothing overflows: a record has at most 105 bytes and 8 tests. Assumes nothing.
+-- `judge_transitions` meets its contract: the turns are those of a loop over items that adds up their sizes. What is hard is that nothing
+-- overflows: a transition starts at most 64 timers and has at most 8 tests. Assumes nothing.
 use mathlib.Core.Path.{_≡_, sym, _∙_}
 use mathlib.Core.List.{[]}
 use Prim.Native.Nat.{ℕ, _-_, _*_, _≤_, _<_}
@@ -12,22 +12,22 @@ use Rattle.chart_lists.specs.Lists.{Lists, lists}
 use Rattle.chart_lists.specs.declared.Header.{Header}
 use Rattle.list_judging.specs.FromLists.{transitionFrom}
 use Rattle.list_judging.specs.Lent.{transitionsPassed}
-use Rattle.list_judging.specs.Meaning.{sizesAs, recordRefusal}
-use Rattle.list_judging.proofs.Answers.{means, same-refusal}
-use Rattle.list_judging.proofs.Items.{turn-done, turn-refused, turn-again}
+use Rattle.list_judging.specs.Meaning.{sizesAs}
+use Rattle.list_judging.proofs.Answers.{means}
+use Rattle.list_judging.proofs.Items.{turn-done, turn-refused}
 use Rattle.list_judging.proofs.Turns.{TransitionsTurn, transitions-first, transition-refused, transition-found}
-use Rattle.list_judging.proofs.Turns.{from-few, length-sizes, length-record}
+use Rattle.list_judging.proofs.Turns.{transitions-again, from-few, length-sizes}
 use Rattle.list_judging.proofs.judge_transitions.Statement.{statement}
 use Rattle.list_judging.proofs.judge_transitions.Tie as tie
 
 abbrev Inv-loop : tie.InvT-loop
-Inv-loop header sources targets events starts test-counts timers codes constants n bytes₀ k₀ i₀ bytes k i =
-    TransitionsTurn (lists [] sources targets events starts test-counts timers codes constants) (header .locations) (header .timers) n bytes k i
-    × (bytes ≤ 105 * i)
+Inv-loop header sources targets events starts test-counts timers codes constants n started₀ k₀ i₀ started k i =
+    TransitionsTurn (lists [] sources targets events starts test-counts timers codes constants) (header .locations) (header .timers) n started k i
+    × (started ≤ 64 * i)
     × (k ≤ 8 * i)
 
 abbrev μ-loop : tie.MeasureT-loop
-μ-loop header sources targets events starts test-counts timers codes constants n bytes₀ k₀ i₀ bytes k i = n - i
+μ-loop header sources targets events starts test-counts timers codes constants n started₀ k₀ i₀ started k i = n - i
 
 cast-n : tie.Need-cast-n Inv-loop μ-loop
 cast-n c = search needs
@@ -44,25 +44,22 @@ enum-known-a c = search needs
 enum-told : tie.Need-enum-told Inv-loop μ-loop
 enum-told c = search needs
 
-record-refusal-requires : tie.Need-record-refusal-requires Inv-loop μ-loop
-record-refusal-requires c κs = search needs
-
 returns : tie.Need-returns Inv-loop μ-loop
 returns c =
-    let told = c .before .enum-told .given .1 in
-    let t = c .before .before .before .before in
-    let refused = transition-refused _ _ _ _ _ (means sizesAs told (c .before .before .before .judge-transition .ensures)) in
-    same-refusal recordRefusal told (c .record-refusal .ensures) ∙ sym (turn-refused (t .before .loop .inv .0) (t .loop-test .taken) refused)
+    let e = c .before .before .judge-transition .ensures in
+    let h = means sizesAs (c .enum-told .given .1) e in
+    let t = c .before .before .before in
+    e ∙ h ∙ sym (turn-refused (t .before .loop .inv .0) (t .loop-test .taken) (transition-refused _ _ _ _ _ h))
 
 -- what is known of the transition of a turn and of the sums so far
-record Next (l : Lists) (m : Header) (bytes k i starts tests : ℕ) : Type 0 where
+record Next (l : Lists) (m : Header) (started k i starts tests : ℕ) : Type 0 where
   transition : Transition
   is : transitionFrom l (m .locations) (m .timers) i k ≡ result transition
   starts-are : length (transition .starts) ≡ starts
   tests-are : length (transition .tests) ≡ tests
   few-starts : starts ≤ 64
   few-tests : tests ≤ 8
-  few-bytes : bytes ≤ 105 * i
+  few-started : started ≤ 64 * i
   few-before : k ≤ 8 * i
   small : i < 65536
 
@@ -78,7 +75,7 @@ lent c =
     transitionsPassed (a .sources) (a .targets) (a .events) (a .starts) (a .test-counts) (a .timers) (a .codes) (a .constants)
 
 next : (c : tie.After-known-told Inv-loop μ-loop) → let s = call (turn c .before .before) in let t = turn c .before .loop in
-    Next (lent s) (s .args .header) (t .bytes) (t .k) (t .i) (c .before .a .given .0 .0) (c .before .a .given .0 .1 .0)
+    Next (lent s) (s .args .header) (t .started) (t .k) (t .i) (c .before .a .given .0 .0) (c .before .a .given .0 .1 .0)
 next c =
     let h = transition-found _ _ _ _ _ (means sizesAs (c .before .a .given .1) (c .before .before .before .judge-transition .ensures)) in
     let z = length-sizes (h .0) _ _ (h .2) in
@@ -91,22 +88,13 @@ next c =
       tests-are = z .1;
       few-starts = omega (arith, z .0, m .0);
       few-tests = omega (arith, z .1, m .1);
-      few-bytes = inv .1;
+      few-started = inv .1;
       few-before = inv .2;
       small = omega (arith, turn c .loop-test .taken);
     }
 
-add-bytes : tie.Need-add-bytes Inv-loop μ-loop
-add-bytes c = let h = next c in omega arith
-
-mul-bytes : tie.Need-mul-bytes Inv-loop μ-loop
-mul-bytes c = let h = next c in omega arith
-
-add-bytes-2 : tie.Need-add-bytes-2 Inv-loop μ-loop
-add-bytes-2 c = let h = next c in omega arith
-
-add-bytes-3 : tie.Need-add-bytes-3 Inv-loop μ-loop
-add-bytes-3 c = let h = next c in omega arith
+add-started : tie.Need-add-started Inv-loop μ-loop
+add-started c = let h = next c in omega arith
 
 add-k : tie.Need-add-k Inv-loop μ-loop
 add-k c = let h = next c in omega arith
@@ -120,11 +108,9 @@ loop-less c = search needs
 loop-again : tie.Need-loop-again Inv-loop μ-loop
 loop-again c =
     let h = next c in
-    let inv = turn c .before .loop .inv in
-    let bytes = length-record (h .transition) in (
-      turn-again (inv .0) (turn c .loop-test .taken) _ _ _ (h .is) (omega arith) (omega (arith, h .tests-are))
-          (omega (arith, h .starts-are, h .tests-are, bytes)),
-      omega (arith, h .few-bytes, h .few-starts, h .few-tests),
+    let inv = turn c .before .loop .inv in (
+      transitions-again _ _ _ (inv .0) (turn c .loop-test .taken) (h .transition) (h .is) (h .starts-are) (h .tests-are),
+      omega (arith, h .few-started, h .few-starts),
       omega (arith, h .few-before, h .few-tests),
     )
 
@@ -142,12 +128,8 @@ judge-transitions-spec =
     judge-transition-requires
     enum-known-a
     enum-told
-    record-refusal-requires
     returns
-    add-bytes
-    mul-bytes
-    add-bytes-2
-    add-bytes-3
+    add-started
     add-k
     add-i
     loop-less

@@ -1,17 +1,19 @@
 -- `write_file` meets its contract: front, accepting locations, number of transitions and records one after another, all of which the length of
 -- the file has room for. Assumes nothing.
 use mathlib.Core.Path.{sym, _∙_}
+use Prim.Native.Nat.{ℕ, _^_, _<_}
 use denote.Ref.{now}
 use native.Mathlib.Omega.{arith}
-use lib.ListN.{length}
+use lib.ListN.{length, getD}
 use borrow.Author.Needs.{needs}
+use Rattle.model.specs.Version.{widthOf}
 use Rattle.file_format.specs.File.{fileOf}
 use Rattle.chart_lists.specs.Lent.{passed}
 use Rattle.chart_lists.proofs.Fields.{fields-first, fields-next, fields-done}
 use Rattle.chart_lists.proofs.Overwritten.{overwritten-result}
 use Rattle.writer.specs.Bytes.{records}
 use Rattle.writer.proofs.FileBytes.{FileRoom, length-front, length-accepted, length-counted}
-use Rattle.writer.proofs.FileBytes.{writable-room, writable-transitions, writable-parts}
+use Rattle.writer.proofs.FileBytes.{writable-room, writable-fit, writable-transitions, writable-parts}
 use Rattle.writer.proofs.write_file.Statement.{statement}
 use Rattle.writer.proofs.write_file.Tie as tie
 
@@ -26,15 +28,25 @@ room : (c : tie.After-shared-slice-known8) → let a = call c .args in
     (a .n) (length (now (a .out)))
 room c = writable-room _ _ _ _ (call c .pre)
 
+-- the constants have at most four bytes
+wide : (c : tie.After-shared-slice-known9) → (k : ℕ) → getD (now (call (c .before) .args .constants)) k 0 < 256 ^ 4
+wide c k = c .shared-slice-known9 .given k .fits
+
 -- the same places, from behind the front, the accepting locations and the number of transitions
 abbrev lent-2 : tie.After-slice-known2 → tie.After-shared-slice-known8
 lent-2 c = c .before .before .before .before .before
+
+abbrev beyond-2 : tie.After-slice-known2 → tie.After-shared-slice-known9
+beyond-2 c = c .before .before .before .before
 
 abbrev lent-3 : tie.After-struct-known → tie.After-shared-slice-known8
 lent-3 c = lent-2 (c .before .before .before .before .before)
 
 abbrev lent-4 : tie.After-slice-known4 → tie.After-shared-slice-known8
 lent-4 c = lent-3 (c .before .before .before .before)
+
+abbrev beyond : tie.After-slice-known4 → tie.After-shared-slice-known9
+beyond c = beyond-2 (c .before .before .before .before .before .before .before .before .before)
 
 sub-put-front : tie.Need-sub-put-front
 sub-put-front c = let k = room (c .before .before) in omega arith
@@ -91,7 +103,10 @@ part-write-records-end : tie.Need-part-write-records-end
 part-write-records-end c = search needs
 
 write-records-requires : tie.Need-write-records-requires
-write-records-requires c κs = let k = room (lent-4 (c .before)) in k .records-fit _ (omega (arith, k .size, k .fits))
+write-records-requires c κs =
+    let s = lent-4 (c .before) in
+    let k = room s in
+    (k .records-fit _ (omega (arith, k .size, k .fits)), writable-fit _ _ _ _ (call s .pre) (wide (beyond (c .before))))
 
 same-length : tie.Need-same-length
 same-length c = search needs
@@ -105,7 +120,7 @@ returns c =
     let j = call (front .before .before .before) .pre in
     let a = fields-next (fields-first (front .put-front .ensures)) 12 _ (length-front _ _) (accepting .put-accepting .ensures) in
     let b = fields-next a _ _ (length-accepted _ _ _) (count .put-pair .ensures) in
-    let written = transitions .write-records .ensures ∙ overwritten-result records _ (writable-transitions _ _ _ _ j) in
+    let written = transitions .write-records .ensures ∙ overwritten-result (records (widthOf (call (front .before .before .before) .args .header .version))) _ (writable-transitions _ _ _ _ j) in
     let d = fields-next b _ _ (length-counted _ _ _) written in
     fields-done _ d (writable-parts _ _ _ _ j) ∙ sym (overwritten-result fileOf _ (j .is))
 

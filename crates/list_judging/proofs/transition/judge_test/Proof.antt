@@ -48,13 +48,13 @@ returns-2 c =
     let h = refused-by (c .enum-told4 .given .1) e in
     e ∙ h ∙ sym (test-code _ _ _ _ (timer-in (c .before .before .before)) h)
 
-pair-at-requires : tie.Need-pair-at-requires
-pair-at-requires c κs = search needs
+quad-at-requires : tie.Need-quad-at-requires
+quad-at-requires c κs = search needs
 
 returns-3 : tie.Need-returns-3
 returns-3 c =
     let code = found (c .before .enum-told3 .given .1) (c .before .before .before .judge-code .ensures) in
-    c .pair-at .ensures ∙ sym (test-constant _ _ _ _ (timer-in (c .before .before .before .before)) code)
+    c .quad-at .ensures ∙ sym (test-constant _ _ _ _ (timer-in (c .before .before .before .before)) code)
 
 pub judge-test-spec : {M : Type 1} → statement M
 judge-test-spec =
@@ -69,5 +69,5 @@ judge-test-spec =
     enum-told-3
     enum-told-4
     returns-2
-    pair-at-requires
+    quad-at-requires
     returns-3)

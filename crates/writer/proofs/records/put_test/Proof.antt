@@ -21,17 +21,17 @@ part-put-byte-end c = search needs
 put-byte-requires-2 : tie.Need-put-byte-requires-2
 put-byte-requires-2 c κs = search needs
 
-sub-put-pair : tie.Need-sub-put-pair
-sub-put-pair c = search needs
+sub-put-constant : tie.Need-sub-put-constant
+sub-put-constant c = search needs
 
-part-put-pair-start : tie.Need-part-put-pair-start
-part-put-pair-start c = search needs
+part-put-constant-start : tie.Need-part-put-constant-start
+part-put-constant-start c = search needs
 
-part-put-pair-end : tie.Need-part-put-pair-end
-part-put-pair-end c = search needs
+part-put-constant-end : tie.Need-part-put-constant-end
+part-put-constant-end c = search needs
 
-put-pair-requires : tie.Need-put-pair-requires
-put-pair-requires c κs = search needs
+put-constant-requires : tie.Need-put-constant-requires
+put-constant-requires c κs = search needs
 
 same-length : tie.Need-same-length
 same-length c = search needs
@@ -43,7 +43,7 @@ returns c =
     let code = constant .before .before .before .before in
     let timer = code .before .before .before .before in
     fields-three _ _ _ _ 1 2 (simp length-digits) (simp length-digits)
-    (timer .put-byte .ensures) (code .put-byte2 .ensures) (constant .put-pair .ensures)
+    (timer .put-byte .ensures) (code .put-byte2 .ensures) (constant .put-constant .ensures)
 
 pub put-test-spec : {M : Type 1} → statement M
 put-test-spec =
@@ -54,9 +54,9 @@ put-test-spec =
     part-put-byte-start
     part-put-byte-end
     put-byte-requires-2
-    sub-put-pair
-    part-put-pair-start
-    part-put-pair-end
-    put-pair-requires
+    sub-put-constant
+    part-put-constant-start
+    part-put-constant-end
+    put-constant-requires
     same-length
     returns)

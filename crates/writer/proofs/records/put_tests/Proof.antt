@@ -1,10 +1,12 @@
--- `put_tests` meets its contract: a test a turn, four bytes each. Assumes nothing.
-use mathlib.Core.Path.{_≡_}
-use Prim.Native.Nat.{_+_, _-_, _≤_}
+-- `put_tests` meets its contract: a test a turn, each in as many bytes as the version gives it. Assumes nothing.
+use mathlib.Core.Path.{_≡_, sym, subst}
+use Prim.Native.Nat.{ℕ, _+_, _-_, _^_, _≤_, _<_}
 use denote.Ref.{now}
 use native.Mathlib.Omega.{arith}
-use lib.ListN.{length}
+use lib.ListN.{length, getD}
 use borrow.Author.Needs.{needs}
+use Rattle.model.specs.Version.{widthOf}
+use Rattle.model.proofs.Versions.{width-most}
 use Rattle.list_judging.specs.Lent.{testLists}
 use Rattle.writer.specs.Bytes.{testAt, testsBytes}
 use Rattle.writer.proofs.FieldBytes.{length-testAt}
@@ -14,19 +16,28 @@ use Rattle.writer.proofs.records.put_tests.Statement.{statement}
 use Rattle.writer.proofs.records.put_tests.Tie as tie
 
 abbrev Inv-loop : tie.InvT-loop
-Inv-loop out₀ timers codes constants k g at₀ here₀ t₀ out at here t =
-    (here ≡ k + t) × PutLoop (λ t. testAt (testLists timers codes constants) (k + t)) g out₀ out at t
+Inv-loop out₀ version timers codes constants k g size at₀ here₀ t₀ out at here t =
+    (here ≡ k + t) × PutLoop (λ t. testAt (widthOf version) (testLists timers codes constants) (k + t)) g out₀ out at t
 
 abbrev μ-loop : tie.MeasureT-loop
-μ-loop out₀ timers codes constants k g at₀ here₀ t₀ out at here t = g - t
+μ-loop out₀ version timers codes constants k g size at₀ here₀ t₀ out at here t = g - t
+
+width-of-requires : tie.Need-width-of-requires Inv-loop μ-loop
+width-of-requires c κs = search needs
+
+add-size : tie.Need-add-size Inv-loop μ-loop
+add-size c = omega (arith, c .width-of .ensures, width-most (c .before .before .before .before .before .args .version))
 
 loop-holds : tie.Need-loop-holds Inv-loop μ-loop
 loop-holds c = (omega arith, put-loop-first _ _ _)
 
-room : (c : tie.In-loop Inv-loop μ-loop) → c .before .loop .at + 4 ≤ length (c .before .loop .out)
+-- the call, from a turn
+abbrev call : tie.In-loop Inv-loop μ-loop → tie.Start Inv-loop μ-loop
+call c = c .before .before .before .before .before .before .before
+
+room : (c : tie.In-loop Inv-loop μ-loop) → c .before .loop .at + (2 + widthOf (call c .args .version)) ≤ length (c .before .loop .out)
 room c =
-    let call = c .before .before .before .before .before .before in
-    put-loop-even (c .before .loop .inv .1) (c .loop-test .taken) 4 (λ t. length-testAt _ _) (call .pre .3)
+    put-loop-even (c .before .loop .inv .1) (c .loop-test .taken) (2 + widthOf (call c .args .version)) (λ t. length-testAt _ _ _) (call c .pre .0 .3)
 
 sub-put-test : tie.Need-sub-put-test Inv-loop μ-loop
 sub-put-test c = omega (arith, room c)
@@ -54,10 +65,16 @@ abbrev turn : tie.After-slice-known2 Inv-loop μ-loop → tie.In-loop Inv-loop �
 turn c = c .before .before .before .before .before .before .before
 
 put-test-requires : tie.Need-put-test-requires Inv-loop μ-loop
-put-test-requires c κs = let t = c .before .before .before .before in mid-room (t .before .loop .at) (t .before .loop .out) 4 (room t)
+put-test-requires c κs =
+    let t = c .before .before .before .before in
+    let l = t .before .loop in
+    let a = call t .args in (
+      mid-room (l .at) (l .out) (2 + widthOf (a .version)) (room t),
+      subst (λ (x : ℕ). getD (now (a .constants)) x 0 < 256 ^ widthOf (a .version)) (sym (l .inv .0)) (call t .pre .1 (l .t) (t .loop-test .taken)),
+    )
 
 add-at : tie.Need-add-at Inv-loop μ-loop
-add-at c = omega (arith, room (turn c), turn c .before .before .before .before .before .before .good)
+add-at c = let t = turn c in omega (arith, room t, t .before .before .width-of .ensures, call t .good)
 
 add-here : tie.Need-add-here Inv-loop μ-loop
 add-here c = search needs
@@ -72,12 +89,13 @@ loop-again : tie.Need-loop-again Inv-loop μ-loop
 unfolding testAt
 loop-again c =
     let t = turn c in
-    let a = t .before .before .before .before .before .before .args in
+    let a = call t .args in
     let l = t .before .loop in
     let p = c .before .before .put-test in
-    let size = length-testAt (testLists (now (a .timers)) (now (a .codes)) (now (a .constants))) (l .here) in (
+    let size = length-testAt (widthOf (a .version)) (testLists (now (a .timers)) (now (a .codes)) (now (a .constants))) (l .here) in (
       omega (arith, l .inv .0),
-      put-loop-again (l .inv .1) (t .loop-test .taken) (rw (← l .inv .0)) (p .ensures) (p .kept .0) (omega (arith, size)),
+      put-loop-again (l .inv .1) (t .loop-test .taken) (rw (← l .inv .0)) (p .ensures) (p .kept .0)
+          (omega (arith, size, t .before .before .width-of .ensures)),
     )
 
 same-length : tie.Need-same-length Inv-loop μ-loop
@@ -93,6 +111,8 @@ put-tests-spec =
     (tie.spec
     Inv-loop
     μ-loop
+    width-of-requires
+    add-size
     loop-holds
     sub-put-test
     part-put-test-start

@@ -1,12 +1,13 @@
 -- `write_record` meets its contract: head, started timers, number of tests and tests one after another. What is hard is where each begins: that
 -- depends on the number of started timers. Assumes nothing.
 use mathlib.Core.Path.{_≡_, sym, _∙_}
-use Prim.Native.Nat.{ℕ, _≤_}
+use Prim.Native.Nat.{ℕ, _+_, _*_, _≤_}
 use native.Mathlib.Omega.{arith}
 use lib.ListN.{length}
 use borrow.Author.Needs.{needs}
 use Rattle.timer_set.specs.Members.{members}
 use Rattle.timer_set.proofs.Counts.{ones-members}
+use Rattle.model.proofs.Versions.{tests-most}
 use Rattle.chart_lists.proofs.Fields.{fields-first, fields-next, fields-done}
 use Rattle.writer.proofs.FieldBytes.{length-head, length-started, length-numbered, record-parts}
 use Rattle.list_judging.proofs.Turns.{members-few}
@@ -84,28 +85,56 @@ part-put-tests-end : tie.Need-part-put-tests-end
 part-put-tests-end c = search needs
 
 put-tests-requires : tie.Need-put-tests-requires
-put-tests-requires c κs = let s = counted-3 (timers-put (c .before)) in omega arith
+put-tests-requires c κs =
+    let s = counted-3 (timers-put (c .before)) in
+    let p = c .before .before .before .before .before .before .before .before .before .before .before .before .before .before .before .before
+        .before .before .pre in
+    ((p .0 .1, p .0 .2, p .0 .3, omega (arith, p .0 .4, s .is)), p .1)
 
-mul-result : tie.Need-mul-result
-mul-result c = search needs
+-- the same from the end
+abbrev tests-put : tie.After-width-of → tie.After-slice-known5
+tests-put c = c .before
+
+abbrev numbered : tie.After-width-of → tie.After-slice-known4
+numbered c = tests-put c .before .before .before .before
+
+abbrev start : tie.After-width-of → tie.Start
+start c = timers-put (numbered c) .before .before .before .before .before .before .before .before .before .before .before .before .before
+
+counted-5 : (c : tie.After-width-of) → let n = timers-put (numbered c) .before .before .before .before .before .before .before .before in
+    Counted (n .before .before .before .before .before .args .set .bits) (n .count .result)
+counted-5 c = counted-3 (timers-put (numbered c))
+
+width-of-requires : tie.Need-width-of-requires
+width-of-requires c κs = search needs
+
+-- the bytes of the tests
+few : (c : tie.After-width-of) → let a = start c .args in ((2 + c .width-of .result) * a .g ≤ 6 * 8) × (c .width-of .result ≤ 4)
+few c = tests-most _ (start c .args .g) 8 (c .width-of .ensures) (start c .pre .0 .0)
 
 add-result : tie.Need-add-result
-add-result c = search needs
+add-result c = omega (arith, few c .1)
+
+mul-result : tie.Need-mul-result
+mul-result c = omega (arith, few c .0)
+
+add-result-2 : tie.Need-add-result-2
+add-result-2 c = let s = counted-5 c in omega (arith, few c .0)
 
 same-length : tie.Need-same-length
 same-length c = search needs
 
 returns : tie.Need-returns
 returns c =
-    let tests = c .before .before in
+    let tests = c .before .before .before in
     let number = tests .before .before .before .before in
     let timers = number .before .before .before .before in
     let head = timers .before .before .before .before in
     let s = counted-3 (number .before .before) .is in
-    let a = fields-next (fields-first (head .put-head .ensures)) 8 _ (sym (length-head _ _ _ _ _)) (timers .put-starts .ensures) in
-    let b = fields-next a _ _ (length-started _ _ _ _ _ _ s) (number .put-byte .ensures) in
-    let d = fields-next b _ _ (length-numbered _ _ _ _ _ _ s) (tests .put-tests .ensures) in
-    (omega (arith, s), fields-done _ d (record-parts _ _ _ _ _ _ s _ _))
+    let a = fields-next (fields-first (head .put-head .ensures)) 8 _ (sym (length-head _ _ _ _ _ _)) (timers .put-starts .ensures) in
+    let b = fields-next a _ _ (length-started _ _ _ _ _ _ _ s) (number .put-byte .ensures) in
+    let d = fields-next b _ _ (length-numbered _ _ _ _ _ _ _ s) (tests .put-tests .ensures) in
+    (rw (c .width-of .ensures) (omega (arith, s)), fields-done _ d (record-parts _ _ _ _ _ _ _ s _ _))
 
 pub write-record-spec : {M : Type 1} → statement M
 write-record-spec =
@@ -129,7 +158,9 @@ write-record-spec =
     part-put-tests-start
     part-put-tests-end
     put-tests-requires
-    mul-result
+    width-of-requires
     add-result
+    mul-result
+    add-result-2
     same-length
     returns)

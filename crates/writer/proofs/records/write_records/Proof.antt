@@ -6,6 +6,7 @@ use Prim.Native.Nat.{ℕ, _+_, _-_}
 use denote.Ref.{now}
 use native.Mathlib.Omega.{arith}
 use borrow.Author.Needs.{needs}
+use Rattle.model.specs.Version.{widthOf}
 use Rattle.chart_lists.specs.Lists.{Lists, lists}
 use Rattle.chart_lists.proofs.Part.{mid-room}
 use Rattle.list_judging.specs.Lent.{transitionsPassed}
@@ -15,7 +16,7 @@ use Rattle.writer.proofs.records.write_records.Tie as tie
 
 abbrev Inv-loop : tie.InvT-loop
 Inv-loop out₀ header sources targets events starts test-counts timers codes constants at₀ k₀ i₀ out at k i =
-    Writing (lists [] sources targets events starts test-counts timers codes constants) (header .locations) (header .timers)
+    Writing (widthOf (header .version)) (lists [] sources targets events starts test-counts timers codes constants) (header .locations) (header .timers)
     (header .transitions) out₀ out at k i
 
 abbrev μ-loop : tie.MeasureT-loop
@@ -26,7 +27,7 @@ abbrev call : tie.After-shared-slice-known8 Inv-loop μ-loop → tie.Start Inv-l
 call c = c .before .before .before .before .before .before .before .before .before
 
 loop-holds : tie.Need-loop-holds Inv-loop μ-loop
-loop-holds c = writing-first _ _ _ _ _ (call c .pre)
+loop-holds c = writing-first _ _ _ _ _ _ (call c .pre .0) (call c .pre .1)
 
 cast-if1 : tie.Need-cast-if1 Inv-loop μ-loop
 cast-if1 c = search needs
@@ -41,8 +42,9 @@ lent c =
 
 -- what is known of the next record
 next : (c : tie.Then1 Inv-loop μ-loop) → let s = start c in let m = s .args .header in
-    Next (lent s) (m .locations) (m .timers) (m .transitions) (now (s .args .out)) (s .pre) (c .before .before .loop .inv) (c .if1 .taken)
-next c = writing-next _ _ _ _ _ (start c .pre) (c .before .before .loop .inv) (c .if1 .taken)
+    Next (widthOf (m .version)) (lent s) (m .locations) (m .timers) (m .transitions) (now (s .args .out)) (s .pre .0) (s .pre .1)
+    (c .before .before .loop .inv) (c .if1 .taken)
+next c = writing-next _ _ _ _ _ _ (start c .pre .0) (start c .pre .1) (c .before .before .loop .inv) (c .if1 .taken)
 
 -- the turn, from its end
 abbrev turn : tie.After-slice-known2 Inv-loop μ-loop → tie.Then1 Inv-loop μ-loop
@@ -86,7 +88,7 @@ write-record-requires c κs =
     let t = c .before .before .before .before .before .before in
     let n = next t in
     let l = t .before .before .loop in
-    (n .few, n .timers-room, n .codes-room, n .constants-room, mid-room (l .at) (l .out) _ (n .fits))
+    ((n .few, n .timers-room, n .codes-room, n .constants-room, mid-room (l .at) (l .out) _ (n .fits)), n .constants-small)
 
 add-at : tie.Need-add-at Inv-loop μ-loop
 add-at c =
@@ -112,13 +114,15 @@ loop-again c =
     let l = t .before .before .loop in
     let r = c .before .before .write-record in
     let at = ap (λ (x : ℕ). l .at + x) (r .ensures .0) in
-    writing-again _ _ _ _ _ (start t .pre) (l .inv) (t .if1 .taken) (r .ensures .1) (r .kept .0) at
+    writing-again _ _ _ _ _ _ (start t .pre .0) (start t .pre .1) (l .inv) (t .if1 .taken) (r .ensures .1) (r .kept .0) at
 
 same-length : tie.Need-same-length Inv-loop μ-loop
 same-length c = c .before .before .loop .inv .wrote .long
 
 returns : tie.Need-returns Inv-loop μ-loop
-returns c = writing-done _ _ _ _ _ (call (c .before .before .before) .pre) (c .before .before .loop .inv) (c .if1 .left)
+returns c =
+    let s = call (c .before .before .before) in
+    writing-done _ _ _ _ _ _ (s .pre .0) (s .pre .1) (c .before .before .loop .inv) (c .if1 .left)
 
 pub write-records-spec : {M : Type 1} → statement M
 write-records-spec =

@@ -1,0 +1,139 @@
+-- The whole chart by its parts: that some constant is large by the first entries of their list, the length of its file by the sizes of its
+-- transitions, and the judgement of all of it. What is hard is that the constants stand in one list, the tests of all transitions one after
+-- another. Assumes nothing.
+use mathlib.Core.Path.{_≡_, refl, sym, ap, _∙_}
+use mathlib.Core.Bool.{Bool, true, false, not, _||_, _&&_}
+use mathlib.Core.List.{List, [], _∷_, _++_, map}
+use Prim.Native.Nat.{ℕ, _+_, _*_, _≤_}
+use native.Mathlib.Nat.{mul-add}
+use native.Mathlib.Omega.{arith}
+use lib.Dec.{ltb, eqb}
+use lib.ListN.{length, length-map}
+use Rattle.lists.specs.Lists.{anyOf, sumOf}
+use Rattle.model.specs.Answer.{Answer, result, then, unless, nowhere}
+use Rattle.model.specs.Chart.{Test, Transition, Chart}
+use Rattle.model.specs.Version.{widthOf, isLarge, largeConstant, largeInVersion1}
+use Rattle.file_format.specs.Body.{recordLength}
+use Rattle.file_format.specs.File.{fileOf}
+use Rattle.file_format.specs.Lengths.{transitionLength, bodyLength, fileLength}
+use Rattle.file_format.proofs.Lengths.{length-file}
+use Rattle.chart_lists.specs.Lists.{Lists, allTests, constantsOf}
+use Rattle.chart_lists.specs.Begins.{Begins}
+use Rattle.chart_lists.specs.declared.Header.{Header}
+use Rattle.chart_lists.proofs.Begins.{begins-take, begins-room}
+use Rattle.chart_lists.proofs.Tests.{tests-sum}
+use Rattle.list_judging.specs.FromLists.{acceptingFrom, transitionsFrom, fieldsFrom, chartFrom}
+use Rattle.list_judging.specs.Parts.{checkHeader, checkAccepting, totalSizes, checkTransitions, largeAmong, checkChart, Sizes}
+use Rattle.list_judging.specs.Lent.{transitionLists}
+use Rattle.list_judging.proofs.Answers.{then-then, then-unless, then-known, kept-result}
+use Rattle.list_judging.proofs.Parts.{transitions-only, transitions-each, transitions-length}
+use Rattle.list_judging.proofs.FromHolds.{tests-begin}
+
+-- ---- large constants
+
+module _ {A : Type 0} (f : A → Bool) where
+  any-append : (xs ys : List A) → anyOf f (xs ++ ys) ≡ (anyOf f xs || anyOf f ys)
+  unfolding anyOf
+  any-append [] ys = refl
+  any-append (x ∷ xs) ys = rw (any-append xs ys) (assoc (f x) (anyOf f xs) (anyOf f ys))
+    where
+      assoc : (a b c : Bool) → (a || (b || c)) ≡ ((a || b) || c)
+      assoc true b c = refl
+      assoc false b c = refl
+
+-- those of the transitions are those of all their tests
+large-tests : (ts : List Test) → anyOf (λ (t : Test). isLarge (t .constant)) ts ≡ anyOf isLarge (constantsOf ts)
+unfolding anyOf
+large-tests [] = refl
+large-tests (t ∷ ts) = rw (large-tests ts)
+
+large-all : (rs : List Transition) → anyOf (λ (r : Transition). anyOf (λ (t : Test). isLarge (t .constant)) (r .tests)) rs
+    ≡ anyOf (λ (t : Test). isLarge (t .constant)) (allTests rs)
+unfolding anyOf allTests
+large-all [] = refl
+large-all (r ∷ rs) = rw (large-all rs) (sym (any-append (λ (t : Test). isLarge (t .constant)) (r .tests) (allTests rs)))
+
+-- the constants of transitions are the first entries of their list
+module _ (l : Lists) (locations timers n : ℕ) (rs : List Transition) (e : transitionsFrom l locations timers 0 0 n ≡ result rs) where
+  constants-begin : Begins (constantsOf (allTests rs)) (l .constants)
+  constants-begin =
+      tests-begin l locations timers (λ t. t .constant) (l .constants) (λ k t h. h .constant) 0 0 rs
+      (transitions-each l locations timers 0 0 n rs e)
+
+  -- as many as there are tests
+  constants-count : totalSizes rs .tests ≡ length (constantsOf (allTests rs))
+  unfolding totalSizes
+  constants-count = sym (tests-sum rs) ∙ sym (length-map (allTests rs) (λ (t : Test). t .constant))
+
+  constants-room : totalSizes rs .tests ≤ length (l .constants)
+  constants-room = omega (arith, constants-count, begins-room constants-begin)
+
+  large-among : anyOf (λ (r : Transition). anyOf (λ (t : Test). isLarge (t .constant)) (r .tests)) rs
+      ≡ largeAmong (totalSizes rs .tests) (l .constants)
+  unfolding largeAmong
+  large-among = large-all rs ∙ large-tests (allTests rs) ∙ ap (anyOf isLarge) (sym (begins-take constants-begin constants-count))
+
+pub sizes-room : (l : Lists) (locations timers n : ℕ) {z : Sizes} → checkTransitions l locations timers n ≡ result z
+    → z .tests ≤ length (l .constants)
+unfolding checkTransitions
+sizes-room l locations timers n e =
+    let x = kept-result (transitionsFrom l locations timers 0 0 n) _ e in
+    omega (arith, constants-room l locations timers n (x .0) (x .1), ap (λ (z : Sizes). z .tests) (x .2))
+
+-- ---- the length of the file
+
+-- of the records, with their own lengths
+pub lengths-sum : (W : ℕ) (rs : List Transition) → sumOf (map (transitionLength W) rs)
+    ≡ 9 * length rs + totalSizes rs .starts + (2 + W) * totalSizes rs .tests
+unfolding sumOf transitionLength recordLength totalSizes
+lengths-sum W [] = omega arith
+lengths-sum W (r ∷ rs) =
+    let more = mul-add (2 + W) (length (r .tests)) (totalSizes rs .tests) in
+    omega (arith, lengths-sum W rs, more)
+
+pub file-length : (c : Chart) → length (fileOf c)
+    ≡ 14 + 2 * length (c .accepting)
+    + (9 * length (c .transitions) + totalSizes (c .transitions) .starts + (2 + widthOf (c .version)) * totalSizes (c .transitions) .tests)
+unfolding fileOf fileLength bodyLength
+file-length c = omega (arith, length-file (widthOf (c .version)) c, lengths-sum (widthOf (c .version)) (c .transitions))
+
+-- ---- the judgement
+
+-- what is judged after the fields, by what was kept of them
+unfoldable pub afterFields : Header → (constants : List ℕ) → (accepting : ℕ) → Sizes → Answer ℕ
+afterFields m constants accepting z =
+    unless (not (eqb (m .version) 1 && largeAmong (z .tests) constants)) 17 nowhere
+    (result (14 + 2 * accepting + (9 * m .transitions + z .starts + (2 + widthOf (m .version)) * z .tests)))
+
+module _ (m : Header) (l : Lists) where
+  -- the chart, when its lists are found
+  abbrev chartWith : List ℕ → List Transition → Chart
+  chartWith accepting transitions = record {
+    version = m .version;
+    locations = m .locations;
+    initial = m .initial;
+    timers = m .timers;
+    accepting = accepting;
+    transitions = transitions;
+  }
+
+  after-fields : (xs : List ℕ) → then (transitionsFrom l (m .locations) (m .timers) 0 0 (m .transitions)) (λ rs.
+      unless (not (largeInVersion1 (chartWith xs rs))) 17 nowhere (result (length (fileOf (chartWith xs rs)))))
+      ≡ then (transitionsFrom l (m .locations) (m .timers) 0 0 (m .transitions)) (λ rs. afterFields m (l .constants) (length xs) (totalSizes rs))
+  unfolding afterFields largeInVersion1 largeConstant
+  after-fields xs = then-known (transitionsFrom l (m .locations) (m .timers) 0 0 (m .transitions)) _ _ (λ rs e.
+      rw (
+        large-among l (m .locations) (m .timers) (m .transitions) rs e,
+        file-length (chartWith xs rs),
+        transitions-length l (m .locations) (m .timers) 0 0 (m .transitions) rs e,
+      ))
+
+  pub check-chart : checkChart m l
+      ≡ then (checkHeader m) (λ z.
+      then (checkAccepting (m .locations) (l .accepting) (m .accepting)) (λ a.
+      unless (ltb (m .transitions) 513) 4 nowhere (
+      then (checkTransitions (transitionLists l) (m .locations) (m .timers) (m .transitions)) (λ z.
+      afterFields m (l .constants) a z))))
+  unfolding checkChart chartFrom fieldsFrom checkHeader checkAccepting checkTransitions
+  check-chart =
+      rw (← transitions-only l (m .locations) (m .timers) (m .transitions)) (simp (then-then, then-unless, after-fields))
