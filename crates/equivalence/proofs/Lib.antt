@@ -2,3 +2,4 @@ pub mod DemandHolds
 pub mod RewrittenFile
 pub mod Points
 pub mod OnFiles
+pub mod AnyVersion

@@ -2,3 +2,4 @@ pub mod Both
 pub mod Demand
 pub mod Points
 pub mod OnFiles
+pub mod AnyVersion

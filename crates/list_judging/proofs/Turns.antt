@@ -58,9 +58,9 @@ addSizes z r = record { starts = z .starts + length (r .starts); tests = z .test
 added-sizes : (rs : List Transition) (s g : ℕ)
     → added addSizes (record { starts = s; tests = g }) rs
     ≡ record {
-        starts = s + sumOf (map (λ (r : Transition). length (r .starts)) rs);
-        tests = g + sumOf (map (λ (r : Transition). length (r .tests)) rs);
-      }
+      starts = s + sumOf (map (λ (r : Transition). length (r .starts)) rs);
+      tests = g + sumOf (map (λ (r : Transition). length (r .tests)) rs);
+    }
 unfolding added sumOf
 added-sizes [] s g = rw (add-zero s, add-zero g)
 added-sizes (r ∷ rs) s g = rw (← add-assoc s, ← add-assoc g) (added-sizes rs (s + length (r .starts)) (g + length (r .tests)))
@@ -134,8 +134,9 @@ transitions-most l locations timers n {z} e =
     let rs = x .0 in
     let h = transitions-each l locations timers 0 0 n rs (x .1) in
     let few = each-all (transitionFrom l locations timers) _ (λ r. (length (r .starts) ≤ 64) × (length (r .tests) ≤ 8))
-        (from-few l locations timers) 0 0 rs h in
+    (from-few l locations timers) 0 0 rs h in
     let s = sum-most (λ (r : Transition). length (r .starts)) 64 _ (λ r p. p .0) rs few in
-    let g = sum-most (λ (r : Transition). length (r .tests)) 8 _ (λ r p. p .1) rs few in
-    (rw (transitions-length l locations timers 0 0 n rs (x .1)) at (rw (ap (λ (z : Sizes). z .starts) (x .2)) at s),
-     rw (transitions-length l locations timers 0 0 n rs (x .1)) at (rw (ap (λ (z : Sizes). z .tests) (x .2)) at g))
+    let g = sum-most (λ (r : Transition). length (r .tests)) 8 _ (λ r p. p .1) rs few in (
+      rw (transitions-length l locations timers 0 0 n rs (x .1)) at (rw (ap (λ (z : Sizes). z .starts) (x .2)) at s),
+      rw (transitions-length l locations timers 0 0 n rs (x .1)) at (rw (ap (λ (z : Sizes). z .tests) (x .2)) at g),
+    )

@@ -7,8 +7,8 @@ use Rattle.model.specs.Answer.{result, then}
 use Rattle.model.specs.Version.{knownVersion, inVersion}
 use Rattle.chart_lists.specs.Lists.{Lists}
 use Rattle.chart_lists.specs.declared.Header.{Header}
+use Rattle.chart_lists.specs.Header.{headerInVersion}
 use Rattle.list_judging.specs.FromLists.{fieldsFrom}
-use Rattle.list_judging.specs.Refusals.{headerInVersion}
 use Rattle.list_judging.proofs.Answers.{then-then, then-unless}
 
 pub fields-version : (v : ℕ) (m : Header) (l : Lists) → knownVersion v ≡ true → knownVersion (m .version) ≡ true

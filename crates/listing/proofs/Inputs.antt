@@ -10,14 +10,21 @@ use lib.Seq.{take-all, length-take-le}
 use borrow.Author.Tests.{le-leb}
 use Rattle.file_format.specs.Parse.{Bytes}
 use Rattle.lists.proofs.Bools.{lt-or-le}
-use Rattle.model.specs.Answer.{nowhere}
+use Rattle.model.specs.Answer.{result, nowhere}
+use Rattle.model.specs.Chart.{Chart}
+use Rattle.file_format.specs.File.{chartIn}
 use Rattle.file_format.proofs.File.{reads-valid}
+use Rattle.file_format.proofs.LargestFile.{no-larger}
 use Rattle.judgement.proofs.Corollaries.{judged-result}
 use Rattle.listing.specs.Listing.{largestInput, largestText, accepted, answerText, textOf}
 use Rattle.listing.proofs.Fits.{refused-fits, chart-fits}
 use Rattle.listing.proofs.Accepted.{text-16, text-1}
 use Rattle.listing.proofs.Outcomes.{Outcome, outcome}
 use Rattle.listing.proofs.Outcomes.Outcome.{is-refused, is-limit, is-used, is-text}
+
+-- a file that the reader accepts is never too long for the program, K counted: 16 refuses no chart
+pub file-fits : (K : ℕ) (file : List ℕ) (c : Chart) → Bytes file → chartIn file ≡ result c → length (K ∷ file) ≤ largestInput
+file-fits K file c bytes e = omega (arith, no-larger file c bytes e)
 
 pub text-accepted : (K : ℕ) (file : List ℕ) → length (K ∷ file) ≤ largestInput → textOf (K ∷ file) ≡ answerText K (accepted K file)
 unfolding textOf

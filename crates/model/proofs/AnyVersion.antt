@@ -11,7 +11,8 @@ use Rattle.model.specs.Answer.{Answer, result, refused, then, unless, no
 use Rattle.model.specs.Chart.{Chart}
 use Rattle.model.specs.Version.{inVersion}
 use Rattle.model.specs.Run.{Counts, State, Step, enabled, attempt, steps, begin, outcome, accepts}
-use Rattle.model.specs.Live.{atInitial, liveFlow, unstartedFlow, reachedFlow, liveSets, unstartedSets, reachedSets, firstUnreached, firstUnstarted}
+use Rattle.model.specs.Live.{atInitial, liveFlow, unstartedFlow, reachedFlow}
+use Rattle.model.specs.Live.{liveSets, unstartedSets, reachedSets, firstUnreached, firstUnstarted}
 use Rattle.model.specs.Family.{livePairs}
 use Rattle.model.specs.FirstFit.{board, usedBy, blocked}
 use Rattle.model.specs.Floor.{floor, searched}
@@ -60,7 +61,8 @@ same-fitted version K c = go (leb K 64) (not (blocked K (board c)))
     made d = record { used = usedBy (board c); chart = rewrittenBy (numbering (board c)) d }
 
     go : (a b : Bool) → unless a 11 nowhere (unless b 20 nowhere (result (made (inVersion version c))))
-        ≡ then (unless a 11 nowhere (unless b 20 nowhere (result (made c)))) (λ x. result (record { used = x .used; chart = inVersion version (x .chart) }))
+        ≡ then (unless a 11 nowhere (unless b 20 nowhere (result (made c))))
+        (λ x. result (record { used = x .used; chart = inVersion version (x .chart) }))
     go false b = refl
     go true false = refl
     go true true = refl
@@ -79,7 +81,8 @@ same-in-version version c = record {
   same-judged = same-judged version c;
   same-rewriting = λ K. after-judged version c (fitted K) ∙ each (judged c) (fitted K) _ (same-fitted version K);
   same-outcome = λ allowed v es. same-steps version c allowed 0 (begin c v) es;
-  same-played = λ counts is ts. after-judged version c (playedOn counts is ts) ∙ then-same (judged c) _ _ (λ d. same-played-on version d counts is ts);
+  same-played = λ counts is ts.
+      after-judged version c (playedOn counts is ts) ∙ then-same (judged c) _ _ (λ d. same-played-on version d counts is ts);
 }
   where
     then-same : {A B : Type 0} (x : Answer A) (f g : A → Answer B) → ((a : A) → f a ≡ g a) → then x f ≡ then x g

@@ -8,6 +8,7 @@ use Rattle.comparison.specs.declared.Comparison.the-variants.{AtMost, Below, At
 use Rattle.lists.specs.Lists.{upTo}
 use Rattle.model.specs.Answer.{Answer, result, refused, nowhere}
 use Rattle.model.specs.Chart.{Test, Transition, Chart}
+use Rattle.model.specs.Version.{inVersion}
 use Rattle.model.specs.Live.{liveSets}
 use Rattle.model.specs.Family.{familyNumber}
 use Rattle.model.specs.FirstFit.{Placed, board, usedBy}
@@ -126,6 +127,14 @@ selfLoop′ = drawn 1 0 0 (arrow 0 0 [] [] ∷ [])
 unfoldable pub twoEvents′ : Chart
 twoEvents′ = drawn 3 2 1 (onEvent 7 (arrow 0 1 (0 ∷ []) []) ∷ onEvent 255 (arrow 1 2 [] (test 0 AtLeast 3 ∷ [])) ∷ [])
 
+-- of version 2: a test of timer 1 with a constant that two bytes do not hold
+unfoldable pub longDwell : Chart
+longDwell = inVersion 2 (drawn 3 2 2 (arrow 0 1 (1 ∷ []) [] ∷ arrow 1 2 [] (test 1 AtLeast 65537 ∷ []) ∷ []))
+
+-- the same rewritten: timer 1 becomes 0, the constant and the version stay
+unfoldable pub longDwell′ : Chart
+longDwell′ = inVersion 2 (drawn 3 2 1 (arrow 0 1 (0 ∷ []) [] ∷ arrow 1 2 [] (test 0 AtLeast 65537 ∷ []) ∷ []))
+
 -- what a case asks of a chart
 pub data Question : Type 0 where
   live-sets : Chart → Question
@@ -178,7 +187,7 @@ starred =
 
 -- what "goes wrong unnoticed", beside the cases above: a timer started anew begins a family of its own; a start on the same transition does not
 -- come before its test, neither where it is judged nor where it is played; an event is kept, which is 0 in all charts above; and, by document 02,
--- first fit's used is not the floor
+-- first fit's used is not the floor, and a constant over 65,535 is kept and compared as it is
 unfoldable pub unnoticed : List Case
 unnoticed =
     case (numbers restart) (given ((64, 0) ∷ (128, 0) ∷ []) 1 1)
@@ -186,4 +195,7 @@ unnoticed =
     ∷ case (rewrite ownStart 64) (rewriting-is (refused 10 0))
     ∷ case (play B′ (0 ∷ []) (0 ∷ 1 ∷ []) (5 ∷ 8 ∷ [])) (played-is (refused 24 1))
     ∷ case (rewrite twoEvents 1) (rewriting-is (result (record { used = 1; chart = twoEvents′ })))
+    ∷ case (rewrite longDwell 1) (rewriting-is (result (record { used = 1; chart = longDwell′ })))
+    ∷ case (play longDwell (0 ∷ 0 ∷ []) (0 ∷ 1 ∷ []) (10 ∷ 65546 ∷ [])) (played-is (refused 24 1))
+    ∷ case (play longDwell (0 ∷ 0 ∷ []) (0 ∷ 1 ∷ []) (10 ∷ 65547 ∷ [])) (played-is (result (record { location = 2; time = 65547; accepting = true })))
     ∷ []

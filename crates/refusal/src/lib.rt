@@ -72,7 +72,7 @@ pub const INPUT_TOO_LONG: Refusal = Refusal {
 };
 
 // A constant over 65,535 in a chart that is to be written as version 1.
-pub const CONSTANT_TOO_LARGE: Refusal = Refusal {
+pub const CONSTANT_TOO_WIDE: Refusal = Refusal {
     number: 17,
     place: NOWHERE,
 };

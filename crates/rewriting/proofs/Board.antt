@@ -24,9 +24,9 @@ unfolding numbering
 tests-numbered valid i r n j t =
     live-number valid (r .source) j (live-here (record { number = i; transition = r; is-nth = n; leaves = refl; tests-it = t }))
 
-module _ {W : ℕ} {c : Chart} (valid : Valid W c) (e : judged c ≡ result c) where
+module _ {c : Chart} (storable : Storable c) (e : judged c ≡ result c) where
   pub judged-plan : Plan c (numbering (board c))
-  judged-plan = board-plan valid (λ i r n u. accepted valid .0 e .no-unstarted-test i (record { transition = r; is-nth = n; test = u }))
+  judged-plan = board-plan (storable .valid) (λ i r n u. accepted (storable .valid) .0 e .no-unstarted-test i (record { transition = r; is-nth = n; test = u }))
 
   module _ {live cells at : List ℕ} {r : Count} (x : ChartNumbered c live cells at r) where
     pub board-used : r .used ≡ numbering (board c) .used
@@ -40,8 +40,8 @@ module _ {W : ℕ} {c : Chart} (valid : Valid W c) (e : judged c ≡ result c) w
         cells-are = x .cells-are;
         few = omega (arith, board-used, few);
         below = judged-plan .below;
-        numbered = tests-numbered valid;
+        numbered = tests-numbered (storable .valid);
       }
 
-      pub board-storable : Storable c → Storable (rewrittenBy (numbering (board c)) c)
-      board-storable s = rewritten-storable c (numbering (board c)) judged-plan s (omega (arith, board-used, few))
+      pub board-storable : Storable (rewrittenBy (numbering (board c)) c)
+      board-storable = rewritten-storable c (numbering (board c)) judged-plan storable (omega (arith, board-used, few))

@@ -38,9 +38,8 @@ module _ {K : ℕ} {bs : List ℕ} (bytes : Bytes bs) {x : Rewriting} (o : Rewri
   unfolding numbering
   rewriting-fits =
       let c = o .chart in
-      let valid = storable-chart .valid in
-      let b = equal-behaviour (widthOf (c .version)) K c valid x (o .made) in
-      let plan = judged-plan valid (rewriting-is K c x (o .made) .accepted) in
+      let b = equal-behaviour (widthOf (c .version)) K c (storable-chart .valid) x (o .made) in
+      let plan = judged-plan storable-chart (rewriting-is K c x (o .made) .accepted) in
       let s = b .storable storable-chart in
       record {
         names-below = rw (b .chart, b .used) (names-below c (numbering (board c)) plan);

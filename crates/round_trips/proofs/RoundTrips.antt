@@ -1,6 +1,6 @@
 -- What the writer wrote the reader reads again, header and lists, and what the reader read the writer writes again, byte for byte. Hard: the lists
 -- that are handed over may be longer than the chart's own, which are their fronts. Assumes nothing.
-use mathlib.Core.Path.{_≡_, refl, sym, ap, _∙_}
+use mathlib.Core.Path.{_≡_, refl, sym, ap, _∙_, subst}
 use mathlib.Core.Bool.{Bool, true}
 use mathlib.Core.List.{List}
 use Prim.Native.Nat.{ℕ, _≤_}
@@ -10,14 +10,16 @@ use borrow.Author.Tests.{le-leb}
 use Rattle.lists.specs.Lists.{sumOf}
 use Rattle.model.specs.Answer.{Answer, result, then, unless, nowhere}
 use Rattle.model.specs.Chart.{Chart}
+use Rattle.model.specs.Version.{inVersion}
+use Rattle.model.specs.Valid.{Storable}
 use Rattle.file_format.specs.File.{chartIn, fileOf}
 use Rattle.file_format.specs.Parse.{Bytes}
 use Rattle.file_format.proofs.Answers.{then-result, unless-result}
-use Rattle.file_format.proofs.File.{chart-survives, file-survives, reads-valid}
+use Rattle.file_format.proofs.File.{chart-survives, file-survives, reads-storable}
 use Rattle.chart_lists.specs.Lists.{Lists, allTests, listsOf, putLists, overwritten, roomFor}
 use Rattle.chart_lists.specs.Begins.{Begins}
 use Rattle.chart_lists.specs.Holds.{Holds}
-use Rattle.chart_lists.specs.Header.{headerOf}
+use Rattle.chart_lists.specs.Header.{headerOf, headerInVersion}
 use Rattle.chart_lists.specs.declared.Header.{Header}
 use Rattle.chart_lists.proofs.Begins.{begins-take}
 use Rattle.chart_lists.proofs.Fronts.{accepting-are, each-front, sources-front, targets-front, starts-front}
@@ -29,7 +31,7 @@ use Rattle.list_judging.specs.Typed.{Typed}
 use Rattle.list_judging.specs.FileFrom.{testsBefore}
 use Rattle.list_judging.proofs.Answers.{kept-result}
 use Rattle.list_judging.proofs.FromHolds.{from-header, from-holds}
-use Rattle.list_judging.proofs.FromValid.{from-valid}
+use Rattle.list_judging.proofs.FromValid.{from-storable}
 use Rattle.list_judging.proofs.ValidFrom.{valid-from}
 use Rattle.reader.specs.Reading.{readInto, readAnswer, listsAfter}
 use Rattle.writer.specs.Writing.{writeInto, writeAnswer}
@@ -90,7 +92,7 @@ module _ (m : Header) (l : Lists) (typed : Typed l) (c : Chart) (e : chartFrom m
   unfolding readInto
   read-chart =
       let r : roomFor (listsOf c) lent ≡ true = rw (fronts-own m l c typed e) at room in
-      rw (chart-survives c (from-valid l typed m c e), r)
+      rw (chart-survives c (from-storable l typed m c e), r)
 
   read-back : ReadBack (fileOf c) m l lent
   unfolding readAnswer
@@ -105,23 +107,56 @@ written-then-read m l out n typed e lent room =
 
 -- ---- read, then written
 
--- lists that hold the chart of a file, those that were read or others
+-- lists that hold a chart, those that were read or others
+write-held : (c : Chart) → Storable c → (l : Lists) → Holds c l → (out : List ℕ) → length (fileOf c) ≤ length out
+    → WrittenBack (fileOf c) (headerOf c) l out
+unfolding writeAnswer writeInto
+write-held c s l h out room =
+    let fits = le-leb (length (fileOf c)) (length out) room in
+    let from = valid-from c s l h in
+    record { answer = rw (from, fits); buffer = rw (from, fits) }
+
+-- the chart of a file
 pub write-what-was-read : (bs : List ℕ) (c : Chart) → Bytes bs → chartIn bs ≡ result c → (l : Lists) → Holds c l
     → (out : List ℕ) → length bs ≤ length out → WrittenBack bs (headerOf c) l out
-unfolding writeAnswer writeInto
 write-what-was-read bs c by e l h out room =
     let same = file-survives bs c by e in
-    let fits = le-leb (length (fileOf c)) (length out) (rw same room) in
-    let from = valid-from c (reads-valid bs c by e) l h in
-    record { answer = rw (from, fits, same); buffer = rw (from, fits, same) }
+    subst (λ (x : List ℕ). WrittenBack x (headerOf c) l out) same (write-held c (reads-storable bs c by e) l h out (rw same room))
+
+module _ (bs : List ℕ) (lent : Lists) (c : Chart) (by : Bytes bs) (read : readInto lent bs ≡ result c) where
+  -- the lists that were read
+  read-lists : Holds c (listsAfter (readInto lent bs) lent)
+  read-lists = rw read (holds-put (reads-storable bs c by (read-from lent bs read) .valid) lent refl)
+
+  read-back-written : (out : List ℕ) → length bs ≤ length out → WrittenBack bs (headerOf c) (listsAfter (readInto lent bs) lent) out
+  read-back-written = write-what-was-read bs c by (read-from lent bs read) (listsAfter (readInto lent bs) lent) read-lists
+
+  -- with another version in the header: the file of the same chart in that version, if it holds the chart
+  pub read-then-stored-as : (version : ℕ) → Storable (inVersion version c)
+      → (out : List ℕ) → length (fileOf (inVersion version c)) ≤ length out
+      → WrittenBack (fileOf (inVersion version c)) (headerInVersion version (headerOf c)) (listsAfter (readInto lent bs) lent) out
+  unfolding headerInVersion headerOf inVersion
+  read-then-stored-as version s out room =
+      write-held (inVersion version c) s (listsAfter (readInto lent bs) lent) (held-in version s read-lists) out room
+    where
+      held-in : (version : ℕ) → Storable (inVersion version c) → {l : Lists} → Holds c l → Holds (inVersion version c) l
+      held-in version s h = unfold listsOf in record {
+        width = _;
+        valid = s .valid;
+        accepting = h .accepting;
+        sources = h .sources;
+        targets = h .targets;
+        events = h .events;
+        starts = h .starts;
+        test-counts = h .test-counts;
+        timers = h .timers;
+        codes = h .codes;
+        constants = h .constants;
+      }
 
 pub read-then-written : (bs : List ℕ) (lent : Lists) (h : Header) → Bytes bs → readAnswer lent bs ≡ result h
     → (out : List ℕ) → length bs ≤ length out → WrittenBack bs h (listsAfter (readInto lent bs) lent) out
 unfolding readAnswer
-read-then-written bs lent h by e out room = let a = kept-result (readInto lent bs) headerOf e in go (a .0) (a .1) (a .2)
-  where
-    go : (c : Chart) → readInto lent bs ≡ result c → headerOf c ≡ h → WrittenBack bs h (listsAfter (readInto lent bs) lent) out
-    go c r q =
-        let from = read-from lent bs r in
-        let held = holds-put (reads-valid bs c by from) lent refl in
-        rw (r, ← q) (write-what-was-read bs c by from (putLists (listsOf c) lent) held out room)
+read-then-written bs lent h by e out room = let a = kept-result (readInto lent bs) headerOf e in
+    subst (λ (x : Header). WrittenBack bs x (listsAfter (readInto lent bs) lent) out) (a .2)
+    (read-back-written bs lent (a .0) by (a .1) out room)

@@ -169,7 +169,7 @@ large-out : (c : Chart) → largeInVersion1 c ≡ true → (c .version ≡ 1)
 unfolding largeInVersion1 largeConstant isLarge
 large-out c e =
     let a = any-out (λ (r : Transition). anyOf (λ (t : Test). isLarge (t .constant)) (r .tests)) (c .transitions)
-        (and-right (eqb (c .version) 1) (largeConstant c) e) in
+    (and-right (eqb (c .version) 1) (largeConstant c) e) in
     let b = any-out (λ (t : Test). isLarge (t .constant)) (a .1 .tests) (a .3) in
     (same-number (and-left (eqb (c .version) 1) (largeConstant c) e), a .0, a .1, b .0, b .1, a .2, b .2, ltb-true 65535 (b .1 .constant) (b .3))
 
@@ -177,10 +177,12 @@ module _ (m : Header) (l : Lists) where
   large-in : LargeInVersion1 m l → chartFrom m l ≡ refused 17 nowhere
   unfolding chartFrom largeInVersion1 largeConstant isLarge
   large-in h =
-      let test = any-in (λ (t : Test). isLarge (t .constant)) (h .r .tests) (h .k) (h .test) (lt-ltb 65535 (h .t .constant) (h .over)) in
-      let some-large = any-in (λ (r : Transition). anyOf (λ (t : Test). isLarge (t .constant)) (r .tests)) (h .chart .transitions) (h .i)
-          (h .there .there) test in
-      let large : largeInVersion1 (h .chart) ≡ true = and-both (eq-eqb (h .chart .version) 1 (h .version)) some-large in
+      let over = lt-ltb 65535 (h .test .constant) (h .over) in
+      let one = any-in (λ (t : Test). isLarge (t .constant)) (h .transition .tests) (h .place) (h .is-test) over in
+      let large : largeInVersion1 (h .chart) ≡ true =
+      and-both (eq-eqb (h .chart .version) 1 (h .version))
+      (any-in (λ (r : Transition). anyOf (λ (t : Test). isLarge (t .constant)) (r .tests))
+      (h .chart .transitions) (h .number) (h .is-nth .there) one) in
       rw (h .is, large)
 
   chart-large : chartFrom m l ≡ refused 17 nowhere → LargeInVersion1 m l
@@ -200,12 +202,12 @@ module _ (m : Header) (l : Lists) where
                 chart = c;
                 is = f;
                 version = x .0;
-                i = x .1;
-                r = x .2;
-                there = record { there = x .5 };
-                k = x .3;
-                t = x .4;
-                test = x .6;
+                number = x .1;
+                transition = x .2;
+                is-nth = record { there = x .5 };
+                place = x .3;
+                test = x .4;
+                is-test = x .6;
                 over = x .7;
               }
 

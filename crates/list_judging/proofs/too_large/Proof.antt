@@ -50,7 +50,7 @@ returns-3 : tie.Need-returns-3 Inv-loop μ-loop
 returns-3 c =
     let a = c .before .before .before .args in
     let small : (k : ℕ) → k < a .n → getD (now (a .constants)) k 0 ≤ 65535 =
-        λ k h. c .before .loop .inv .1 k (omega (arith, c .loop-test .left)) in
+    λ k h. c .before .loop .inv .1 k (omega (arith, c .loop-test .left)) in
     rw (c .before .before .if1 .left, large-none (now (a .constants)) (a .n) small)
 
 pub too-large-spec : {M : Type 1} → statement M

@@ -73,7 +73,7 @@ slice-aggregate-number-chart-3 c = search needs
 number-chart-requires : tie.Need-number-chart-requires
 number-chart-requires c κs =
     let p = start c .pre in
-    let most : start c .args .header .locations ≤ mostLocations = omega (arith, locations-are (p .0) (p .1), p .3 .few-locations) in
+    let most : start c .args .header .locations ≤ mostLocations = omega (arith, locations-are (p .0) (p .1), p .3 .valid .few-locations) in
     let cells : 64 * start c .args .header .locations ≤ mostCells = omega (arith, most) in
     ((p .0, p .1, holds-edges (p .4), p .5), most, cells, most)
 

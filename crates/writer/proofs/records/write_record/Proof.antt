@@ -88,7 +88,7 @@ put-tests-requires : tie.Need-put-tests-requires
 put-tests-requires c κs =
     let s = counted-3 (timers-put (c .before)) in
     let p = c .before .before .before .before .before .before .before .before .before .before .before .before .before .before .before .before
-        .before .before .pre in
+    .before .before .pre in
     ((p .0 .1, p .0 .2, p .0 .3, omega (arith, p .0 .4, s .is)), p .1)
 
 -- the same from the end
