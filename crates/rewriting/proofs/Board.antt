@@ -26,7 +26,8 @@ tests-numbered valid i r n j t =
 
 module _ {c : Chart} (storable : Storable c) (e : judged c ≡ result c) where
   pub judged-plan : Plan c (numbering (board c))
-  judged-plan = board-plan (storable .valid) (λ i r n u. accepted (storable .valid) .0 e .no-unstarted-test i (record { transition = r; is-nth = n; test = u }))
+  judged-plan = let valid = storable .valid in
+      board-plan valid (λ i r n u. accepted valid .0 e .no-unstarted-test i (record { transition = r; is-nth = n; test = u }))
 
   module _ {live cells at : List ℕ} {r : Count} (x : ChartNumbered c live cells at r) where
     pub board-used : r .used ≡ numbering (board c) .used
