@@ -6,7 +6,7 @@ use Rattle.model.specs.Valid.{Valid}
 use Rattle.chart_lists.specs.Lists.{Lists, listsOf}
 use Rattle.chart_lists.specs.Begins.{Begins}
 
--- a chart that a file can hold, and each list begins with the chart's own
+-- a chart within its limits, at some width of its constants, and each list begins with the chart's own
 pub record Holds (c : Chart) (l : Lists) : Type 0 where
   pub width : ℕ
   pub valid : Valid width c

@@ -19,7 +19,7 @@ use Rattle.model.specs.Rewrite.{numbering, renamed, newTests, newStarts, newTra
 use Rattle.model.specs.Judge.{judged, fitted, rewriting}
 use Rattle.model.specs.Player.{arrival, answerOf, tooLarge, countsJudged, stepsOf, played}
 use Rattle.model.specs.Cases.{arrow, onEvent, test, drawn, A, B, C, selfLoop, neverStarted, restart, ownStart, twoEvents, aboveFloor}
-use Rattle.model.specs.Cases.{B′, C′, selfLoop′, twoEvents′, longDwell, longDwell′, boardNumbers, Case, case, starred, unnoticed}
+use Rattle.model.specs.Cases.{B′, C′, selfLoop′, twoEvents′, longDwell, beyondCounts, longDwell′, boardNumbers, Case, case, starred, unnoticed}
 use Rattle.file_format.specs.Parse.{number, below, many, entry, rising, digits, writeAll}
 use Rattle.file_format.specs.Body.{readComparison, readTest, readTests, recordLength, readTransition, readTransitions, readHeader, chartOf, readBody}
 use Rattle.file_format.specs.Body.{writeTest, writeTransition, writeHeader, writeBody}
@@ -33,7 +33,7 @@ use Rattle.equivalence.specs.OnFiles.{analysedList, askFile}
 
 pub starred-on-files : map (λ (x : Case). askFile (x .question)) (starred ++ unnoticed) ≡ map (λ (x : Case). x .reply) (starred ++ unnoticed)
 unfolding arrow onEvent test drawn inVersion A B C selfLoop neverStarted restart ownStart twoEvents aboveFloor
-    B′ C′ selfLoop′ twoEvents′ longDwell longDwell′
+    B′ C′ selfLoop′ twoEvents′ longDwell beyondCounts longDwell′
     boardNumbers case starred unnoticed
     member joined common minus added everyTimer setOf met comparisonOf codeOf ones onesIn filterMap
     memb anyOf firstOf lowest gather upTo pick top

@@ -16,7 +16,7 @@ use Rattle.model.specs.Valid.{Valid, Storable}
 use Rattle.model.proofs.Versions.{known-most, width-most}
 use Rattle.file_format.specs.Parse.{Parsed, value, refusal, digits, Bytes}
 use Rattle.file_format.specs.Body.{readBody, writeBody}
-use Rattle.file_format.specs.File.{Frame, Versioned, readFrame, judgeFrame, readFile, writeFile, chartIn, fileOf}
+use Rattle.file_format.specs.File.{Frame, Versioned, readFrame, judgeFrame, readFile, writeFile, chartIn, fileOf, ReadAs}
 use Rattle.file_format.specs.Lengths.{fileLength}
 use Rattle.file_format.proofs.Answers.{result-refused, then-result, unless-result, answered-result}
 use Rattle.file_format.proofs.RoundTrip.{bytes-rest, RoundTrip, restated, field, end}
@@ -78,13 +78,8 @@ module _ (known : ℕ → Bool) (width : ℕ → ℕ) where
       rw append-assoc at (frame-trip .reads frame (writeBody W c) (record { version = h; follow = body-fits W narrow c v })) in
       rw (e, eqb-self (length (writeBody W c)), k, body-reads W narrow c v)
 
-  -- what a file is that is read as a chart
-  pub record ReadAs (bs : List ℕ) (c : Chart) : Type 0 where
-    pub is-known : known (c .version) ≡ true
-    pub valid : Valid (width (c .version)) c
-    pub written : bs ≡ writeFile (width (c .version)) c
-
-  pub written-read : ((version : ℕ) → width version ≤ 8) → (bs : List ℕ) (c : Chart) → Bytes bs → readFile known width bs ≡ result c → ReadAs bs c
+  pub written-read : ((version : ℕ) → width version ≤ 8) → (bs : List ℕ) (c : Chart) → Bytes bs → readFile known width bs ≡ result c
+      → ReadAs known width bs c
   unfolding readFile writeFile
   written-read narrow bs c by e =
       let i = then-result (judgeFrame known (readFrame bs)) _ e in

@@ -17,7 +17,7 @@ use Rattle.model.specs.Valid.{ValidTest, ValidTransition, Valid, Storable}
 use Rattle.file_format.specs.Body.{recordLength}
 use Rattle.file_format.specs.Parse.{Bytes}
 use Rattle.file_format.specs.File.{chartIn, fileOf}
-use Rattle.file_format.specs.Lengths.{transitionLength, bodyLength, fileLength, fullTransition, fullChart}
+use Rattle.file_format.specs.Lengths.{transitionLength, bodyLength, fileLength, mostBytes, fullTransition, fullChart}
 use Rattle.file_format.specs.Lengths.{largestFile, largestOfVersion1, LargestFile}
 use Rattle.file_format.proofs.Lengths.{length-file, file-most, largest-file}
 use Rattle.file_format.proofs.File.{chart-survives, file-survives, reads-storable}
@@ -50,24 +50,24 @@ module _ (W : ℕ) where
     transitions = all-same (ValidTransition W 256 64) fullTransition full-transition 512;
   }
 
-  full-length : (version : ℕ) → fileLength W (fullChart version) ≡ 46094 + 4096 * W
+  full-length : (version : ℕ) → fileLength W (fullChart version) ≡ mostBytes W
   unfolding fullChart fullTransition fileLength bodyLength transitionLength recordLength
   full-length version = omega (arith, length-upTo (λ q. q) 256, length-upTo (λ j. j) 64, sum-replicate (transitionLength W) fullTransition 512)
 
 -- of each version
-largest-of : (version : ℕ) → knownVersion version ≡ true → LargestFile version (46094 + 4096 * widthOf version)
+largest-of : (version : ℕ) → knownVersion version ≡ true → LargestFile version (mostBytes (widthOf version))
 unfolding fileOf fullChart
 largest-of version known = record {
   most = λ bs c by e v.
-      subst (λ (x : List ℕ). length x ≤ 46094 + 4096 * widthOf version) (file-survives bs c by e) (bounded c (reads-storable bs c by e) v);
+      subst (λ (x : List ℕ). length x ≤ mostBytes (widthOf version)) (file-survives bs c by e) (bounded c (reads-storable bs c by e) v);
   reads = chart-survives (fullChart version) (record { known = known; valid = full-valid (widthOf version) version });
   reached = omega (arith, length-file (widthOf version) (fullChart version), full-length (widthOf version) version);
 }
   where
-    bounded : (c : Chart) → Storable c → c .version ≡ version → length (fileOf c) ≤ 46094 + 4096 * widthOf version
+    bounded : (c : Chart) → Storable c → c .version ≡ version → length (fileOf c) ≤ mostBytes (widthOf version)
     bounded c s v =
         let W = widthOf (c .version) in
-        subst (λ x. length (fileOf c) ≤ 46094 + 4096 * widthOf x) v (omega (arith, length-file W c, file-most W c (s .valid)))
+        subst (λ x. length (fileOf c) ≤ mostBytes (widthOf x)) v (omega (arith, length-file W c, file-most W c (s .valid)))
 
 pub largest-accepted : LargestFile 2 largestFile
 unfolding knownVersion widthOf

@@ -17,7 +17,7 @@ use Rattle.file_format.specs.Parse.{digits, writeAll}
 use Rattle.file_format.specs.Body.{recordLength, writeTest, writeTransition, writeHeader, writeBody}
 use Rattle.file_format.specs.File.{writeFile, fileOf}
 use Rattle.file_format.proofs.Fields.{rising-most}
-use Rattle.file_format.specs.Lengths.{transitionLength, bodyLength, fileLength, largestFile}
+use Rattle.file_format.specs.Lengths.{transitionLength, bodyLength, fileLength, mostBytes, largestFile}
 
 pub length-digits : (w v : ℕ) → length (digits w v) ≡ w
 unfolding digits
@@ -69,7 +69,7 @@ transition-most W locations timers h r v =
     let m : (2 + W) * length (r .tests) ≤ (2 + W) * 8 = mul-le-mul (le-refl (2 + W)) (v .few-tests) in
     omega (arith, rising-most timers 64 (r .starts) h (v .starts))
 
-pub file-most : (W : ℕ) (c : Chart) → Valid W c → fileLength W c ≤ 46094 + 4096 * W
+pub file-most : (W : ℕ) (c : Chart) → Valid W c → fileLength W c ≤ mostBytes W
 unfolding fileLength bodyLength
 file-most W c v =
     let few = rising-most (c .locations) 256 (c .accepting) (v .few-locations) (v .accepting) in

@@ -13,7 +13,7 @@ use lib.ListN.{length}
 use borrow.Author.Tests.{ltb-true}
 use Rattle.comparison.specs.declared.Comparison.{Comparison}
 use Rattle.comparison.specs.Comparison.{comparisonOf}
-use Rattle.model.specs.Answer.{Answer, result, refused, then, unless, nowhere}
+use Rattle.model.specs.Answer.{Answer, refused, then, unless, nowhere}
 use Rattle.model.specs.Chart.{Test, Transition}
 use Rattle.model.specs.Version.{knownVersion, widthOf}
 use Rattle.file_format.specs.Parse.{Parsed, value, refusal, bind, guard, byte, number, below, many, entry, rising}

@@ -1,20 +1,20 @@
 -- What a file's version is to its chart: the first byte is the chart's version; what is not a file of version 2 is read as it was before there was
 -- one; and a chart may be stored as the other version and back. Nothing is hard: the round trips of File, at another version. Assumes nothing.
-use mathlib.Core.Path.{_≡_, refl, sym, ap, _∙_, subst}
-use mathlib.Core.Logic.{_⊎_, inl, inr, _↔_}
+use mathlib.Core.Path.{_≡_, refl, ap, _∙_, subst}
+use mathlib.Core.Logic.{_↔_}
 use mathlib.Core.Bool.{Bool, true, false}
 use mathlib.Core.Option.{some}
 use mathlib.Core.List.{List, [], _∷_}
 use Prim.Native.Nat.{ℕ, _+_, _*_, _%_, _≤_}
 use native.Mathlib.Omega.{arith}
-use lib.Dec.{leb, eqb}
+use lib.Dec.{eqb}
 use lib.ListN.{length, getElem?}
 use Rattle.lists.proofs.Bools.{same-bool, same-number}
 use Rattle.model.specs.Answer.{Answer, result, then, unless, nowhere}
 use Rattle.model.specs.Chart.{Chart}
-use Rattle.model.specs.Version.{knownVersion, widthOf, inVersion, largeConstant}
+use Rattle.model.specs.Version.{knownVersion, widthOf, inVersion, widest, largeConstant}
 use Rattle.model.specs.Valid.{Valid, Storable}
-use Rattle.model.proofs.Versions.{known-some, known-most, StorableBy, storable-iff, narrowed, narrow-small}
+use Rattle.model.proofs.Versions.{known-some, known-most, storable-iff, narrowed, narrow-small, valid-in}
 use Rattle.file_format.specs.Parse.{Bytes, Parsed, value, refusal, number, digits}
 use Rattle.file_format.specs.Body.{readBody}
 use Rattle.file_format.specs.File.{Frame, Versioned, readFrame, judgeFrame, answered, readFile, writeFile, chartIn, fileOf}
@@ -25,19 +25,6 @@ use Rattle.file_format.proofs.File.{chart-survives, file-survives, read
 
 -- ---- stored as the other version
 
--- the limits that a chart has do not speak of its version
-valid-in : (W version : ℕ) (c : Chart) → Valid W c → Valid W (inVersion version c)
-unfolding inVersion
-valid-in W version c v = record {
-  some-location = v .some-location;
-  few-locations = v .few-locations;
-  initial = v .initial;
-  few-timers = v .few-timers;
-  accepting = v .accepting;
-  few-transitions = v .few-transitions;
-  transitions = v .transitions;
-}
-
 -- there and back
 back : (version : ℕ) (c : Chart) → inVersion (c .version) (inVersion version c) ≡ c
 unfolding inVersion
@@ -45,9 +32,18 @@ back version c = refl
 
 module _ (bs : List ℕ) (c : Chart) (by : Bytes bs) (e : chartIn bs ≡ result c) where
   stored : (version : ℕ) → Storable (inVersion version c) → StoredAs version bs c
-  stored version s = record { reads = chart-survives (inVersion version c) s; returns = ap fileOf (back version c) ∙ file-survives bs c by e }
+  stored version s = let r = chart-survives (inVersion version c) s in record {
+    reads = r;
+    returns = rw r (ap result (ap fileOf (back version c) ∙ file-survives bs c by e));
+  }
 
-  wide : Valid 4 c
+  -- as any version that holds it, and as no other
+  pub stored-iff : (version : ℕ) → StoredAs version bs c ↔ Storable (inVersion version c)
+  unfolding fileOf
+  stored-iff version =
+      (λ s. reads-storable (fileOf (inVersion version c)) (inVersion version c) (file-bytes _ (inVersion version c)) (s .reads), stored version)
+
+  wide : Valid widest c
   wide = (storable-iff c .0 (reads-storable bs c by e)) .valid
 
   -- every chart as version 2
@@ -57,14 +53,11 @@ module _ (bs : List ℕ) (c : Chart) (by : Bytes bs) (e : chartIn bs ≡ result 
 
   -- as version 1 exactly when no constant is over 65,535
   pub stored-as-1 : StoredAs 1 bs c ↔ (largeConstant c ≡ false)
-  unfolding inVersion knownVersion widthOf fileOf
+  unfolding inVersion knownVersion widthOf
   stored-as-1 = (
-    λ s. small (reads-storable (fileOf (inVersion 1 c)) (inVersion 1 c) (file-bytes 2 (inVersion 1 c)) (s .reads)),
+    λ s. narrow-small c (valid-in 2 (c .version) (inVersion 1 c) (stored-iff 1 .0 s .valid)),
     λ f. stored 1 (record { known = refl; valid = valid-in 2 1 c (narrowed c f wide) }),
   )
-    where
-      small : Storable (inVersion 1 c) → largeConstant c ≡ false
-      small s = narrow-small c (valid-in 2 (c .version) (inVersion 1 c) (s .valid))
 
 -- ---- the version is the first byte
 
@@ -105,7 +98,14 @@ module _ (known known′ : ℕ → Bool) (width width′ : ℕ → ℕ) where
       go true false h = refl
       go true true h = ap (λ W. answered (readBody (f .version) W body)) (h refl)
 
--- 1 is the one version but 2
+-- on files: two readers that know the first byte alike as a version, and read it with the same width if they know it, answer alike
+pub reads-alike : (known known′ : ℕ → Bool) (width width′ : ℕ → ℕ) (bs : List ℕ)
+    → ((v : ℕ) → getElem? bs 0 ≡ some v → (known v ≡ known′ v) × (known′ v ≡ true → width v ≡ width′ v))
+    → readFile known width bs ≡ readFile known′ width′ bs
+unfolding readFile
+reads-alike known known′ width width′ bs h = alike known known′ width width′ (readFrame bs) (λ f body e. h (f .version) (first-byte bs e))
+
+-- the only known version other than 2 is 1
 known-1 : (v : ℕ) → (v ≡ 2 → ⊥) → knownVersion v ≡ eqb v 1
 unfolding knownVersion
 known-1 v h = same-bool (knownVersion v) (eqb v 1) (λ e. one (known-some v e) (known-most v e)) (λ e. yes (same-number e))
@@ -116,13 +116,17 @@ known-1 v h = same-bool (knownVersion v) (eqb v 1) (λ e. one (known-some v e) (
     yes : v ≡ 1 → knownVersion v ≡ true
     yes q = ap knownVersion q
 
-width-1 : (v : ℕ) → v ≡ 1 → widthOf v ≡ 2
-unfolding widthOf
-width-1 v e = ap widthOf e
-
 -- what is not of version 2 is read as it was: the same chart, or the same refusal
 pub reads-as-before : (bs : List ℕ) → (getElem? bs 0 ≡ some 2 → ⊥) → chartIn bs ≡ chartInVersion1 bs
-unfolding chartIn chartInVersion1 readFile
+unfolding chartIn chartInVersion1 widthOf
 reads-as-before bs h =
-    alike knownVersion (λ v. eqb v 1) widthOf (λ v. 2) (readFrame bs)
-    (λ f body e. (known-1 (f .version) (λ q. h (first-byte bs e ∙ ap some q)), λ k. width-1 (f .version) (same-number k)))
+    reads-alike knownVersion (λ v. eqb v 1) widthOf (λ v. 2) bs
+    (λ v e. (known-1 v (λ q. h (e ∙ ap some q)), λ k. two v (same-number k)))
+  where
+    two : (v : ℕ) → v ≡ 1 → widthOf v ≡ 2
+    two v q = ap widthOf q
+
+-- and so is whatever follows from the reading
+pub follows-as-before : {A : Type 0} (f : Chart → Answer A) (bs : List ℕ) → (getElem? bs 0 ≡ some 2 → ⊥)
+    → then (chartIn bs) f ≡ then (chartInVersion1 bs) f
+follows-as-before f bs h = ap (λ x. then x f) (reads-as-before bs h)

@@ -1,6 +1,6 @@
 -- A chart file: version, length, body (document 01, "The chart file"; versions: document 02, P2). Assumes nothing.
 use mathlib.Core.Path.{_≡_}
-use mathlib.Core.Bool.{Bool}
+use mathlib.Core.Bool.{Bool, true}
 use mathlib.Core.List.{List, _++_}
 use Prim.Native.Nat.{ℕ}
 use lib.ListN.{length}
@@ -8,6 +8,7 @@ use lib.Dec.{eqb}
 use Rattle.model.specs.Answer.{Answer, result, refused, then, unless, nowhere}
 use Rattle.model.specs.Chart.{Chart}
 use Rattle.model.specs.Version.{knownVersion, widthOf}
+use Rattle.model.specs.Valid.{Valid}
 use Rattle.file_format.specs.Parse.{Bytes, Parsed, value, refusal, bind, number, digits}
 use Rattle.file_format.specs.Body.{readBody, writeBody}
 
@@ -60,3 +61,9 @@ pub record ReadFrom (c : Chart) : Type 0 where
 -- the file of a chart, by its version
 unfoldable pub fileOf : Chart → List ℕ
 fileOf c = writeFile (widthOf (c .version)) c
+
+-- what a file is that is read as a chart, for any versions and widths: its version is known, its limits are kept, and it is what is written for it
+pub record ReadAs (known : ℕ → Bool) (width : ℕ → ℕ) (bs : List ℕ) (c : Chart) : Type 0 where
+  pub is-known : known (c .version) ≡ true
+  pub valid : Valid (width (c .version)) c
+  pub written : bs ≡ writeFile (width (c .version)) c

@@ -24,6 +24,10 @@ bodyLength W c = 9 + 2 * length (c .accepting) + sumOf (map (transitionLength W)
 unfoldable pub fileLength : (W : ℕ) → Chart → ℕ
 fileLength W c = 5 + bodyLength W c
 
+-- the most that a file has whose constants have W bytes
+abbrev pub mostBytes : (W : ℕ) → ℕ
+mostBytes W = 46094 + 4096 * W
+
 -- the bytes of the largest file that the reader accepts, one of version 2 (document 02, P2)
 abbrev pub largestFile : ℕ
 largestFile = 62478

@@ -3,7 +3,7 @@ use mathlib.Core.Path.{_≡_}
 use mathlib.Core.List.{List}
 use Prim.Native.Nat.{ℕ}
 use lib.Dec.{eqb}
-use Rattle.model.specs.Answer.{Answer, result}
+use Rattle.model.specs.Answer.{Answer, result, then}
 use Rattle.model.specs.Chart.{Chart}
 use Rattle.model.specs.Version.{inVersion}
 use Rattle.file_format.specs.File.{readFile, chartIn, fileOf}
@@ -13,7 +13,7 @@ unfoldable pub chartInVersion1 : List ℕ → Answer Chart
 chartInVersion1 bs = readFile (λ version. eqb version 1) (λ version. 2) bs
 
 -- nothing is lost when the chart c of the file bs is stored as that version: the new file is read as the same chart in that version, and what is
--- written of this in the version of c is bs again, byte for byte
+-- read from it, written in the version of c, is bs again, byte for byte
 pub record StoredAs (version : ℕ) (bs : List ℕ) (c : Chart) : Type 0 where
   pub reads : chartIn (fileOf (inVersion version c)) ≡ result (inVersion version c)
-  pub returns : fileOf (inVersion (c .version) (inVersion version c)) ≡ bs
+  pub returns : then (chartIn (fileOf (inVersion version c))) (λ d. result (fileOf (inVersion (c .version) d))) ≡ result bs

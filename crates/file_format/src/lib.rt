@@ -1,11 +1,11 @@
-// What a chart file is stands in specs/, that reading and writing undo one another in proofs/. Here are its versions and its length.
+// What a chart file is stands in specs/, that reading and writing undo one another in proofs/. Here are its versions and its largest length.
 ghost use mathlib.Core.Path.{_≡_};
 ghost use Rattle.model.specs.Version.{knownVersion, widthOf};
 
 // The bytes of the largest file that the reader accepts.
 pub const LARGEST_FILE: usize = 62478;
 
-// Whether there is such a version; 2 is given where there is not.
+// Whether there is such a version; where there is none, refusal 2 is given.
 pub fn known_version(version: u64) -> bool
     ensures { λ r. ⌜ r ≡ knownVersion version ⌝ }
 {

@@ -200,7 +200,7 @@ pub fn judge(
         return Judged::Refused(record_refusal(d));
     };
     if too_large(header.version, constants, tests as usize) {
-        return Judged::Refused(refusal::CONSTANT_TOO_WIDE);
+        return Judged::Refused(refusal::CONSTANT_TOO_LARGE);
     }
     let bytes = file_length(header.version, n, header.transitions, started, tests);
     Judged::File(bytes as usize)

@@ -9,3 +9,4 @@ pub mod Flatten
 pub mod Sums
 pub mod Zeros
 pub mod Growing
+pub mod All

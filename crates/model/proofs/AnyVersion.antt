@@ -1,8 +1,7 @@
 -- Live sets, families and their numbers, the floor, the judgement, the rewriting, runs and the player do not look at a chart's version. Nothing is
 -- hard: none of their definitions reads it; only a step list is gone through. Assumes nothing.
-use mathlib.Core.Path.{_≡_, refl, sym, ap, _∙_}
+use mathlib.Core.Path.{_≡_, refl, ap, _∙_}
 use mathlib.Core.Bool.{Bool, true, false, not}
-use mathlib.Core.Option.{Option, none, some}
 use mathlib.Core.List.{List, [], _∷_}
 use Prim.Native.Nat.{ℕ, suc}
 use lib.Dec.{leb}
@@ -10,7 +9,7 @@ use lib.ListN.{length}
 use Rattle.model.specs.Answer.{Answer, result, refused, then, unless, nowhere}
 use Rattle.model.specs.Chart.{Chart}
 use Rattle.model.specs.Version.{inVersion}
-use Rattle.model.specs.Run.{Counts, State, Step, enabled, attempt, steps, begin, outcome, accepts}
+use Rattle.model.specs.Run.{State, Step, enabled, attempt, steps, begin, outcome, accepts}
 use Rattle.model.specs.Live.{atInitial, liveFlow, unstartedFlow, reachedFlow}
 use Rattle.model.specs.Live.{liveSets, unstartedSets, reachedSets, firstUnreached, firstUnstarted}
 use Rattle.model.specs.Family.{livePairs}

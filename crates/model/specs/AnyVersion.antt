@@ -11,7 +11,7 @@ use Rattle.model.specs.Run.{Counts, Step, outcome}
 use Rattle.model.specs.Live.{liveSets}
 use Rattle.model.specs.FirstFit.{board}
 use Rattle.model.specs.Floor.{floor, searched}
-use Rattle.model.specs.Judge.{Rewriting, judged, rewriting}
+use Rattle.model.specs.Judge.{judged, rewriting}
 use Rattle.model.specs.Player.{played}
 
 -- the chart in that version: the same results, and where a chart is the result, the same chart in that version

@@ -131,7 +131,15 @@ twoEvents′ = drawn 3 2 1 (onEvent 7 (arrow 0 1 (0 ∷ []) []) ∷ onEvent 255 
 unfoldable pub longDwell : Chart
 longDwell = inVersion 2 (drawn 3 2 2 (arrow 0 1 (1 ∷ []) [] ∷ arrow 1 2 [] (test 1 AtLeast 65537 ∷ []) ∷ []))
 
--- the same rewritten: timer 1 becomes 0, the constant and the version stay
+-- of version 2: at location 1 a test of timer 0 with a constant above every count, and one with the largest constant
+unfoldable pub beyondCounts : Chart
+beyondCounts = inVersion 2 (drawn 3 2 1 (
+    arrow 0 1 (0 ∷ []) []
+    ∷ arrow 1 2 [] (test 0 AtLeast 33554431 ∷ [])
+    ∷ arrow 1 2 [] (test 0 AtMost 4294967295 ∷ [])
+    ∷ []))
+
+-- the chart with timer 1 rewritten: timer 1 becomes 0, the constant and the version stay
 unfoldable pub longDwell′ : Chart
 longDwell′ = inVersion 2 (drawn 3 2 1 (arrow 0 1 (0 ∷ []) [] ∷ arrow 1 2 [] (test 0 AtLeast 65537 ∷ []) ∷ []))
 
@@ -198,4 +206,7 @@ unnoticed =
     ∷ case (rewrite longDwell 1) (rewriting-is (result (record { used = 1; chart = longDwell′ })))
     ∷ case (play longDwell (0 ∷ 0 ∷ []) (0 ∷ 1 ∷ []) (10 ∷ 65546 ∷ [])) (played-is (refused 24 1))
     ∷ case (play longDwell (0 ∷ 0 ∷ []) (0 ∷ 1 ∷ []) (10 ∷ 65547 ∷ [])) (played-is (result (record { location = 2; time = 65547; accepting = true })))
+    ∷ case (play beyondCounts (16777215 ∷ []) (0 ∷ 1 ∷ []) (0 ∷ 16777215 ∷ [])) (played-is (refused 24 1))
+    ∷ case (play beyondCounts (16777215 ∷ []) (0 ∷ 2 ∷ []) (0 ∷ 16777215 ∷ []))
+    (played-is (result (record { location = 2; time = 16777215; accepting = true })))
     ∷ []

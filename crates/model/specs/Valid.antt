@@ -1,12 +1,12 @@
 -- The charts that a file can hold: exactly those that the reader yields and the writer writes. Its constants have W bytes, as many as its version
 -- gives them (limits: document 01, "The chart"; versions: document 02, P2). Assumes nothing.
 use mathlib.Core.Path.{_≡_}
-use mathlib.Core.Bool.{true}
+use mathlib.Core.Bool.{true, false}
 use Prim.Native.Nat.{ℕ, _≤_, _<_, _^_}
 use lib.ListN.{length}
 use Rattle.lists.specs.Rising.{Rising, All}
 use Rattle.model.specs.Chart.{Test, Transition, Chart}
-use Rattle.model.specs.Version.{knownVersion, widthOf}
+use Rattle.model.specs.Version.{knownVersion, widthOf, widest, largeInVersion1}
 
 -- the timer is one of the chart's, the constant fits its bytes
 pub record ValidTest (W timers : ℕ) (t : Test) : Type 0 where
@@ -36,3 +36,9 @@ pub record Valid (W : ℕ) (c : Chart) : Type 0 where
 pub record Storable (c : Chart) : Type 0 where
   pub known : knownVersion (c .version) ≡ true
   pub valid : Valid (widthOf (c .version)) c
+
+-- the same in other words: the chart is within its limits at the widest constants, and 17 does not refuse it (proofs/Versions, `storable-iff`)
+pub record StorableBy (c : Chart) : Type 0 where
+  pub known : knownVersion (c .version) ≡ true
+  pub valid : Valid widest c
+  pub not-refused : largeInVersion1 c ≡ false

@@ -1,17 +1,24 @@
 -- The versions of a chart file, the bytes that a constant has in each, and which charts version 1 does not hold (document 02, P2). Assumes nothing.
+use mathlib.Core.Path.{_≡_}
 use mathlib.Core.Bool.{Bool, true, false, _&&_}
-use Prim.Native.Nat.{ℕ}
+use mathlib.Core.Option.{some}
+use Prim.Native.Nat.{ℕ, _<_}
 use lib.Dec.{leb, ltb, eqb}
+use lib.ListN.{getElem?}
 use Rattle.lists.specs.Lists.{anyOf}
-use Rattle.model.specs.Chart.{Test, Transition, Chart}
+use Rattle.model.specs.Chart.{Test, Transition, Chart, Nth}
 
--- the versions that there are, 1 and 2: those that 2 spares
+-- the versions that there are, 1 and 2: those that refusal 2 spares
 unfoldable pub knownVersion : (version : ℕ) → Bool
 knownVersion version = leb 1 version && leb version 2
 
 -- the bytes of a constant: two in version 1, else four
 unfoldable pub widthOf : (version : ℕ) → ℕ
 widthOf version = elim (eqb version 1) [ true ↦ 2 | false ↦ 4 ]
+
+-- the most bytes that a constant has in any version
+abbrev pub widest : ℕ
+widest = 4
 
 -- the same chart as one of that version
 unfoldable pub inVersion : (version : ℕ) → Chart → Chart
@@ -24,14 +31,36 @@ inVersion version c = record {
   transitions = c .transitions;
 }
 
--- a constant over 65,535
+-- the largest constant of version 1, the most that two bytes hold
+abbrev pub mostInVersion1 : ℕ
+mostInVersion1 = 65535
+
+-- a constant over it
 unfoldable pub isLarge : (constant : ℕ) → Bool
-isLarge constant = ltb 65535 constant
+isLarge constant = ltb mostInVersion1 constant
 
--- some test has one
+-- a test that has one
+abbrev pub largeTest : Test → Bool
+largeTest t = isLarge (t .constant)
+
+-- a transition with such a test
+abbrev pub largeTransition : Transition → Bool
+largeTransition r = anyOf largeTest (r .tests)
+
+-- some transition has one
 unfoldable pub largeConstant : Chart → Bool
-largeConstant c = anyOf (λ (r : Transition). anyOf (λ (t : Test). isLarge (t .constant)) (r .tests)) (c .transitions)
+largeConstant c = anyOf largeTransition (c .transitions)
 
--- 17: such a chart is to be written as version 1
+-- the same by its place: a test of a transition
+pub record LargeConstant (c : Chart) : Type 0 where
+  pub number : ℕ
+  pub transition : Transition
+  pub is-nth : Nth c number transition
+  pub place : ℕ
+  pub test : Test
+  pub is-test : getElem? (transition .tests) place ≡ some test
+  pub over : mostInVersion1 < test .constant
+
+-- 17: a chart that has one is to be written as version 1
 unfoldable pub largeInVersion1 : Chart → Bool
 largeInVersion1 c = eqb (c .version) 1 && largeConstant c

@@ -17,7 +17,7 @@ pub const WRONG_LENGTH: Refusal = Refusal {
     place: NOWHERE,
 };
 
-// A version that there is not.
+// A version other than 1 and 2.
 pub const WRONG_VERSION: Refusal = Refusal {
     number: 2,
     place: NOWHERE,
@@ -72,7 +72,7 @@ pub const INPUT_TOO_LONG: Refusal = Refusal {
 };
 
 // A constant over 65,535 in a chart that is to be written as version 1.
-pub const CONSTANT_TOO_WIDE: Refusal = Refusal {
+pub const CONSTANT_TOO_LARGE: Refusal = Refusal {
     number: 17,
     place: NOWHERE,
 };
