@@ -13,10 +13,8 @@ use Rattle.model.proofs.Answers.{not-result, result-same, refused-same}
 use Rattle.model.specs.Places.{LowestUnreached, LowestUnstarted}
 use Rattle.file_format.specs.File.{chartIn}
 use Rattle.judgement.specs.Judging.{judgedIn}
-use Rattle.judgement.specs.Refusals.{RefusalOfJudgement}
-use Rattle.judgement.specs.Refusals.RefusalOfJudgement.{of-file, of-unreached, of-unstarted}
 use Rattle.judgement.specs.Charts.{HoldsChart, Accepts}
-use Rattle.judgement.proofs.Corollaries.{judged-9, judged-10, judged-1-to-8, judged-result, refusals-of-judgedIn}
+use Rattle.judgement.proofs.Corollaries.{judged-numbers, judged-9, judged-10, judged-1-to-8, judged-result, refusals-of-judgedIn}
 use Rattle.analysis.specs.Analysing.{AnalysisValues, valuesOf, analysedIn, analyseAnswer}
 use Rattle.analysis.specs.Found.{Analysed}
 use Rattle.analysis.specs.Refusals.{RefusalOfAnalysis, TooShort}
@@ -55,11 +53,6 @@ module _ (room : ℕ) (bs : List ℕ) where
       go (is-found c e l f) = (λ x. absurd (not-result (sym x ∙ f)), λ x. absurd (not-result (sym x ∙ e)))
 
   module _ (bytes : Bytes bs) where
-    last-number : (n p : ℕ) → RefusalOfJudgement n p → n ≤ 10
-    last-number n p (of-file r) = omega (arith, r .last-number)
-    last-number n p (of-unreached e h) = omega (arith, e)
-    last-number n p (of-unstarted e h) = omega (arith, e)
-
     -- no other number comes, and each has its place
     pub refusals-of-analysis : (n p : ℕ) → analyseAnswer room bs ≡ refused n p → RefusalOfAnalysis n p
     refusals-of-analysis n p x = go analysis-cases
@@ -68,6 +61,13 @@ module _ (room : ℕ) (bs : List ℕ) where
         go (is-refused m q e f) = let s = refused-same (sym f ∙ x) in of-judgement (refusals-of-judgedIn bs bytes n p (e ∙ ap₂ refused (s .0) (s .1)))
         go (is-short c e l f) = let s = refused-same (sym f ∙ x) in of-short-list (sym (s .0)) (sym (s .1))
         go (is-found c e l f) = absurd (not-result (sym x ∙ f))
+
+    pub never-17 : (p : ℕ) → analyseAnswer room bs ≡ refused 17 p → ⊥
+    never-17 p x = go (refusals-of-analysis 17 p x)
+      where
+        go : RefusalOfAnalysis 17 p → ⊥
+        go (of-judgement r) = omega (arith, judged-numbers r .1)
+        go (of-short-list e f) = omega (arith, e)
 
     pub analysis-1-to-8 : (n p : ℕ) → n ≤ 8 → (analyseAnswer room bs ≡ refused n p) ↔ (chartIn bs ≡ refused n p)
     analysis-1-to-8 n p h = Iff·trans (of-judged n p (omega arith)) (judged-1-to-8 bs bytes n p h)
@@ -86,7 +86,7 @@ module _ (room : ℕ) (bs : List ℕ) where
     analysis-21 = (λ x. out x analysis-cases, λ t. back t analysis-cases)
       where
         out : analyseAnswer room bs ≡ refused 21 nowhere → AnalysisOf room bs → TooShort room bs
-        out x (is-refused m q e f) = absurd (omega (arith, refused-same (sym f ∙ x) .0, last-number m q (refusals-of-judgedIn bs bytes m q e)))
+        out x (is-refused m q e f) = absurd (omega (arith, refused-same (sym f ∙ x) .0, judged-numbers (refusals-of-judgedIn bs bytes m q e) .1))
         out x (is-short c e l f) = record { chart = c; accepts = judged-result bs bytes c .0 e; more = l }
         out x (is-found c e l f) = absurd (not-result (sym x ∙ f))
 

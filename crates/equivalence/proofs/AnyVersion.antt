@@ -1,6 +1,6 @@
 -- The calls answer alike on the files of one chart in two versions, where both versions hold it. Nothing is hard: each file is read as its chart, and
 -- nothing that follows looks at the version. Assumes nothing.
-use mathlib.Core.Path.{_≡_, refl, sym, ap, _∙_}
+use mathlib.Core.Path.{_≡_, refl, ap, _∙_}
 use mathlib.Core.Bool.{Bool, true, false}
 use mathlib.Core.List.{List}
 use Prim.Native.Nat.{ℕ}
@@ -11,14 +11,14 @@ use Rattle.model.specs.Version.{inVersion}
 use Rattle.model.specs.Valid.{Storable}
 use Rattle.model.specs.Live.{liveSets}
 use Rattle.model.specs.FirstFit.{usedBy, used}
-use Rattle.model.specs.Judge.{judged, rewriting}
+use Rattle.model.specs.Judge.{judged}
 use Rattle.model.proofs.AnyVersion.{same-in-version}
 use Rattle.file_format.specs.File.{chartIn, fileOf}
 use Rattle.file_format.proofs.Bytes.{file-bytes}
 use Rattle.file_format.proofs.File.{chart-survives}
 use Rattle.chart_lists.specs.Lists.{overwritten}
 use Rattle.judgement.specs.Judging.{judgedIn}
-use Rattle.analysis.specs.Analysing.{AnalysisValues, analysedChart, analysedIn, valuesOf, analyseAnswer}
+use Rattle.analysis.specs.Analysing.{analysedChart, analysedIn, valuesOf, analyseAnswer}
 use Rattle.player.specs.Playing.{playAnswer}
 use Rattle.equivalence.specs.AnyVersion.{SameCalls}
 use Rattle.equivalence.proofs.RewrittenFile.{room-enough}

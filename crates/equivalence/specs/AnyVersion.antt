@@ -7,7 +7,6 @@ use Rattle.model.specs.Answer.{result, then}
 use Rattle.model.specs.Chart.{Chart}
 use Rattle.model.specs.Version.{inVersion}
 use Rattle.model.specs.Live.{liveSets}
-use Rattle.model.specs.Judge.{Rewriting}
 use Rattle.file_format.specs.File.{fileOf}
 use Rattle.file_format.specs.Lengths.{largestFile}
 use Rattle.chart_lists.specs.Lists.{overwritten}

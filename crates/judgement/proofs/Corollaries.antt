@@ -23,6 +23,12 @@ use Rattle.judgement.specs.Charts.{HoldsChart, Accepts}
 use Rattle.judgement.specs.Refusals.{RefusalOfJudgement}
 use Rattle.judgement.specs.Refusals.RefusalOfJudgement.{of-file, of-unreached, of-unstarted}
 
+-- 1 to 10 alone
+pub judged-numbers : {n p : ℕ} → RefusalOfJudgement n p → (1 ≤ n) × (n ≤ 10)
+judged-numbers (of-file r) = (r .first-number, omega (arith, r .last-number))
+judged-numbers (of-unreached e h) = (omega arith, omega arith)
+judged-numbers (of-unstarted e h) = (omega arith, omega arith)
+
 module _ (bs : List ℕ) where
   judged-chart : {c : Chart} → chartIn bs ≡ result c → judgedIn bs ≡ judged c
   unfolding judgedIn

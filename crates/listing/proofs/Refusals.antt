@@ -14,7 +14,7 @@ use Rattle.model.specs.Places.{LowestUnreached, LowestUnstarted}
 use Rattle.judgement.specs.Judging.{judgedIn}
 use Rattle.judgement.specs.Refusals.RefusalOfJudgement.{of-file, of-unreached, of-unstarted}
 use Rattle.judgement.specs.Charts.{HoldsChart}
-use Rattle.judgement.proofs.Corollaries.{judged-9, judged-10, refusals-of-judgedIn}
+use Rattle.judgement.proofs.Corollaries.{judged-numbers, judged-9, judged-10, refusals-of-judgedIn}
 use Rattle.listing.specs.Text.{refusedWord, usedWord}
 use Rattle.listing.specs.Listing.{largestInput, accepted, answerText, refusedText, firstLine, chartText, textOf}
 use Rattle.listing.specs.Refusals.{RefusalShown}
@@ -99,3 +99,12 @@ refusals-shown (K ∷ file) b n p hn hp e = go (lt-or-le largestInput (length (K
     go : (largestInput < length (K ∷ file)) ⊎ (length (K ∷ file) ≤ largestInput) → RefusalShown n p
     go (inl l) = same (of-size refl refl) n p hn hp (sym (text-16 (K ∷ file) l) ∙ e)
     go (inr l) = of-file-after K file (b .1) n p hn hp (sym (text-accepted K file l) ∙ e)
+
+pub never-17 : (input : List ℕ) → Bytes input → (p : ℕ) → p < 10 ^ 20 → textOf input ≡ refusedText 17 p → ⊥
+never-17 input b p hp e = go (refusals-shown input b 17 p (omega arith) hp e)
+  where
+    go : RefusalShown 17 p → ⊥
+    go (of-judgement r) = omega (arith, judged-numbers r .1)
+    go (of-limit f h) = omega (arith, f)
+    go (of-size f h) = omega (arith, f)
+    go (of-used f h) = omega (arith, f)

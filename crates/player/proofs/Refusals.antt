@@ -2,7 +2,7 @@
 -- up to 10 comes from the judgement, since all later ones are at least 12. Assumes nothing.
 use mathlib.Core.Path.{_≡_, refl, sym, ap₂, subst, _∙_}
 use mathlib.Core.Logic.{_⊎_, inl, inr, _↔_}
-use mathlib.Core.Bool.{Bool, true, false}
+use mathlib.Core.Bool.{Bool, true, false, true≢false}
 use mathlib.Core.List.{List, [], _∷_}
 use Prim.Native.Nat.{ℕ, _≤_, _<_}
 use native.Mathlib.Omega.{arith}
@@ -21,10 +21,8 @@ use Rattle.model.proofs.Answers.{refused-same, number-is}
 use Rattle.model.proofs.PlayerNumbers.{after-numbers}
 use Rattle.model.specs.Places.{LowestUnreached, LowestUnstarted}
 use Rattle.judgement.specs.Judging.{judgedIn}
-use Rattle.judgement.specs.Refusals.{RefusalOfJudgement}
-use Rattle.judgement.specs.Refusals.RefusalOfJudgement.{of-file, of-unreached, of-unstarted}
 use Rattle.judgement.specs.Charts.{HoldsChart}
-use Rattle.judgement.proofs.Corollaries.{judged-9, judged-10, judged-result, refusals-of-judgedIn}
+use Rattle.judgement.proofs.Corollaries.{judged-numbers, judged-9, judged-10, judged-result, refusals-of-judgedIn}
 use Rattle.file_format.proofs.File.{reads-valid}
 use Rattle.player.specs.Playing.{playAnswer}
 use Rattle.player.specs.Refusals.{RefusalOfPlay}
@@ -113,13 +111,16 @@ pub play-numbers : (bs counts is ts : List ℕ) → Bytes bs → (n p : ℕ) →
 unfolding memb
 play-numbers bs counts is ts bytes n p e = go (refusals-of-play bs counts is ts bytes n p e)
   where
-    judged-number : RefusalOfJudgement n p → (1 ≤ n) × (n ≤ 10)
-    judged-number (of-file f) = (omega (arith, f .first-number), omega (arith, f .last-number))
-    judged-number (of-unreached h l) = (omega arith, omega arith)
-    judged-number (of-unstarted h l) = (omega arith, omega arith)
-
     go : RefusalOfPlay (length is) n p → ((1 ≤ n) × (n ≤ 10)) ⊎ (memb n (12 ∷ 13 ∷ 14 ∷ 15 ∷ 22 ∷ 23 ∷ 24 ∷ []) ≡ true)
-    go (of-judgement r) = inl (judged-number r)
+    go (of-judgement r) = inl (judged-numbers r)
     go (of-counts h q) = inr (rw h refl)
     go (of-lengths h q) = inr (rw h refl)
     go (of-step m l) = inr (memb-tail n 12 (13 ∷ 14 ∷ 15 ∷ 22 ∷ 23 ∷ 24 ∷ []) (memb-tail n 13 (14 ∷ 15 ∷ 22 ∷ 23 ∷ 24 ∷ []) m))
+
+pub never-17 : (bs counts is ts : List ℕ) → Bytes bs → (p : ℕ) → playAnswer bs counts is ts ≡ refused 17 p → ⊥
+unfolding memb
+never-17 bs counts is ts bytes p e = go (play-numbers bs counts is ts bytes 17 p e)
+  where
+    go : ((1 ≤ 17) × (17 ≤ 10)) ⊎ (memb 17 (12 ∷ 13 ∷ 14 ∷ 15 ∷ 22 ∷ 23 ∷ 24 ∷ []) ≡ true) → ⊥
+    go (inl h) = omega (arith, h .1)
+    go (inr h) = true≢false (sym h)

@@ -4,6 +4,7 @@ use mathlib.Core.Logic.{inl, inr}
 use mathlib.Core.Bool.{Bool, true, false}
 use mathlib.Core.List.{List}
 use Prim.Native.Nat.{ℕ}
+use native.Mathlib.Omega.{arith}
 use Rattle.model.specs.Answer.{Answer, result, refused, then, unless, nowhere}
 use Rattle.model.specs.Chart.{Chart}
 use Rattle.chart_lists.specs.Header.{headerOf}
@@ -35,3 +36,10 @@ module _ (l : Lists) (bs : List ℕ) (n p : ℕ) where
       go : (x : Answer Chart) → readInto l bs ≡ x → then x (λ c. result (headerOf c)) ≡ refused n p → RefusalOfReading n p
       go (result c) k e = absurd (result-refused refl e)
       go (refused m q) k e = let a : m ≡ n = cc in let b : q ≡ p = cc in into-refused (rw (← a, ← b) k)
+
+pub never-17 : (l : Lists) (bs : List ℕ) (p : ℕ) → readAnswer l bs ≡ refused 17 p → ⊥
+never-17 l bs p e = go (refusals-of-reading l bs 17 p e)
+  where
+    go : RefusalOfReading 17 p → ⊥
+    go (inl r) = omega (arith, r .last-number)
+    go (inr h) = omega (arith, h .0)

@@ -17,10 +17,8 @@ use Rattle.file_format.specs.Parse.{Bytes}
 use Rattle.file_format.specs.File.{chartIn, fileOf}
 use Rattle.file_format.proofs.Answers.{result-refused}
 use Rattle.judgement.specs.Judging.{judgedIn}
-use Rattle.judgement.specs.Refusals.{RefusalOfJudgement}
-use Rattle.judgement.specs.Refusals.RefusalOfJudgement.{of-file, of-unreached, of-unstarted}
 use Rattle.judgement.specs.Charts.{HoldsChart}
-use Rattle.judgement.proofs.Corollaries.{judged-9, judged-10, judged-result, judged-1-to-8, refusals-of-judgedIn}
+use Rattle.judgement.proofs.Corollaries.{judged-numbers, judged-9, judged-10, judged-result, judged-1-to-8, refusals-of-judgedIn}
 use Rattle.list_judging.proofs.Answers.{kept-refused}
 use Rattle.rewriting.specs.Rewriting.{valuesOf, rewriteInto, rewriteAnswer}
 use Rattle.rewriting.specs.Refusals.{RefusalOfRewriting, HoldsAccepted}
@@ -29,12 +27,6 @@ use Rattle.rewriting.proofs.Outcomes.{Stop, numberOf, Stops, same-stop,
 use Rattle.rewriting.proofs.Outcomes.Stop.{at-limit, at-used, at-room}
 use Rattle.rewriting.proofs.Outcomes.Outcome.{is-refused, is-stopped, is-returned}
 use Rattle.rewriting.proofs.Order.{into-refused}
-
--- the judgement's numbers are below those after it
-judgement-number : {n p : ℕ} → RefusalOfJudgement n p → n ≤ 10
-judgement-number (of-file r) = omega (arith, r .last-number)
-judgement-number (of-unreached e h) = omega arith
-judgement-number (of-unstarted e h) = omega arith
 
 stop-number : (s : Stop) → 10 < numberOf s
 stop-number at-limit = omega arith
@@ -60,6 +52,15 @@ module _ (K room : ℕ) (bs : List ℕ) where
         go e (is-refused m q f g) = let k = refused-same (sym e ∙ g) in rw (k .0, k .1) (of-judgement (refusals-of-judgedIn bs bytes m q f))
         go e (is-stopped c s f h g) = let k = refused-same (sym e ∙ g) in refusal-of-stop s (k .0) (k .1)
         go e (is-returned x g) = absurd (result-refused g e)
+
+    pub never-17 : (p : ℕ) → rewriteAnswer K room bs ≡ refused 17 p → ⊥
+    never-17 p e = go (refusals-of-rewriteAnswer 17 p e)
+      where
+        go : RefusalOfRewriting 17 p → ⊥
+        go (of-judgement r) = omega (arith, judged-numbers r .1)
+        go (of-limit f h) = omega (arith, f)
+        go (of-used f h) = omega (arith, f)
+        go (of-room f h) = omega (arith, f)
 
     -- 1 to 10 are those of the judgement
     of-judged : (n p : ℕ) → n ≤ 10 → (rewriteAnswer K room bs ≡ refused n p) ↔ (judgedIn bs ≡ refused n p)
@@ -90,7 +91,7 @@ module _ (K room : ℕ) (bs : List ℕ) where
         out : rewriteInto K room bs ≡ refused (numberOf s) nowhere → Outcome K room bs → HoldsAccepted bs (Stops K room s)
         out e (is-refused m q f g) =
             let same = refused-same (sym e ∙ g) in
-            absurd (omega (arith, stop-number s, same .0, judgement-number (refusals-of-judgedIn bs bytes m q f)))
+            absurd (omega (arith, stop-number s, same .0, judged-numbers (refusals-of-judgedIn bs bytes m q f) .1))
         out e (is-stopped c t f h g) =
             let same : t ≡ s = same-stop t s (refused-same (sym g ∙ e) .0) in
             record { chart = c; accepts = judged-result bs bytes c .0 f; has = subst (λ (u : Stop). Stops K room u c) same h }

@@ -4,6 +4,7 @@ use mathlib.Core.Path.{_≡_, refl, sym, ap, _∙_, subst}
 use mathlib.Core.Bool.{Bool, true}
 use mathlib.Core.List.{List}
 use Prim.Native.Nat.{ℕ, _≤_}
+use native.Mathlib.Omega.{arith}
 use lib.Dec.{leb}
 use lib.ListN.{length, take}
 use borrow.Author.Tests.{le-leb}
@@ -15,8 +16,11 @@ use Rattle.model.specs.Valid.{Storable}
 use Rattle.file_format.specs.File.{chartIn, fileOf}
 use Rattle.file_format.specs.Parse.{Bytes}
 use Rattle.file_format.proofs.Answers.{then-result, unless-result}
+use Rattle.file_format.specs.Lengths.{largestFile}
 use Rattle.file_format.proofs.File.{chart-survives, file-survives, reads-storable}
-use Rattle.chart_lists.specs.Lists.{Lists, allTests, listsOf, putLists, overwritten, roomFor}
+use Rattle.file_format.proofs.Lengths.{largest-file}
+use Rattle.file_format.proofs.Versions.{stored-iff, stored-as-2}
+use Rattle.chart_lists.specs.Lists.{Lists, allTests, listsOf, overwritten, roomFor}
 use Rattle.chart_lists.specs.Begins.{Begins}
 use Rattle.chart_lists.specs.Holds.{Holds}
 use Rattle.chart_lists.specs.Header.{headerOf, headerInVersion}
@@ -160,3 +164,20 @@ unfolding readAnswer
 read-then-written bs lent h by e out room = let a = kept-result (readInto lent bs) headerOf e in
     subst (λ (x : Header). WrittenBack bs x (listsAfter (readInto lent bs) lent) out) (a .2)
     (read-back-written bs lent (a .0) by (a .1) out room)
+
+-- what was read, handed to the writer as version 2: the file of the same chart in that version, whatever its version was
+pub read-then-stored-as-2 : (bs : List ℕ) (lent : Lists) (h : Header) → Bytes bs → readAnswer lent bs ≡ result h
+    → (out : List ℕ) → largestFile ≤ length out
+    → (c : Chart) × (chartIn bs ≡ result c)
+    × WrittenBack (fileOf (inVersion 2 c)) (headerInVersion 2 h) (listsAfter (readInto lent bs) lent) out
+unfolding readAnswer
+read-then-stored-as-2 bs lent h by e out room =
+    let a = kept-result (readInto lent bs) headerOf e in
+    let c = a .0 in
+    let read = read-from lent bs (a .1) in
+    let s = stored-iff bs c by read 2 .0 (stored-as-2 bs c by read) in (
+      c,
+      read,
+      subst (λ (x : Header). WrittenBack (fileOf (inVersion 2 c)) (headerInVersion 2 x) (listsAfter (readInto lent bs) lent) out) (a .2)
+          (read-then-stored-as bs lent c by (a .1) 2 s out (omega (arith, largest-file (inVersion 2 c) s))),
+    )
