@@ -58,7 +58,7 @@ typedef enum chart_refusal {
     CHART_REFUSED_NO_SUCH_TRANSITION = 14, /* a step names no transition */
     CHART_REFUSED_TIME_TOO_LARGE = 15,     /* a step's time is over CHART_MOST_TICKS */
     CHART_REFUSED_INPUT_TOO_LONG = 16,     /* by the program `allocate` alone: its input is over 65536 bytes */
-    CHART_REFUSED_CONSTANT_TOO_WIDE = 17,  /* by no call below: a constant over 65535 that is to be written as version 1 */
+    CHART_REFUSED_CONSTANT_TOO_LARGE = 17, /* by no call below: a constant over 65535 that is to be written as version 1 */
 
     /* turned down because of the state */
     CHART_REFUSED_BOARD_TOO_SMALL = 20,    /* K timers do not suffice */

@@ -332,14 +332,14 @@ write('a large constant where no test is due', (1, 1, 0, 0, 0, 0), only(8, [6553
 write('a list of events that ends after a large constant', GOOD, but(3, [5], 8, [65536, 3, 4]), 65536, 'refused 3 65535 changed 0')
 
 # 0→1 starts 0; 1→1 tests 0 at most 65,536; then the same and a third transition, whose test has code 5
-LONG = [[1], [0, 1], [1, 1], [0, 0], [1, 0], [0, 1], [0], [0], [65536]]
-LONG_8 = [[1], [0, 1, 1], [1, 1, 1], [0, 0, 0], [1, 0, 0], [0, 1, 1], [0, 0], [0, 5], [65536, 1]]
+LARGE = [[1], [0, 1], [1, 1], [0, 0], [1, 0], [0, 1], [0], [0], [65536]]
+LARGE_8 = [[1], [0, 1, 1], [1, 1, 1], [0, 0, 0], [1, 0, 0], [0, 1, 1], [0, 0], [0, 5], [65536, 1]]
 for room in (65536, 0):
-    write('at most 65,536 in version 1, room for %d bytes' % room, (1, 2, 0, 1, 1, 2), LONG, room, 'refused 17 65535 changed 0')
-write('at most 65,536 in version 2', (2, 2, 0, 1, 1, 2), LONG, 65536,
+    write('at most 65,536 in version 1, room for %d bytes' % room, (1, 2, 0, 1, 1, 2), LARGE, room, 'refused 17 65535 changed 0')
+write('at most 65,536 in version 2', (2, 2, 0, 1, 1, 2), LARGE, 65536,
       written(h('02 00000024 0002 0000 01 0001 0001 0002 0008 0000 0001 00 01 00 00 000d 0001 0001 00 00 01 00 00 00010000')))
 for version in (1, 2):
-    write('at most 65,536 in version %d, then code 5' % version, (version, 2, 0, 1, 1, 3), LONG_8, 65536, 'refused 8 2 changed 0')
+    write('at most 65,536 in version %d, then code 5' % version, (version, 2, 0, 1, 1, 3), LARGE_8, 65536, 'refused 8 2 changed 0')
 
 
 # ---- the count of changed entries itself: positions in the list of accepting locations, in those of the transitions, in those of the tests

@@ -92,7 +92,7 @@ impl Drawing {
         }
     }
 
-    /// The drawing's file. Numbers too wide for their field are cut.
+    /// The drawing's file. Numbers too large for their field are cut.
     pub fn file(&self) -> Vec<u8> {
         self.file_with(|_, length| length)
     }

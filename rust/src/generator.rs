@@ -7,9 +7,9 @@ use crate::limits::{
 };
 use crate::version::Version;
 
-/// Constants that version 1 does not hold, and the last that it does: where two bytes end and where a run's time, a
-/// count and four bytes do. Some are small if their high bytes are cut off.
-const LONG_CONSTANTS: [u32; 16] = [
+/// Large constants, which version 1 does not hold, and the last that it does: where two bytes end and where a run's
+/// time, a count and four bytes do. Some are small if their high bytes are cut off.
+const LARGE_CONSTANTS: [u32; 16] = [
     LARGEST_CONSTANT_VERSION_1,
     LARGEST_CONSTANT_VERSION_1 + 1,
     LARGEST_CONSTANT_VERSION_1 + 2,
@@ -211,25 +211,25 @@ pub fn accepted(random: &mut Random, shape: &Shape) -> Drawing {
 fn comparison(random: &mut Random, shape: &Shape) -> (u8, u32) {
     let most = if random.chance(1, 50) { shape.version.largest_constant() } else { shape.constant };
     let constant = random.between(0, u64::from(most)) as u32;
-    let long = match shape.version {
+    let large = match shape.version {
         Version::One => LARGEST_CONSTANT_VERSION_1,
-        Version::Two => random.pick(&LONG_CONSTANTS),
+        Version::Two => random.pick(&LARGE_CONSTANTS),
     };
     if shape.lenient {
-        return random.pick(&[(AT_LEAST, 0), (AT_MOST, long), (BELOW, long)]);
+        return random.pick(&[(AT_LEAST, 0), (AT_MOST, large), (BELOW, large)]);
     }
     let code = random.below(5) as u8;
-    let is_long = shape.version == Version::Two && random.chance(1, 8);
-    (code, if is_long { long } else { constant })
+    let is_large = shape.version == Version::Two && random.chance(1, 8);
+    (code, if is_large { large } else { constant })
 }
 
-/// Stores a chart as version 2 and gives about one in `whole` of its tests a constant that version 1 hardly holds or
-/// does not.
-pub fn store_long(random: &mut Random, drawing: &mut Drawing, whole: u64) {
+/// Stores a chart as version 2 and gives about one in `whole` of its tests a large constant, or the last that version 1
+/// holds.
+pub fn store_large(random: &mut Random, drawing: &mut Drawing, whole: u64) {
     drawing.version = Version::Two as u8;
     for test in drawing.transitions.iter_mut().flat_map(|transition| &mut transition.tests) {
         if random.chance(1, whole) {
-            test.2 = random.pick(&LONG_CONSTANTS);
+            test.2 = random.pick(&LARGE_CONSTANTS);
         }
     }
 }

@@ -7,7 +7,7 @@ use crate::sets::TimerSet;
 use crate::version::Version;
 
 /// The refusal of a constant that is to be written into fewer bytes than it takes.
-const CONSTANT_TOO_WIDE: Refusal = Refusal::nowhere(17);
+const CONSTANT_TOO_LARGE: Refusal = Refusal::nowhere(17);
 
 /// The chart's header, which travels beside its lists: its version, its numbers and its initial location.
 #[derive(Clone, Copy, Debug, PartialEq, Eq)]
@@ -137,7 +137,7 @@ fn judge(header: &Header, lists: &Lists) -> Answer<(Version, usize)> {
     }
     // 17 waits until all fields are judged: a later 3 to 8 counts.
     if lists.constants[..next].iter().any(|&constant| constant > version.largest_constant()) {
-        return Err(CONSTANT_TOO_WIDE);
+        return Err(CONSTANT_TOO_LARGE);
     }
     Ok((version, length))
 }

@@ -147,7 +147,8 @@ struct Calls {
     rewrite: Rewrite,
     play: Play,
     print: fn(&[u8]) -> String,
-    /// The proved library offers no writer to its callers.
+    /// The proved library offers no writer to its callers; the crate `vectors` of the repository runs these cases on the
+    /// proved writer.
     write: Option<Write>,
 }
 

@@ -323,7 +323,7 @@ fn floors_follow_the_definitions() {
 fn the_player_follows_the_definitions_and_boards_play_alike() {
     let mut random = Random::new(3);
     let drawings: Vec<Drawing> = drawings(&mut random, 2_000, 10).filter(|drawing| judged(drawing).is_ok()).collect();
-    let (mut taken, mut long) = (0, [0; 2]);
+    let (mut taken, mut large) = (0, [0; 2]);
     for drawing in &drawings {
         let planned = Planned::of(drawing);
         for _ in 0..4 {
@@ -338,11 +338,11 @@ fn the_player_follows_the_definitions_and_boards_play_alike() {
             let answer = play(&drawing.file(), &start, &steps.transitions, &steps.times);
             assert_eq!(answer, played(drawing, &start, &steps));
             taken += u64::from(answer.is_ok_and(|playing| playing.time > 0));
-            let is_long = |&transition: &u32| is_long(&drawing.transitions[transition as usize]);
+            let is_large = |&transition: &u32| is_large(&drawing.transitions[transition as usize]);
             match answer {
-                Ok(_) => long[0] += steps.transitions.iter().filter(|transition| is_long(transition)).count(),
+                Ok(_) => large[0] += steps.transitions.iter().filter(|transition| is_large(transition)).count(),
                 Err(Refusal { number: 24, place }) => {
-                    long[1] += usize::from(is_long(&steps.transitions[place as usize]))
+                    large[1] += usize::from(is_large(&steps.transitions[place as usize]))
                 }
                 Err(_) => {}
             }
@@ -354,11 +354,11 @@ fn the_player_follows_the_definitions_and_boards_play_alike() {
         }
     }
     assert!(taken > 500, "{taken}");
-    assert!(long.iter().all(|&count| count > 20), "{long:?}");
+    assert!(large.iter().all(|&count| count > 20), "{large:?}");
 }
 
-/// Whether a transition has tests, all of them with constants that version 1 does not hold.
-fn is_long(transition: &Arrow) -> bool {
+/// Whether a transition has tests, all of them with large constants: version 1 does not hold them.
+fn is_large(transition: &Arrow) -> bool {
     let constants = transition.tests.iter().map(|test| test.2);
     !transition.tests.is_empty() && constants.min() > Some(LARGEST_CONSTANT_VERSION_1)
 }
@@ -484,24 +484,24 @@ fn stored(file: &[u8], version: u8) -> Answer<Vec<u8>> {
 #[test]
 fn charts_stored_as_the_other_version_lose_nothing() {
     let mut random = Random::new(7);
-    let (mut short, mut long) = (0, 0);
+    let (mut small, mut large) = (0, 0);
     for _ in 0..1_000 {
         let shape = Shape::random(&mut random, 40);
         let drawing = accepted(&mut random, &shape);
         let file = drawing.file();
         assert_eq!(stored(&file, drawing.version), Ok(file.clone()));
-        let wide = drawing.clone().version(2).file();
-        assert_eq!(stored(&file, 2), Ok(wide.clone()));
+        let version_2 = drawing.clone().version(2).file();
+        assert_eq!(stored(&file, 2), Ok(version_2.clone()));
         let constants = drawing.transitions.iter().flat_map(|transition| &transition.tests).map(|test| test.2);
         if constants.max() > Some(LARGEST_CONSTANT_VERSION_1) {
-            assert_eq!(stored(&wide, 1), Err(Refusal { number: 17, place: NOWHERE }));
-            long += 1;
+            assert_eq!(stored(&version_2, 1), Err(Refusal { number: 17, place: NOWHERE }));
+            large += 1;
         } else {
-            assert_eq!(stored(&wide, 1), Ok(drawing.version(1).file()));
-            short += 1;
+            assert_eq!(stored(&version_2, 1), Ok(drawing.version(1).file()));
+            small += 1;
         }
     }
-    assert!(short > 200 && long > 200, "{short} {long}");
+    assert!(small > 200 && large > 200, "{small} {large}");
 }
 
 #[test]
@@ -582,10 +582,10 @@ fn lists_are_judged_in_the_order_of_the_fields() {
     assert_eq!(write(header, Lists { codes: &[0, 5], constants: &[0], ..lists }), refused(8, 2));
     assert_eq!(write(header, Lists { codes: &[0], ..lists }), refused(3, NOWHERE));
     assert_eq!(write(header, Lists { constants: &[0], ..lists }), refused(3, NOWHERE));
-    let wide = Lists { constants: &[65_536, 0], ..lists };
-    assert_eq!(write(header, wide), refused(17, NOWHERE));
-    assert_eq!(write(Header { version: 2, ..header }, wide), Ok(()));
-    assert_eq!(write(header, Lists { codes: &[0, 5], ..wide }), refused(8, 2));
+    let large = Lists { constants: &[65_536, 0], ..lists };
+    assert_eq!(write(header, large), refused(17, NOWHERE));
+    assert_eq!(write(Header { version: 2, ..header }, large), Ok(()));
+    assert_eq!(write(header, Lists { codes: &[0, 5], ..large }), refused(8, 2));
     assert_eq!(write(header, Lists { constants: &[65_536], ..lists }), refused(3, NOWHERE));
 }
 

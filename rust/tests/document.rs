@@ -536,7 +536,7 @@ fn written(version: u8, codes: &[u8], constants: &[u32], out: &mut [u8]) -> Answ
 }
 
 #[test]
-fn a_constant_too_wide_for_version_1_is_17() {
+fn a_constant_too_large_for_version_1_is_17() {
     for constant in [65_536, 65_537, 16_777_216, 4_294_967_295] {
         let mut out = [8; 60];
         assert_eq!(written(1, &[0], &[constant], &mut out), refused(17, NOWHERE));

@@ -101,25 +101,26 @@ struct Versions {
     rewritten: [u64; Version::ALL.len()],
     /// Good files of one version that are good files of the other too.
     relabelled: u64,
-    /// Steps with tests that [ask for a long count](asks_for_long): taken, and refused since the count was not.
-    long: u64,
+    /// Steps with tests that [ask for a large constant](asks_for_large): taken, and refused since the count was less.
+    large: u64,
     too_short: u64,
-    /// Steps with tests that [allow a long count](allows_long): taken, and refused since the count was longer.
+    /// Steps with tests that [allow a large constant](allows_large): taken, and refused since the count was more.
     within: u64,
     too_long: u64,
 }
 
-/// Whether a test asks for a count that has come to a constant which version 1 does not hold.
-fn asks_for_long(test: &Test) -> bool {
-    is_long(test) && matches!(test.comparison, Comparison::AtLeast | Comparison::Above | Comparison::Equal)
+/// Whether a test asks for a count that has come to a large constant.
+fn asks_for_large(test: &Test) -> bool {
+    is_large(test) && matches!(test.comparison, Comparison::AtLeast | Comparison::Above | Comparison::Equal)
 }
 
-/// Whether a test asks for a count that has not gone beyond such a constant.
-fn allows_long(test: &Test) -> bool {
-    is_long(test) && matches!(test.comparison, Comparison::AtMost | Comparison::Below)
+/// Whether a test asks for a count that has not gone beyond a large constant.
+fn allows_large(test: &Test) -> bool {
+    is_large(test) && matches!(test.comparison, Comparison::AtMost | Comparison::Below)
 }
 
-fn is_long(test: &Test) -> bool {
+/// Whether a test's constant is large: version 1 does not hold it.
+fn is_large(test: &Test) -> bool {
     test.constant > LARGEST_CONSTANT_VERSION_1
 }
 
@@ -129,8 +130,8 @@ impl Versions {
         let transition = |step: usize| &chart.transitions()[steps.transitions[step] as usize];
         for step in 0..taken {
             let tests = chart.tests(transition(step));
-            self.long += u64::from(tests.iter().any(asks_for_long));
-            self.within += u64::from(tests.iter().any(allows_long));
+            self.large += u64::from(tests.iter().any(asks_for_large));
+            self.within += u64::from(tests.iter().any(allows_large));
         }
         if refused {
             let not_met = |test: &&Test| {
@@ -140,24 +141,24 @@ impl Versions {
                 !test.comparison.met(count as u32, test.constant)
             };
             let tests: Vec<&Test> = chart.tests(transition(taken)).iter().filter(not_met).collect();
-            self.too_short += u64::from(tests.iter().any(|test| asks_for_long(test)));
-            self.too_long += u64::from(tests.iter().any(|test| allows_long(test)));
+            self.too_short += u64::from(tests.iter().any(|test| asks_for_large(test)));
+            self.too_long += u64::from(tests.iter().any(|test| allows_large(test)));
         }
     }
 
     /// Whether each came.
     fn all_came(&self) -> bool {
-        let others = [self.relabelled, self.long, self.too_short, self.within, self.too_long];
+        let others = [self.relabelled, self.large, self.too_short, self.within, self.too_long];
         self.analysed.iter().chain(&self.rewritten).chain(&others).all(|&count| count > 0)
     }
 }
 
 impl Display for Versions {
     fn fmt(&self, f: &mut Formatter<'_>) -> std::fmt::Result {
-        let Versions { analysed, rewritten, relabelled, long, too_short, within, too_long } = self;
+        let Versions { analysed, rewritten, relabelled, large, too_short, within, too_long } = self;
         let most = LARGEST_CONSTANT_VERSION_1;
         write!(f, "by version: analysed {analysed:?}, rewritten {rewritten:?}; good under either: {relabelled}; ")?;
-        write!(f, "steps with tests for a count over {most}, taken: {long}, refused, too short: {too_short}; ")?;
+        write!(f, "steps with tests for a count over {most}, taken: {large}, refused, too short: {too_short}; ")?;
         write!(f, "with tests for no more than a constant over {most}, taken: {within}, refused, too long: {too_long}")
     }
 }
@@ -399,7 +400,7 @@ impl Trial {
         };
         if random.chance(1, 4) {
             let whole = random.pick(&[1, 4, 20]);
-            store_long(random, &mut drawing, whole);
+            store_large(random, &mut drawing, whole);
         }
         if !drawing.transitions.is_empty() && random.chance(1, 4) {
             // One transition is changed: often 9 or 10 then applies, or the families are others.

@@ -196,7 +196,7 @@ fn main() {
         ("typical", typical()),
         ("largest", largest(MOST_TRANSITIONS)),
         ("longest file", longest(&mut Random::new(1), Version::One)),
-        // The same charts with constants of four bytes; the longest file has long ones.
+        // The same charts with constants of four bytes; the longest file has large ones.
         ("typical, version 2", typical().version(2)),
         ("largest, version 2", largest(MOST_TRANSITIONS).version(2)),
         ("longest file, version 2", longest(&mut Random::new(1), Version::Two)),
