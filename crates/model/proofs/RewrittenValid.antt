@@ -61,7 +61,7 @@ module _ (c : Chart) (N : Numbering) (P : Plan c N) where
             tests = k .valid;
           }
 
-  -- in a file of the version that the chart has
+  -- a file of the chart's version holds it
   pub rewritten-storable : Storable c → N .used ≤ 64 → Storable (rewrittenBy N c)
   unfolding rewrittenBy
   rewritten-storable s few = record { known = s .known; valid = rewritten-valid (widthOf (c .version)) (s .valid) few }

@@ -20,7 +20,8 @@ use Rattle.model.specs.Judge.{judged, fitted, rewriting}
 use Rattle.model.specs.Player.{arrival, answerOf, tooLarge, countsJudged, stepsOf, played}
 use Rattle.model.specs.Cases.{arrow, onEvent, test, drawn, A, B, C, selfLoop, neverStarted, restart, ownStart, twoEvents, aboveFloor, lone}
 use Rattle.model.specs.Version.{inVersion}
-use Rattle.model.specs.Cases.{B′, C′, selfLoop′, twoEvents′, longDwell, beyondCounts, longDwell′, boardNumbers, ask, Case, case, starred, unnoticed}
+use Rattle.model.specs.Cases.{B′, C′, selfLoop′, twoEvents′, longDwell, beyondCounts, longDwell′}
+use Rattle.model.specs.Cases.{boardNumbers, ask, Case, case, starred, unnoticed}
 
 pub starred-hold : map (λ (x : Case). ask (x .question)) (starred ++ unnoticed) ≡ map (λ (x : Case). x .reply) (starred ++ unnoticed)
 unfolding arrow onEvent test drawn inVersion A B C selfLoop neverStarted restart ownStart twoEvents aboveFloor
