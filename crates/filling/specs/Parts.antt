@@ -1,9 +1,8 @@
 -- What the parts of the walk ask of the lists, and what they leave in them. Assumes nothing.
 use mathlib.Core.Path.{_≡_}
-use mathlib.Core.List.{List, _++_, map}
+use mathlib.Core.List.{List, _++_}
 use Prim.Native.Nat.{ℕ, _+_, _*_, _≤_}
 use lib.ListN.{length, take, set, drop}
-use Rattle.comparison.specs.Comparison.{codeOf}
 use Rattle.model.specs.Answer.{Answer, result, unless, nowhere}
 use Rattle.model.specs.Chart.{Test, Transition}
 use Rattle.model.specs.Live.{startsSet}

@@ -10,7 +10,6 @@ use native.Mathlib.Nat.{mul-le-mul}
 use native.Mathlib.Omega.{arith}
 use lib.Dec.{leb, eqb}
 use borrow.Author.Tests.{ne-eqb, leb-true, ltb-true, lt-ltb, ltb-false, le-ltb}
-use Rattle.lists.specs.Lists.{anyOf}
 use Rattle.lists.specs.Rising.{All}
 use Rattle.lists.proofs.Bools.{and-left, and-right, same-number}
 use Rattle.lists.proofs.All.{all-have, all-as, none-passes, each-fails}
