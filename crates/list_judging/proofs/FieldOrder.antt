@@ -226,7 +226,8 @@ module _ (W : ℕ) (wide : 1 ≤ W) (narrow : W ≤ 8) (m : Header) (l : Lists) 
 
 -- ---- the file
 
-unknown-refused : (m : Header) (l : Lists) → knownVersion (m .version) ≡ false → fieldsFrom m l ≡ refused 2 nowhere
+-- 2 before all fields
+pub unknown-refused : (m : Header) (l : Lists) → knownVersion (m .version) ≡ false → fieldsFrom m l ≡ refused 2 nowhere
 unfolding fieldsFrom
 unknown-refused m l e = rw e
 
