@@ -266,7 +266,7 @@ module _ (m : Header) (l : Lists) (fits : TypedHeader m) (typed : Typed l)
           let q : largeInVersion1 c ≡ false = storable-iff c .0 s .not-refused in
           rw q
 
-  -- lists of version 1 are judged as before there was another
+  -- of version 1: as the reader of version 1 alone, as before there was another
   pub writes-as-before : m .version ≡ 1 → chartFrom m l ≡ chartInVersion1 (fileFrom m l)
   unfolding fileFrom digits
   writes-as-before e =

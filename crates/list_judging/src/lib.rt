@@ -76,7 +76,7 @@ fn judge_accepting(accepting: &[u16], locations: u16, n: u16) -> Entry
     Entry::Value(k as u64)
 }
 
-// All transitions: their sizes together.
+// All transitions: their sizes, summed up.
 fn judge_transitions(
     header: Header,
     sources: &[u16],
