@@ -8,7 +8,7 @@ use mathlib.Core.Logic.{_⊎_, inl, inr}
 use mathlib.Core.Bool.{Bool, true, false, _||_, not}
 use mathlib.Core.Option.{Option, none, some, Option·map, Option·some-injective, Option·none-ne-some}
 use mathlib.Core.List.{List, [], _∷_, _++_, append-assoc, append-nil}
-use Prim.Native.Nat.{ℕ, zero, suc, _+_, _*_, _^_, _≤_, _<_}
+use Prim.Native.Nat.{ℕ, zero, suc, _+_, _*_, _%_, _^_, _≤_, _<_}
 use native.Mathlib.Nat.{zero-add, mul-le-mul}
 use native.Mathlib.Omega.{arith}
 use lib.Dec.{leb, ltb, eqb}
@@ -24,7 +24,7 @@ use Rattle.comparison.specs.Comparison.{comparisonOf}
 use Rattle.model.specs.Answer.{Answer, result, refused, then, unless, nowhere}
 use Rattle.model.specs.Chart.{Test, Chart}
 use Rattle.model.specs.Version.{knownVersion, widthOf, largeInVersion1}
-use Rattle.model.proofs.Versions.{width-most, storable-iff}
+use Rattle.model.proofs.Versions.{width-some, width-most, storable-iff}
 use Rattle.file_format.specs.Parse.{Parsed, value, bind, guard, number, below, many, entry, rising, digits, writeAll}
 use Rattle.file_format.specs.Body.{known, readComparison, readTest, readTests, recordLength, readTransition, readTransitions}
 use Rattle.file_format.specs.Body.{readHeader, chartOf, isEnd, readBody}
@@ -32,7 +32,9 @@ use Rattle.file_format.specs.File.{Versioned, readFrame, judgeFrame, answered, 
 use Rattle.file_format.proofs.Reading.{one-cut, below-refused}
 use Rattle.file_format.proofs.Fields.{number-trip, below-trip}
 use Rattle.file_format.proofs.Body.{readChart, bind-assoc, body-is}
+use Rattle.file_format.specs.Versions.{chartInVersion1}
 use Rattle.file_format.proofs.File.{reads-storable}
+use Rattle.file_format.proofs.Versions.{reads-as-before}
 use Rattle.chart_lists.specs.Lists.{Lists}
 use Rattle.chart_lists.specs.declared.Header.{Header}
 use Rattle.list_judging.specs.FromLists.{orRefused, entryAt, acceptingFrom, testFrom, testsFrom, transitionFrom, transitionsFrom}
@@ -224,15 +226,8 @@ module _ (W : ℕ) (wide : 1 ≤ W) (narrow : W ≤ 8) (m : Header) (l : Lists) 
 
 -- ---- the file
 
-width-some : (v : ℕ) → 1 ≤ widthOf v
-unfolding widthOf
-width-some v = go (eqb v 1)
-  where
-    go : (b : Bool) → 1 ≤ elim b [ true ↦ 2 | false ↦ 4 ]
-    go true = omega arith
-    go false = omega arith
-
-unknown-refused : (m : Header) (l : Lists) → knownVersion (m .version) ≡ false → fieldsFrom m l ≡ refused 2 nowhere
+-- 2 before all fields
+pub unknown-refused : (m : Header) (l : Lists) → knownVersion (m .version) ≡ false → fieldsFrom m l ≡ refused 2 nowhere
 unfolding fieldsFrom
 unknown-refused m l e = rw e
 
@@ -270,3 +265,12 @@ module _ (m : Header) (l : Lists) (fits : TypedHeader m) (typed : Typed l)
           let s = reads-storable (fileFrom m l) c (from-bytes m l fits typed) e in
           let q : largeInVersion1 c ≡ false = storable-iff c .0 s .not-refused in
           rw q
+
+  -- of version 1: as the reader of version 1 alone, as before there was another
+  pub writes-as-before : m .version ≡ 1 → chartFrom m l ≡ chartInVersion1 (fileFrom m l)
+  unfolding fileFrom digits
+  writes-as-before e =
+      sym writer-as-reader
+      ∙ reads-as-before (fileFrom m l) (λ q.
+      let two : m .version % 256 ≡ 2 = Option·some-injective _ _ q in
+      omega (arith, two, e))

@@ -11,6 +11,7 @@ use Rattle.comparison.specs.Comparison.{codeOf}
 use Rattle.model.specs.Answer.{result}
 use Rattle.model.specs.Chart.{Test, Transition, Chart}
 use Rattle.model.specs.Live.{startsSet}
+use Rattle.model.specs.Version.{widest}
 use Rattle.chart_lists.specs.Lists.{Lists, listsOf, allTests, startsOf}
 use Rattle.chart_lists.specs.Begins.{Begins}
 use Rattle.chart_lists.specs.Holds.{Holds}
@@ -79,7 +80,7 @@ module _ (m : Header) (l : Lists) (c : Chart) (e : chartFrom m l ≡ result c) w
     pub from-holds : Holds c l
     unfolding listsOf
     from-holds = record {
-      width = 4;
+      width = widest;
       valid = from-valid l typed m c (from-fields m l c e .0);
       accepting = accepting-begin;
       sources = transitions-begin (λ r. r .source) (l .sources) (λ i k r h. h .source);

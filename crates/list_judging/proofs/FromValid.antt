@@ -8,6 +8,7 @@ use lib.ListN.{length, getElem?}
 use Rattle.lists.specs.Rising.{Rising, All}
 use Rattle.model.specs.Answer.{result}
 use Rattle.model.specs.Chart.{Test, Transition, Chart}
+use Rattle.model.specs.Version.{widest}
 use Rattle.model.specs.Valid.{ValidTest, ValidTransition, Valid, Storable}
 use Rattle.model.proofs.Versions.{storable-iff}
 use Rattle.chart_lists.specs.Lists.{Lists}
@@ -33,13 +34,13 @@ accepting-rising locations l k lo (x ∷ xs) h =
     ((a .2, a .1), accepting-rising locations l (suc k) (suc x) xs (h .1))
 
 module _ (l : Lists) (typed : Typed l) where
-  test-valid : (timers i k : ℕ) (t : Test) → testFrom l timers i k ≡ result t → ValidTest 4 timers t
+  test-valid : (timers i k : ℕ) (t : Test) → testFrom l timers i k ≡ result t → ValidTest widest timers t
   test-valid timers i k t e =
       let h = test-of l timers i k t e in
-      record { timer = h .timer-below; constant = all-nth (λ x. x < 256 ^ 4) (l .constants) k (typed .constants) (h .constant) }
+      record { timer = h .timer-below; constant = all-nth (λ x. x < 256 ^ widest) (l .constants) k (typed .constants) (h .constant) }
 
   transition-valid : (locations timers i k : ℕ) (r : Transition) → transitionFrom l locations timers i k ≡ result r
-      → ValidTransition 4 locations timers r
+      → ValidTransition widest locations timers r
   transition-valid locations timers i k r e =
       let h = transition-of l locations timers i k r e in
       record {
@@ -48,11 +49,11 @@ module _ (l : Lists) (typed : Typed l) where
         event = all-nth (λ x. x < 256) (l .events) i (typed .events) (h .event);
         starts = rw (h .starts-are) (members-below timers (h .word) (h .starts-below));
         few-tests = h .few-tests;
-        tests = each-all (testItem l timers i) noState (ValidTest 4 timers) (λ k s t. test-valid timers i k t) k 0 (r .tests)
+        tests = each-all (testItem l timers i) noState (ValidTest widest timers) (λ k s t. test-valid timers i k t) k 0 (r .tests)
             (tests-each l timers i k (length (r .tests)) (r .tests) (h .tests));
       }
 
-  pub from-valid : (m : Header) (c : Chart) → fieldsFrom m l ≡ result c → Valid 4 c
+  pub from-valid : (m : Header) (c : Chart) → fieldsFrom m l ≡ result c → Valid widest c
   from-valid m c e =
       let h = chart-of m l c e in
       record {
@@ -63,7 +64,7 @@ module _ (l : Lists) (typed : Typed l) where
         accepting = rw (h .locations) (accepting-rising (m .locations) (l .accepting) 0 0 (c .accepting) (each-accepted m l c h));
         few-transitions = omega (arith, h .few-transitions, transition-count m l c h);
         transitions = rw (h .locations, h .timers)
-            (each-all (transitionFrom l (m .locations) (m .timers)) nextTests (ValidTransition 4 (m .locations) (m .timers))
+            (each-all (transitionFrom l (m .locations) (m .timers)) nextTests (ValidTransition widest (m .locations) (m .timers))
             (transition-valid (m .locations) (m .timers)) 0 0 (c .transitions) (each-transition m l c h));
       }
 

@@ -12,7 +12,7 @@ use Rattle.comparison.specs.Comparison.{codeOf}
 use Rattle.model.specs.Answer.{result}
 use Rattle.model.specs.Chart.{Test, Transition, Chart}
 use Rattle.model.specs.Valid.{ValidTest, ValidTransition, Valid, Storable}
-use Rattle.model.specs.Version.{knownVersion}
+use Rattle.model.specs.Version.{knownVersion, widest}
 use Rattle.model.proofs.Versions.{storable-iff}
 use Rattle.model.specs.Live.{startsSet}
 use Rattle.chart_lists.specs.Lists.{Lists, listsOf, allTests, eventsOf, sourcesOf, startsOf, targetsOf, testCountsOf, timersOf}
@@ -44,7 +44,7 @@ tests-split f w k r rs b =
     )
 
 module _ (l : Lists) (locations timers : ℕ) (few : timers ≤ 64) where
-  tests-held : (i k : ℕ) (ts : List Test) → All (ValidTest 4 timers) ts
+  tests-held : (i k : ℕ) (ts : List Test) → All (ValidTest widest timers) ts
       → Begins (timersOf ts) (drop k (l .timers)) → Begins (map (λ t. codeOf (t .comparison)) ts) (drop k (l .codes))
       → Begins (map (λ t. t .constant) ts) (drop k (l .constants)) → TestsEach l timers i k ts
   tests-held i k [] v a b d = tt
@@ -67,7 +67,7 @@ module _ (l : Lists) (locations timers : ℕ) (few : timers ≤ 64) where
     codes : Begins (map (λ t. codeOf (t .comparison)) (allTests rs)) (drop k (l .codes))
     constants : Begins (map (λ t. t .constant) (allTests rs)) (drop k (l .constants))
 
-  transitions-held : (i k : ℕ) (rs : List Transition) → All (ValidTransition 4 locations timers) rs → From i k rs
+  transitions-held : (i k : ℕ) (rs : List Transition) → All (ValidTransition widest locations timers) rs → From i k rs
       → TransitionsEach l locations timers i k rs
   unfolding startsSet
   transitions-held i k [] v b = tt
@@ -106,7 +106,7 @@ module _ (l : Lists) (locations timers : ℕ) (few : timers ≤ 64) where
         }),
       )
 
-fields-held : (c : Chart) → knownVersion (c .version) ≡ true → Valid 4 c → (l : Lists) → Holds c l → fieldsFrom (headerOf c) l ≡ result c
+fields-held : (c : Chart) → knownVersion (c .version) ≡ true → Valid widest c → (l : Lists) → Holds c l → fieldsFrom (headerOf c) l ≡ result c
 unfolding listsOf headerOf
 fields-held c known v l b =
     of-chart (headerOf c) l c (record {

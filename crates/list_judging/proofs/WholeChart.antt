@@ -2,7 +2,7 @@
 -- transitions, and the judgement of all of it. What is hard is that the constants stand in one list, the tests of all transitions one after
 -- another. Assumes nothing.
 use mathlib.Core.Path.{_≡_, refl, sym, ap, _∙_}
-use mathlib.Core.Bool.{Bool, true, false, not, _||_, _&&_}
+use mathlib.Core.Bool.{Bool, not, _||_, _&&_, or-assoc}
 use mathlib.Core.List.{List, [], _∷_, _++_, map}
 use Prim.Native.Nat.{ℕ, _+_, _*_, _≤_}
 use native.Mathlib.Nat.{mul-add}
@@ -12,7 +12,7 @@ use lib.ListN.{length, length-map}
 use Rattle.lists.specs.Lists.{anyOf, sumOf}
 use Rattle.model.specs.Answer.{Answer, result, then, unless, nowhere}
 use Rattle.model.specs.Chart.{Test, Transition, Chart}
-use Rattle.model.specs.Version.{widthOf, isLarge, largeConstant, largeInVersion1}
+use Rattle.model.specs.Version.{widthOf, isLarge, largeTest, largeTransition, largeConstant, largeInVersion1}
 use Rattle.file_format.specs.Body.{recordLength}
 use Rattle.file_format.specs.File.{fileOf}
 use Rattle.file_format.specs.Lengths.{transitionLength, bodyLength, fileLength}
@@ -22,7 +22,7 @@ use Rattle.chart_lists.specs.Begins.{Begins}
 use Rattle.chart_lists.specs.declared.Header.{Header}
 use Rattle.chart_lists.proofs.Begins.{begins-take, begins-room}
 use Rattle.chart_lists.proofs.Tests.{tests-sum}
-use Rattle.list_judging.specs.FromLists.{transitionsFrom, fieldsFrom, chartFrom}
+use Rattle.list_judging.specs.FromLists.{transitionsFrom, chartWith, fieldsFrom, chartFrom}
 use Rattle.list_judging.specs.Parts.{checkHeader, checkAccepting, totalSizes, checkTransitions, largeAmong, checkChart, Sizes}
 use Rattle.list_judging.specs.Lent.{transitionLists}
 use Rattle.list_judging.proofs.Answers.{then-then, then-unless, then-known, kept-result}
@@ -35,23 +35,19 @@ module _ {A : Type 0} (f : A → Bool) where
   any-append : (xs ys : List A) → anyOf f (xs ++ ys) ≡ (anyOf f xs || anyOf f ys)
   unfolding anyOf
   any-append [] ys = refl
-  any-append (x ∷ xs) ys = rw (any-append xs ys) (assoc (f x) (anyOf f xs) (anyOf f ys))
-    where
-      assoc : (a b c : Bool) → (a || (b || c)) ≡ ((a || b) || c)
-      assoc true b c = refl
-      assoc false b c = refl
+  any-append (x ∷ xs) ys = rw (any-append xs ys) (sym (or-assoc (f x) (anyOf f xs) (anyOf f ys)))
 
 -- those of the transitions are those of all their tests
-large-tests : (ts : List Test) → anyOf (λ (t : Test). isLarge (t .constant)) ts ≡ anyOf isLarge (constantsOf ts)
+large-tests : (ts : List Test) → anyOf largeTest ts ≡ anyOf isLarge (constantsOf ts)
 unfolding anyOf
 large-tests [] = refl
 large-tests (t ∷ ts) = rw (large-tests ts)
 
-large-all : (rs : List Transition) → anyOf (λ (r : Transition). anyOf (λ (t : Test). isLarge (t .constant)) (r .tests)) rs
-    ≡ anyOf (λ (t : Test). isLarge (t .constant)) (allTests rs)
+large-all : (rs : List Transition) → anyOf largeTransition rs
+    ≡ anyOf largeTest (allTests rs)
 unfolding anyOf allTests
 large-all [] = refl
-large-all (r ∷ rs) = rw (large-all rs) (sym (any-append (λ (t : Test). isLarge (t .constant)) (r .tests) (allTests rs)))
+large-all (r ∷ rs) = rw (large-all rs) (sym (any-append largeTest (r .tests) (allTests rs)))
 
 -- the constants of transitions are the first entries of their list
 module _ (l : Lists) (locations timers n : ℕ) (rs : List Transition) (e : transitionsFrom l locations timers 0 0 n ≡ result rs) where
@@ -68,7 +64,7 @@ module _ (l : Lists) (locations timers n : ℕ) (rs : List Transition) (e : tran
   constants-room : totalSizes rs .tests ≤ length (l .constants)
   constants-room = omega (arith, constants-count, begins-room constants-begin)
 
-  large-among : anyOf (λ (r : Transition). anyOf (λ (t : Test). isLarge (t .constant)) (r .tests)) rs
+  large-among : anyOf largeTransition rs
       ≡ largeAmong (totalSizes rs .tests) (l .constants)
   unfolding largeAmong
   large-among = large-all rs ∙ large-tests (allTests rs) ∙ ap (anyOf isLarge) (sym (begins-take constants-begin constants-count))
@@ -106,25 +102,14 @@ afterFields m constants accepting z =
     (result (14 + 2 * accepting + (9 * m .transitions + z .starts + (2 + widthOf (m .version)) * z .tests)))
 
 module _ (m : Header) (l : Lists) where
-  -- the chart, when its lists are found
-  abbrev chartWith : List ℕ → List Transition → Chart
-  chartWith accepting transitions = record {
-    version = m .version;
-    locations = m .locations;
-    initial = m .initial;
-    timers = m .timers;
-    accepting = accepting;
-    transitions = transitions;
-  }
-
   after-fields : (xs : List ℕ) → then (transitionsFrom l (m .locations) (m .timers) 0 0 (m .transitions)) (λ rs.
-      unless (not (largeInVersion1 (chartWith xs rs))) 17 nowhere (result (length (fileOf (chartWith xs rs)))))
+      unless (not (largeInVersion1 (chartWith m xs rs))) 17 nowhere (result (length (fileOf (chartWith m xs rs)))))
       ≡ then (transitionsFrom l (m .locations) (m .timers) 0 0 (m .transitions)) (λ rs. afterFields m (l .constants) (length xs) (totalSizes rs))
   unfolding afterFields largeInVersion1 largeConstant
   after-fields xs = then-known (transitionsFrom l (m .locations) (m .timers) 0 0 (m .transitions)) _ _ (λ rs e.
       rw (
         large-among l (m .locations) (m .timers) (m .transitions) rs e,
-        file-length (chartWith xs rs),
+        file-length (chartWith m xs rs),
         transitions-length l (m .locations) (m .timers) 0 0 (m .transitions) rs e,
       ))
 

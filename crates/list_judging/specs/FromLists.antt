@@ -78,6 +78,17 @@ transitionsFrom l locations timers i k (suc n) =
     then (transitionsFrom l locations timers (suc i) (k + length (r .tests)) n) (λ rs.
     result (r ∷ rs)))
 
+-- the chart of a header, when what its lists describe is found
+abbrev pub chartWith : Header → (accepting : List ℕ) → (transitions : List Transition) → Chart
+chartWith m accepting transitions = record {
+  version = m .version;
+  locations = m .locations;
+  initial = m .initial;
+  timers = m .timers;
+  accepting = accepting;
+  transitions = transitions;
+}
+
 -- 2, then 3 to 8 in the order of the fields: the chart, whatever its constants are
 unfoldable pub fieldsFrom : Header → Lists → Answer Chart
 fieldsFrom m l =
@@ -89,14 +100,7 @@ fieldsFrom m l =
     then (acceptingFrom (m .locations) (l .accepting) 0 0 (m .accepting)) (λ accepting.
     unless (ltb (m .transitions) 513) 4 nowhere (
     then (transitionsFrom l (m .locations) (m .timers) 0 0 (m .transitions)) (λ transitions.
-    result (record {
-      version = m .version;
-      locations = m .locations;
-      initial = m .initial;
-      timers = m .timers;
-      accepting = accepting;
-      transitions = transitions;
-    })))))))))
+    result (chartWith m accepting transitions)))))))))
 
 -- 17 after all of these: the chart that a file of its version can hold
 unfoldable pub chartFrom : Header → Lists → Answer Chart

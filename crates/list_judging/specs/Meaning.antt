@@ -7,8 +7,8 @@ use Rattle.list_judging.specs.declared.Judged.{Judged}
 use Rattle.list_judging.specs.declared.Judged.the-variants as judged
 use Rattle.list_judging.specs.declared.entries.Entry.{Entry}
 use Rattle.list_judging.specs.declared.entries.Entry.the-variants as entry
-use Rattle.list_judging.specs.declared.transition.Record.{Record}
-use Rattle.list_judging.specs.declared.transition.Record.the-variants as recorded
+use Rattle.list_judging.specs.declared.transition.JudgedSizes.{JudgedSizes}
+use Rattle.list_judging.specs.declared.transition.JudgedSizes.the-variants as sized
 use Rattle.list_judging.specs.Parts.{Sizes}
 
 -- the length of the chart's file
@@ -21,16 +21,16 @@ abbrev pub entryAs : Entry → Answer ℕ
 entryAs (entry.Value x) = result x
 entryAs (entry.Refused f) = refusedAs f
 
--- a transition that was judged, by its sizes
-abbrev pub sizesAs : Record → Answer Sizes
-sizesAs (recorded.Found s g) = result (record { starts = s; tests = g })
-sizesAs (recorded.Refused f) = refusedAs f
+-- transitions that were judged, by their sizes
+abbrev pub sizesAs : JudgedSizes → Answer Sizes
+sizesAs (sized.Found s g) = result (record { starts = s; tests = g })
+sizesAs (sized.Refused f) = refusedAs f
 
 -- the refusal of an answer that is one; an answer that is none has none, and no caller asks for it
 abbrev pub refusalOf : Entry → Refusal
 refusalOf (entry.Refused f) = f
 refusalOf (entry.Value x) = record { number = 0; place = 0 }
 
-abbrev pub recordRefusal : Record → Refusal
-recordRefusal (recorded.Refused f) = f
-recordRefusal (recorded.Found s g) = record { number = 0; place = 0 }
+abbrev pub sizesRefusal : JudgedSizes → Refusal
+sizesRefusal (sized.Refused f) = f
+sizesRefusal (sized.Found s g) = record { number = 0; place = 0 }

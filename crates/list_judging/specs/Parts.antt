@@ -1,5 +1,5 @@
 -- The parts of a chart in lists that the code judges one after another, and what it keeps of each. That they make up `chartFrom` is
--- shown in proofs/Parts. Assumes nothing.
+-- shown in proofs/WholeChart, that the parts of a transition make it up in proofs/Parts. Assumes nothing.
 use mathlib.Core.Bool.{Bool}
 use mathlib.Core.List.{List, map}
 use Prim.Native.Nat.{ℕ}
@@ -68,14 +68,14 @@ sizesOf r = record { starts = length (r .starts); tests = length (r .tests) }
 unfoldable pub checkTransition : Lists → (locations timers i k : ℕ) → Answer Sizes
 checkTransition l locations timers i k = then (transitionFrom l locations timers i k) (λ r. result (sizesOf r))
 
--- of transitions together
+-- the sizes of transitions, summed up
 unfoldable pub totalSizes : List Transition → Sizes
 totalSizes rs = record {
   starts = sumOf (map (λ (r : Transition). length (r .starts)) rs);
   tests = sumOf (map (λ (r : Transition). length (r .tests)) rs);
 }
 
--- n transitions: their sizes together
+-- n transitions: their sizes, summed up
 unfoldable pub checkTransitions : Lists → (locations timers n : ℕ) → Answer Sizes
 checkTransitions l locations timers n = then (transitionsFrom l locations timers 0 0 n) (λ rs. result (totalSizes rs))
 

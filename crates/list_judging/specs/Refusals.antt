@@ -1,11 +1,9 @@
 -- When a chart that is to be written as version 1 has a constant that this version does not hold (document 02, P2). That 17 is given exactly then
 -- is shown in the writer's proofs/Refusals. Assumes nothing.
 use mathlib.Core.Path.{_≡_}
-use mathlib.Core.Option.{some}
-use Prim.Native.Nat.{ℕ, _<_}
-use lib.ListN.{getElem?}
 use Rattle.model.specs.Answer.{result}
-use Rattle.model.specs.Chart.{Test, Transition, Chart, Nth}
+use Rattle.model.specs.Chart.{Chart}
+use Rattle.model.specs.Version.{LargeConstant}
 use Rattle.chart_lists.specs.Lists.{Lists}
 use Rattle.chart_lists.specs.declared.Header.{Header}
 use Rattle.list_judging.specs.FromLists.{fieldsFrom}
@@ -15,10 +13,4 @@ pub record LargeInVersion1 (m : Header) (l : Lists) : Type 0 where
   pub chart : Chart
   pub is : fieldsFrom m l ≡ result chart
   pub version : chart .version ≡ 1
-  pub number : ℕ
-  pub transition : Transition
-  pub is-nth : Nth chart number transition
-  pub place : ℕ
-  pub test : Test
-  pub is-test : getElem? (transition .tests) place ≡ some test
-  pub over : 65535 < test .constant
+  pub large : LargeConstant chart

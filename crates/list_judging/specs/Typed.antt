@@ -1,6 +1,7 @@
 -- A header and lists whose entries have the widths that the code gives them. Assumes nothing.
 use Prim.Native.Nat.{_<_, _^_}
 use Rattle.lists.specs.Rising.{All}
+use Rattle.model.specs.Version.{widest}
 use Rattle.chart_lists.specs.Lists.{Lists}
 use Rattle.chart_lists.specs.declared.Header.{Header}
 
@@ -14,7 +15,7 @@ pub record Typed (l : Lists) : Type 0 where
   pub test-counts : All (λ x. x < 256) (l .test-counts)
   pub timers : All (λ x. x < 256) (l .timers)
   pub codes : All (λ x. x < 256) (l .codes)
-  pub constants : All (λ x. x < 256 ^ 4) (l .constants)
+  pub constants : All (λ x. x < 256 ^ widest) (l .constants)
 
 -- the version and the number of timers are bytes, the others have two
 pub record TypedHeader (m : Header) : Type 0 where

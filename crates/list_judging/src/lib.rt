@@ -1,4 +1,4 @@
-// Judges a chart that stands in lists (docs/LISTS.md), all of it and in the order of the file's fields.
+// Judges a chart that stands in lists (docs/LISTS.md), all of it: the version, then the fields in the file's order, then 17.
 ghost use mathlib.Core.Path.{_≡_};
 ghost use mathlib.Core.Bool.{_&&_};
 ghost use Prim.Native.Nat.{_+_, _*_, _≤_, _<_};
@@ -17,9 +17,9 @@ use crate::entries::Entry;
 use crate::entries::below;
 use crate::entries::pair_at;
 use crate::entries::refusal_of;
-use crate::transition::Record;
+use crate::transition::JudgedSizes;
 use crate::transition::judge_transition;
-use crate::transition::record_refusal;
+use crate::transition::sizes_refusal;
 use chart_lists::Header;
 use refusal::Refusal;
 
@@ -76,7 +76,7 @@ fn judge_accepting(accepting: &[u16], locations: u16, n: u16) -> Entry
     Entry::Value(k as u64)
 }
 
-// All transitions: their sizes together.
+// All transitions: their sizes, summed up.
 fn judge_transitions(
     header: Header,
     sources: &[u16],
@@ -87,7 +87,7 @@ fn judge_transitions(
     timers: &[u8],
     codes: &[u8],
     constants: &[u32],
-) -> Record
+) -> JudgedSizes
     ensures { λ r. ⌜ sizesAs r
         ≡ checkTransitions (transitionsAtEntry sources targets events starts «test_counts» timers codes constants)
         (header .locations) (header .timers) (header .transitions) ⌝ }
@@ -110,7 +110,7 @@ fn judge_transitions(
             i,
             k,
         );
-        let Record::Found {
+        let JudgedSizes::Found {
             starts: s,
             tests: g,
         } = a
@@ -121,7 +121,7 @@ fn judge_transitions(
         k += g as usize;
         i += 1;
     }
-    Record::Found {
+    JudgedSizes::Found {
         starts: started,
         tests: k as u64,
     }
@@ -137,7 +137,7 @@ fn too_large(version: u8, constants: &[u32], n: usize) -> bool
     }
     let mut k: usize = 0;
     while k < n {
-        if constants[k] > 65535 {
+        if constants[k] > file_format::MOST_IN_VERSION_1 {
             return true;
         }
         k += 1;
@@ -192,12 +192,12 @@ pub fn judge(
         codes,
         constants,
     );
-    let Record::Found {
+    let JudgedSizes::Found {
         starts: started,
         tests,
     } = d
     else {
-        return Judged::Refused(record_refusal(d));
+        return Judged::Refused(sizes_refusal(d));
     };
     if too_large(header.version, constants, tests as usize) {
         return Judged::Refused(refusal::CONSTANT_TOO_LARGE);

@@ -3,7 +3,7 @@ ghost use mathlib.Core.Path.{_≡_};
 ghost use Prim.Native.Nat.{_≤_, _<_};
 ghost use Rattle.list_judging.specs.Parts.{checkCode, checkTest, checkTests, checkCount};
 ghost use Rattle.list_judging.specs.Parts.{checkEnds, checkStarts, checkTransition};
-ghost use Rattle.list_judging.specs.Meaning.{entryAs, sizesAs, recordRefusal};
+ghost use Rattle.list_judging.specs.Meaning.{entryAs, sizesAs, sizesRefusal};
 ghost use Rattle.list_judging.specs.Lent.{transitionsAtEntry, testsAtEntry};
 use crate::entries::Entry;
 use crate::entries::below;
@@ -18,18 +18,18 @@ use refusal::Refusal;
 use timer_set::TimerSet;
 
 // A transition that was judged, or several: how many timers they start and how many tests they have; or the refusal.
-pub enum Record {
+pub enum JudgedSizes {
     Found { starts: u64, tests: u64 },
     Refused(Refusal),
 }
 
 // The refusal of an answer that is one.
-pub fn record_refusal(a: Record) -> Refusal
-    ensures { λ r. ⌜ r ≡ recordRefusal a ⌝ }
+pub fn sizes_refusal(a: JudgedSizes) -> Refusal
+    ensures { λ r. ⌜ r ≡ sizesRefusal a ⌝ }
 {
     match a {
-        Record::Refused(f) => f,
-        Record::Found {
+        JudgedSizes::Refused(f) => f,
+        JudgedSizes::Found {
             starts: _,
             tests: _,
         } => Refusal {
@@ -175,7 +175,7 @@ pub fn judge_transition(
     constants: &[u32],
     i: usize,
     k: usize,
-) -> Record
+) -> JudgedSizes
     requires { ⌜ k < 4294967296 ⌝ }
     ensures { λ r. ⌜ sizesAs r
         ≡ checkTransition (transitionsAtEntry sources targets events starts «test_counts» timers codes constants)
@@ -183,17 +183,17 @@ pub fn judge_transition(
 {
     let a = judge_ends(sources, targets, events, header.locations, i);
     let Entry::Value(_) = a else {
-        return Record::Refused(refusal_of(a));
+        return JudgedSizes::Refused(refusal_of(a));
     };
     let b = judge_starts(starts, header.timers, i);
     let Entry::Value(s) = b else {
-        return Record::Refused(refusal_of(b));
+        return JudgedSizes::Refused(refusal_of(b));
     };
     let d = judge_count(test_counts, timers, codes, constants, header.timers, i, k);
     let Entry::Value(g) = d else {
-        return Record::Refused(refusal_of(d));
+        return JudgedSizes::Refused(refusal_of(d));
     };
-    Record::Found {
+    JudgedSizes::Found {
         starts: s,
         tests: g,
     }

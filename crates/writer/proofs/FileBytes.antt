@@ -14,7 +14,7 @@ use Rattle.lists.proofs.Growing.{gather-length}
 use Rattle.lists.proofs.Nth.{getD-nth}
 use Rattle.model.specs.Answer.{Answer, result}
 use Rattle.model.specs.Chart.{Test, Transition, Chart}
-use Rattle.model.specs.Version.{widthOf, largeConstant, largeInVersion1}
+use Rattle.model.specs.Version.{widthOf, widest, largeConstant, largeInVersion1}
 use Rattle.model.proofs.Versions.{tests-most, by-version, small-constants}
 use Rattle.model.proofs.Answers.{result-same}
 use Rattle.file_format.specs.Parse.{digits, writeAll}
@@ -113,19 +113,19 @@ module _ (m : Header) (l : Lists) (c : Chart) (h : ChartOf m l c) where
       omega (arith, records-length, lengths-sum W (c .transitions), h .few-transitions, transition-count m l c h, most .0, tests)
 
   -- the constants fit the width: those of version 1 are not large, and those of another have at most four bytes
-  module _ (small : largeInVersion1 c ≡ false) (wide : (k : ℕ) → getD (l .constants) k 0 < 256 ^ 4) where
+  module _ (small : largeInVersion1 c ≡ false) (wide : (k : ℕ) → getD (l .constants) k 0 < 256 ^ widest) where
     abbrev Fitting : (w : ℕ) → Type 0
     Fitting w = All (λ (r : Transition). All (λ (t : Test). t .constant < 256 ^ w) (r .tests)) (c .transitions)
 
     tests-wide : (i k : ℕ) (r : Transition) → transitionFrom l (m .locations) (m .timers) i k ≡ result r
-        → All (λ (t : Test). t .constant < 256 ^ 4) (r .tests)
+        → All (λ (t : Test). t .constant < 256 ^ widest) (r .tests)
     tests-wide i k r e =
         let x = transition-of l (m .locations) (m .timers) i k r e in
         each-all (testItem l (m .timers) i) noState _ (λ k s t q.
         rw (← getD-nth (l .constants) k 0 (test-of l (m .timers) i k t q .constant)) (wide k)) k 0 (r .tests)
         (tests-each l (m .timers) i k (length (r .tests)) (r .tests) (x .tests))
 
-    all-wide : Fitting 4
+    all-wide : Fitting widest
     all-wide = each-all (transitionFrom l (m .locations) (m .timers)) nextTests _ tests-wide 0 0 (c .transitions) (each-transition m l c h)
 
     fits-version : Fitting W
@@ -176,7 +176,7 @@ module _ (m : Header) (l : Lists) (n room : ℕ) (j : Writable m l n room) where
     records-fit = records-room m l (j .chart) writable-chart;
   }
 
-  pub writable-fit : ((k : ℕ) → getD (l .constants) k 0 < 256 ^ 4)
+  pub writable-fit : ((k : ℕ) → getD (l .constants) k 0 < 256 ^ widest)
       → Fit (widthOf (m .version)) (transitionsFrom (transitionLists l) (m .locations) (m .timers) 0 0 (m .transitions))
   writable-fit wide = records-fit m l (j .chart) writable-chart (from-fields m l (j .chart) (j .is) .1) wide
 

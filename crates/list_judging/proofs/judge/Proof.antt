@@ -7,7 +7,7 @@ use borrow.Author.Needs.{needs}
 use Rattle.model.specs.Answer.{result}
 use Rattle.list_judging.specs.Parts.{checkHeader, checkAccepting, checkTransitions}
 use Rattle.list_judging.specs.Lent.{transitionsPassed}
-use Rattle.list_judging.specs.Meaning.{refusalOf, sizesAs, recordRefusal}
+use Rattle.list_judging.specs.Meaning.{refusalOf, sizesAs, sizesRefusal}
 use Rattle.list_judging.proofs.Turns.{accepting-count, transitions-most}
 use Rattle.list_judging.proofs.Answers.{means, found, refused-by, same-refusal}
 use Rattle.list_judging.proofs.WholeChart.{sizes-room}
@@ -88,15 +88,15 @@ enum-known-d c = search needs
 enum-told-4 : tie.Need-enum-told-4
 enum-told-4 c = search needs
 
-record-refusal-requires : tie.Need-record-refusal-requires
-record-refusal-requires c κs = search needs
+sizes-refusal-requires : tie.Need-sizes-refusal-requires
+sizes-refusal-requires c κs = search needs
 
 returns-4 : tie.Need-returns-4
 returns-4 c =
     let told = c .before .enum-told4 .given .1 in
     let e = c .before .before .before in
     let k = accepted e in
-    same-refusal recordRefusal told (c .record-refusal .ensures)
+    same-refusal sizesRefusal told (c .sizes-refusal .ensures)
     ∙ sym (chart-transitions _ _ (header-in (headed k)) (accepting-in k) (search needs) (means sizesAs told (e .judge-transitions .ensures)))
 
 -- all transitions are judged
@@ -155,7 +155,7 @@ judge-spec =
     judge-transitions-requires
     enum-known-d
     enum-told-4
-    record-refusal-requires
+    sizes-refusal-requires
     returns-4
     too-large-requires
     returns-5

@@ -6,12 +6,13 @@ use lib.ListN.{getD}
 use borrow.Author.Count.{below-none, below-more}
 use borrow.Author.Needs.{needs}
 use borrow.Author.Tests.{ne-eqb}
+use Rattle.model.specs.Version.{mostInVersion1}
 use Rattle.list_judging.proofs.LargeAmong.{large-at, large-none}
 use Rattle.list_judging.proofs.too_large.Statement.{statement}
 use Rattle.list_judging.proofs.too_large.Tie as tie
 
 abbrev Inv-loop : tie.InvT-loop
-Inv-loop version constants n k₀ k = (k ≤ n) × ((j : ℕ) → j < k → getD constants j 0 ≤ 65535)
+Inv-loop version constants n k₀ k = (k ≤ n) × ((j : ℕ) → j < k → getD constants j 0 ≤ mostInVersion1)
 
 abbrev μ-loop : tie.MeasureT-loop
 μ-loop version constants n k₀ k = n - k
@@ -49,7 +50,7 @@ loop-again c =
 returns-3 : tie.Need-returns-3 Inv-loop μ-loop
 returns-3 c =
     let a = c .before .before .before .args in
-    let small : (k : ℕ) → k < a .n → getD (now (a .constants)) k 0 ≤ 65535 =
+    let small : (k : ℕ) → k < a .n → getD (now (a .constants)) k 0 ≤ mostInVersion1 =
     λ k h. c .before .loop .inv .1 k (omega (arith, c .loop-test .left)) in
     rw (c .before .before .if1 .left, large-none (now (a .constants)) (a .n) small)
 

@@ -6,7 +6,7 @@ use denote.Ref.{now}
 use native.Mathlib.Omega.{arith}
 use lib.ListN.{length, getD}
 use borrow.Author.Needs.{needs}
-use Rattle.model.specs.Version.{widthOf}
+use Rattle.model.specs.Version.{widthOf, widest}
 use Rattle.file_format.specs.File.{fileOf}
 use Rattle.chart_lists.specs.Lent.{passed}
 use Rattle.chart_lists.proofs.Fields.{fields-first, fields-next, fields-done}
@@ -29,7 +29,7 @@ room : (c : tie.After-shared-slice-known8) → let a = call c .args in
 room c = writable-room _ _ _ _ (call c .pre)
 
 -- the constants have at most four bytes
-wide : (c : tie.After-shared-slice-known9) → (k : ℕ) → getD (now (call (c .before) .args .constants)) k 0 < 256 ^ 4
+wide : (c : tie.After-shared-slice-known9) → (k : ℕ) → getD (now (call (c .before) .args .constants)) k 0 < 256 ^ widest
 wide c k = c .shared-slice-known9 .given k .fits
 
 -- the same places, from behind the front, the accepting locations and the number of transitions
