@@ -2,7 +2,7 @@
 -- version can hold exactly when 17 does not refuse it. Nothing is hard: a chart's limits but those of its constants do not speak of the width.
 -- Assumes nothing.
 use mathlib.Core.Path.{_≡_, refl, sym, subst}
-use mathlib.Core.Logic.{_⊎_, inl, inr, _↔_}
+use mathlib.Core.Logic.{_↔_}
 use mathlib.Core.Bool.{Bool, true, false, _&&_}
 use mathlib.Core.List.{List, [], _∷_}
 use Prim.Native.Nat.{ℕ, _+_, _*_, _^_, _≤_, _<_}
@@ -48,10 +48,6 @@ width-some v = by-version (λ W. 1 ≤ W) v (λ e. omega arith) (λ e. omega ari
 
 pub width-most : (v : ℕ) → widthOf v ≤ widest
 width-most v = by-version (λ W. W ≤ widest) v (λ e. omega arith) (λ e. omega arith)
-
--- two bytes or four
-pub width-cases : (v : ℕ) → (widthOf v ≡ 2) ⊎ (widthOf v ≡ 4)
-width-cases v = by-version (λ W. (W ≡ 2) ⊎ (W ≡ 4)) v (λ e. inl refl) (λ e. inr refl)
 
 -- a constant fits 32 bits
 pub width-fits : (v : ℕ) → 256 ^ widthOf v ≤ 4294967296

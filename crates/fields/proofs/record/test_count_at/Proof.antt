@@ -1,13 +1,12 @@
 -- `test_count_at` reads the number of tests, then judges the record's length and that number. Assumes nothing.
 use mathlib.Core.Path.{_≡_, sym, ap, _∙_}
 use Prim.Native.Nat.{ℕ, _+_, _*_, _≤_, _<_}
-use native.Mathlib.Nat.{mul-le-mul}
 use native.Mathlib.Omega.{arith}
 use lib.ListN.{drop}
 use denote.Ref.{now}
 use borrow.Author.Needs.{needs}
 use Rattle.model.specs.Version.{widthOf}
-use Rattle.model.proofs.Versions.{width-most}
+use Rattle.model.proofs.Versions.{tests-most}
 use Rattle.file_format.specs.Parse.{value, number}
 use Rattle.fields.specs.Meaning.{fieldAs}
 use Rattle.fields.proofs.Answers.{told}
@@ -46,26 +45,22 @@ returns c =
 width-of-requires : tie.Need-width-of-requires
 width-of-requires c κs = search needs
 
--- what one test has in bytes, times the number of tests
-product-small : (v : ℕ) {w g : ℕ} → w ≡ widthOf v → g < 256 → (2 + w) * g ≤ 1530
-product-small v {w} {g} e h =
-    let a : 2 + w ≤ 6 = omega (arith, e, width-most v) in
-    let b : g ≤ 255 = omega arith in
-    mul-le-mul a b
+-- the bytes of the tests: at most 255 of them
+few : (c : tie.After-width-of) → let g = c .before .before .a .given .0 .0 in
+    ((2 + c .width-of .result) * g ≤ 6 * 255) × (c .width-of .result ≤ 4)
+few c = tests-most _ _ 255 (c .width-of .ensures) (omega (arith, small-at (c .before)))
 
 add-if1 : tie.Need-add-if1
 add-if1 c = search needs
 
 add-if1-2 : tie.Need-add-if1-2
-add-if1-2 c = record { fits = omega (arith, c .width-of .ensures, width-most (start (c .before) .args .version)) }
+add-if1-2 c = record { fits = omega (arith, few c .1) }
 
 mul-if1 : tie.Need-mul-if1
-mul-if1 c = record { fits = omega (arith, product-small (start (c .before) .args .version) (c .width-of .ensures) (small-at (c .before))) }
+mul-if1 c = record { fits = omega (arith, few c .0) }
 
 add-if1-3 : tie.Need-add-if1-3
-add-if1-3 c =
-    let m = product-small (start (c .before) .args .version) (c .width-of .ensures) (small-at (c .before)) in
-    record { fits = omega (arith, start (c .before) .pre, m) }
+add-if1-3 c = record { fits = omega (arith, start (c .before) .pre, few c .0) }
 
 -- the width that the code has is the version's
 as-wide : (c : tie.After-width-of) → let a = start (c .before) .args in let g = c .before .before .a .given .0 .0 in

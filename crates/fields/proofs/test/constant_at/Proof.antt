@@ -1,11 +1,9 @@
 -- `constant_at` reads two bytes where the version's width is 2, and four where it is not: there is no third width. Assumes nothing.
 use mathlib.Core.Path.{_≡_, sym, _∙_, subst}
-use mathlib.Core.Logic.{_⊎_, inl, inr}
 use mathlib.Core.List.{List}
 use Prim.Native.Nat.{ℕ}
 use borrow.Author.Needs.{needs}
-use Rattle.model.specs.Version.{widthOf}
-use Rattle.model.proofs.Versions.{width-cases}
+use Rattle.model.proofs.Versions.{width-not-two}
 use Rattle.fields.specs.declared.Field.{Field}
 use Rattle.fields.specs.Meaning.{NumberAt}
 use Rattle.fields.proofs.test.constant_at.Statement.{statement}
@@ -27,16 +25,9 @@ as-many {s} {at} {r} e h = subst (λ (n : ℕ). NumberAt n s at r) e h
 returns : tie.Need-returns
 returns c = let d = c .before in as-many (sym (d .if1 .taken) ∙ d .before .width-of .ensures) (c .pair-at .ensures)
 
--- not two, so four
-four : (v w : ℕ) → w ≡ widthOf v → (w ≡ 2 → ⊥) → widthOf v ≡ 4
-four v w e h = go (width-cases v)
-  where
-    go : (widthOf v ≡ 2) ⊎ (widthOf v ≡ 4) → widthOf v ≡ 4
-    go (inl q) = absurd (h (e ∙ q))
-    go (inr q) = q
-
 returns-2 : tie.Need-returns-2
-returns-2 c = let d = c .before in as-many (sym (four _ _ (d .before .width-of .ensures) (d .if1 .left))) (c .quad-at .ensures)
+returns-2 c = let d = c .before in
+    as-many (sym (width-not-two _ (λ e. d .if1 .left (d .before .width-of .ensures ∙ e)))) (c .quad-at .ensures)
 
 pub constant-at-spec : {M : Type 1} → statement M
 constant-at-spec = tie.close (tie.spec width-of-requires pair-at-requires quad-at-requires returns returns-2)
