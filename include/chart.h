@@ -72,13 +72,18 @@ typedef enum chart_refusal {
  * searched: 1 for a chart of at most CHART_MOST_SEARCHED families, else 0; 0 with a refusal too.
  * floor: if searched is 1, the smallest number of timers in any plan that gives meeting families different numbers; else the timers live at once
  * where most are: no plan has fewer, and even the smallest may have more. In that case the program prints `seen` in place of `floor`. What families
- * and plans are: docs/SPECIFICATION.md, sections 4 and 5. Header and library belong together: an answer is written in its whole length. */
+ * and plans are: docs/SPECIFICATION.md, sections 4 and 5.
+ * rounds: how many rounds the live sets take (docs/SPECIFICATION.md, section 3). A round makes the set of every location from the sets of the round
+ * before, the first round from empty sets; the first round that changes no set is the last, and counts. At least 1 and at most the number of the
+ * chart's locations, so up to CHART_MOST_LOCATIONS; 0 with a refusal.
+ * Header and library belong together: an answer is written in its whole length. */
 typedef struct chart_analysis {
     uint64_t number;
     uint64_t place;
     uint64_t used;
     uint64_t floor;
     uint64_t searched;
+    uint64_t rounds;
 } chart_analysis;
 
 /* used: the timers of the rewritten chart, at most K. length: the bytes of its file. */
@@ -111,7 +116,8 @@ CHART_FIELD(chart_analysis, place, 8);
 CHART_FIELD(chart_analysis, used, 16);
 CHART_FIELD(chart_analysis, floor, 24);
 CHART_FIELD(chart_analysis, searched, 32);
-CHART_ASSERT(sizeof(chart_analysis) == 40, "chart_analysis");
+CHART_FIELD(chart_analysis, rounds, 40);
+CHART_ASSERT(sizeof(chart_analysis) == 48, "chart_analysis");
 CHART_FIELD(chart_rewriting, number, 0);
 CHART_FIELD(chart_rewriting, place, 8);
 CHART_FIELD(chart_rewriting, used, 16);

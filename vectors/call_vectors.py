@@ -2,7 +2,7 @@
 a run.
 
 `vectors/make` turns them into input and expected output of crates/vectors. What the program prints:
-  analysis    used U floor F searched S beyond C, then: live W W ..    (S is 1 or 0; words of locations 0 to 7 and of the last one)
+  analysis    used U floor F searched S rounds R beyond C, then: live W W ..    (S is 1 or 0; words of locations 0 to 7 and of the last one)
   rewriting   used U length N HEX next HH                    (the bytes of the new file, the last 8 if over 64, and the byte after them)
   player      location L time T accepting B                  (B is 1 or 0)
   a refusal   refused N P changed C                          (C: lent entries or bytes that are not as they were; 0 where nothing is lent)
@@ -27,8 +27,9 @@ def chart(locations, timers, arrows, initial=0, accepting=None, version=1):
 
 
 # ---- the charts of document 01
-A = chart(7, 3, [(0, 1, [0], []), (1, 2, [1], []), (2, 3, [2], [(0, AT_LEAST, 3)]), (2, 4, [2], [(1, AT_MOST, 7)]),
-                 (3, 5, [], [(1, BELOW, 9)]), (4, 5, [], [(0, EQUAL, 4)]), (5, 6, [], [(2, ABOVE, 2)])])
+ARROWS_OF_A = [(0, 1, [0], []), (1, 2, [1], []), (2, 3, [2], [(0, AT_LEAST, 3)]), (2, 4, [2], [(1, AT_MOST, 7)]),
+               (3, 5, [], [(1, BELOW, 9)]), (4, 5, [], [(0, EQUAL, 4)]), (5, 6, [], [(2, ABOVE, 2)])]
+A = chart(7, 3, ARROWS_OF_A)
 B = chart(4, 2, [(0, 1, [0], []), (1, 2, [1], [(0, AT_MOST, 2)]), (2, 3, [], [(1, AT_LEAST, 1)])])
 B_BOARD = chart(4, 1, [(0, 1, [0], []), (1, 2, [0], [(0, AT_MOST, 2)]), (2, 3, [], [(0, AT_LEAST, 1)])])
 B_2 = bytes.fromhex('02 00000034 0004 0000 02 0001 0003 0003 0008 0000 0001 00 01 00 00'
@@ -49,7 +50,6 @@ FIG_1 = chart(7, 3, [(0, 1, [0], []), (1, 2, [1], [(0, AT_LEAST, 1)]), (2, 3, [2
                      (3, 5, [], [(1, AT_MOST, 9)]), (4, 5, [], [(0, AT_MOST, 9)]), (5, 6, [], [(2, AT_MOST, 9)])])
 RESTART = chart(4, 1, [(0, 1, [0], []), (1, 2, [0], [(0, AT_MOST, 1)]), (2, 3, [], [(0, AT_MOST, 1)])])
 PARALLEL = chart(4, 1, [(0, 1, [0], []), (1, 2, [0], []), (1, 2, [], []), (2, 3, [], [(0, AT_MOST, 1)])])
-CHAIN = chart(256, 1, [(0, 1, [0], [])] + [(q, q + 1, [], []) for q in range(1, 254)] + [(254, 255, [], [(0, EQUAL, 5)])])
 # Families of timers 0 to 63 hold 0 to 63 at location 1; timer 1, started anew, holds 0 at 2 and 4; timer 0, started anew, lives at 3 beside 1 to
 # 63 and at 4 beside that 0: it gets 64
 EVERY = list(range(64))
@@ -63,6 +63,22 @@ ALL = 2 ** 64 - 1
 def dwell(*tests):
     """A version 2 file: 0→1 starts 0; then for each test of timer 0, a code and a constant, a transition 1→2."""
     return chart(3, 1, [(0, 1, [0], [])] + [(1, 2, [], [(0, code, k)]) for code, k in tests], version=2)
+
+
+# ---- rounds (document 02, P3)
+def chain(n, last):
+    """0→1 starts timer 0, each location leads to the next up to location `last`, and from there a transition to location n - 1 tests it."""
+    return [(0, 1, [0], [])] + [(q, q + 1, [], []) for q in range(1, last)] + [(last, n - 1, [], [(0, EQUAL, 5)])]
+
+
+def open_chain(n):
+    """A chain of n locations that tests the timer on its last transition."""
+    return chain(n, n - 2)
+
+
+def looped_chain(n):
+    """A chain of n locations that tests the timer on a loop at its end."""
+    return chain(n, n - 1)
 
 
 # ---- floors (document 02, P1)
@@ -97,35 +113,49 @@ def analyse(comment, file, room, lines):
     ANALYSE.append((comment, file, room, lines if isinstance(lines, list) else [lines]))
 
 
-analyse('A', A, 7, ['used 3 floor 3 searched 1 beyond 0', 'live 0 1 3 6 5 4 0'])
-analyse('A, a longer list', A, 256, ['used 3 floor 3 searched 1 beyond 0', 'live 0 1 3 6 5 4 0'])
+analyse('A', A, 7, ['used 3 floor 3 searched 1 rounds 3 beyond 0', 'live 0 1 3 6 5 4 0'])
+analyse('A, a longer list', A, 256, ['used 3 floor 3 searched 1 rounds 3 beyond 0', 'live 0 1 3 6 5 4 0'])
 analyse('A, a list one word too short', A, 6, 'refused 21 65535 changed 0')
-analyse('B', B, 4, ['used 1 floor 1 searched 1 beyond 0', 'live 0 1 2 0'])
-analyse('C', C, 6, ['used 2 floor 2 searched 1 beyond 0', 'live 0 2 3 2 1 0'])
-analyse('one location, 0→0 starting timer 0', SELF_LOOP, 1, ['used 0 floor 0 searched 1 beyond 0', 'live 0'])
+analyse('B', B, 4, ['used 1 floor 1 searched 1 rounds 2 beyond 0', 'live 0 1 2 0'])
+analyse('C', C, 6, ['used 2 floor 2 searched 1 rounds 4 beyond 0', 'live 0 2 3 2 1 0'])
+analyse('one location, 0→0 starting timer 0', SELF_LOOP, 1, ['used 0 floor 0 searched 1 rounds 1 beyond 0', 'live 0'])
 analyse('a test that no path starts', NEVER_STARTED, 2, 'refused 10 1 changed 0')
 analyse('10 comes before 21', NEVER_STARTED, 0, 'refused 10 1 changed 0')
-analyse('the chart of one location', SMALL, 1, ['used 0 floor 0 searched 1 beyond 0', 'live 0'])
-analyse('the chart of one location as version 2', SMALL_2, 1, ['used 0 floor 0 searched 1 beyond 0', 'live 0'])
+analyse('the chart of one location', SMALL, 1, ['used 0 floor 0 searched 1 rounds 1 beyond 0', 'live 0'])
+analyse('the chart of one location as version 2', SMALL_2, 1, ['used 0 floor 0 searched 1 rounds 1 beyond 0', 'live 0'])
 analyse('version 3', b'\x03' + SMALL[1:], 1, 'refused 2 65535 changed 0')
-analyse('B as version 2', B_2, 4, ['used 1 floor 1 searched 1 beyond 0', 'live 0 1 2 0'])
+analyse('B as version 2', B_2, 4, ['used 1 floor 1 searched 1 rounds 2 beyond 0', 'live 0 1 2 0'])
 analyse('B, first byte 2', B_RELABELLED, 4, 'refused 3 65535 changed 0')
-analyse('the largest constant', dwell((AT_MOST, 4294967295)), 3, ['used 1 floor 1 searched 1 beyond 0', 'live 0 1 0'])
+analyse('the largest constant', dwell((AT_MOST, 4294967295)), 3, ['used 1 floor 1 searched 1 rounds 2 beyond 0', 'live 0 1 0'])
 analyse('one byte fewer', SMALL[:-1], 1, 'refused 1 65535 changed 0')
 analyse('Fig. 1 of paper 003: active(r2) = {0,1}, active(r3) = {1,2}, active(r4) = {0,2}, active(r5) = active(r6) = {2}', FIG_1, 7,
-        ['used 3 floor 3 searched 1 beyond 0', 'live 0 1 3 6 5 4 0'])
-analyse('a restart keeps two families apart', RESTART, 4, ['used 1 floor 1 searched 1 beyond 0', 'live 0 1 1 0'])
-analyse('two parallel transitions, one of which starts the timer', PARALLEL, 4, ['used 1 floor 1 searched 1 beyond 0', 'live 0 1 1 0'])
-analyse('a chain of 256 locations', CHAIN, 256, ['used 1 floor 1 searched 1 beyond 0', 'live 0 1 1 1 1 1 1 1 0'])
-analyse('used over 64', OVER_64, 6, ['used 65 floor 64 searched 0 beyond 0', 'live 0 %d 2 %d 3 0' % (ALL, ALL)])
-analyse('floor below used', D, 5, ['used 3 floor 2 searched 1 beyond 0', 'live 0 0 5 3 6'])
-analyse('A and 17 families more, 20 in all', a_and_lone(17), 24, ['used 3 floor 3 searched 1 beyond 0', 'live 0 1 3 6 5 4 1 2 0'])
-analyse('A and 18 families more: not searched', a_and_lone(18), 25, ['used 3 floor 2 searched 0 beyond 0', 'live 0 1 3 6 5 4 1 2 0'])
+        ['used 3 floor 3 searched 1 rounds 3 beyond 0', 'live 0 1 3 6 5 4 0'])
+analyse('a restart keeps two families apart', RESTART, 4, ['used 1 floor 1 searched 1 rounds 2 beyond 0', 'live 0 1 1 0'])
+analyse('two parallel transitions, one of which starts the timer', PARALLEL, 4, ['used 1 floor 1 searched 1 rounds 3 beyond 0', 'live 0 1 1 0'])
+analyse('a chain of 256 locations', chart(256, 1, open_chain(256)), 256, ['used 1 floor 1 searched 1 rounds 255 beyond 0', 'live 0 1 1 1 1 1 1 1 0'])
+analyse('a chain of 256 locations, its transitions last to first', chart(256, 1, open_chain(256)[::-1]), 256,
+        ['used 1 floor 1 searched 1 rounds 255 beyond 0', 'live 0 1 1 1 1 1 1 1 0'])
+analyse('256 rounds: a chain with a loop at its end', chart(256, 1, looped_chain(256)), 256,
+        ['used 1 floor 1 searched 1 rounds 256 beyond 0', 'live 0 1 1 1 1 1 1 1 1'])
+analyse('256 rounds, the transitions last to first', chart(256, 1, looped_chain(256)[::-1]), 256,
+        ['used 1 floor 1 searched 1 rounds 256 beyond 0', 'live 0 1 1 1 1 1 1 1 1'])
+analyse('as many rounds as locations', chart(2, 1, looped_chain(2)), 2, ['used 1 floor 1 searched 1 rounds 2 beyond 0', 'live 0 1'])
+analyse('a chain of three locations', chart(3, 1, open_chain(3)), 3, ['used 1 floor 1 searched 1 rounds 2 beyond 0', 'live 0 1 0'])
+analyse('a chain of four locations', chart(4, 1, open_chain(4)), 4, ['used 1 floor 1 searched 1 rounds 3 beyond 0', 'live 0 1 1 0'])
+analyse('A, its transitions last to first: sweeps in place in the order of the file would be 2', chart(7, 3, ARROWS_OF_A[::-1]), 7,
+        ['used 3 floor 3 searched 1 rounds 3 beyond 0', 'live 0 1 3 6 5 4 0'])
+analyse('two locations change in one round, and one of them feeds the other: read in place, location 3 would have both timers a round too early',
+        chart(5, 2, [(0, 3, [0, 1], []), (3, 2, [], []), (2, 1, [], []), (1, 4, [], [(0, AT_LEAST, 0)]), (2, 4, [], [(1, AT_LEAST, 0)])]), 5,
+        ['used 2 floor 2 searched 1 rounds 4 beyond 0', 'live 0 1 3 3 0'])
+analyse('used over 64', OVER_64, 6, ['used 65 floor 64 searched 0 rounds 3 beyond 0', 'live 0 %d 2 %d 3 0' % (ALL, ALL)])
+analyse('floor below used', D, 5, ['used 3 floor 2 searched 1 rounds 3 beyond 0', 'live 0 0 5 3 6'])
+analyse('A and 17 families more, 20 in all', a_and_lone(17), 24, ['used 3 floor 3 searched 1 rounds 3 beyond 0', 'live 0 1 3 6 5 4 1 2 0'])
+analyse('A and 18 families more: not searched', a_and_lone(18), 25, ['used 3 floor 2 searched 0 rounds 3 beyond 0', 'live 0 1 3 6 5 4 1 2 0'])
 for n, searched in (20, 1), (21, 0):
     analyse('%d families that meet none' % n, chart(n + 2, 2, [(0, 1, [0], [])] + lone(1, n)), n + 2,
-            ['used 1 floor 1 searched %d beyond 0' % searched, 'live 0 1 2 1 2 1 2 1 0'])
+            ['used 1 floor 1 searched %d rounds 2 beyond 0' % searched, 'live 0 1 2 1 2 1 2 1 0'])
 analyse('15 families that meet none, then five that meet pairwise', LONE_THEN_FIVE, 31,
-        ['used 5 floor 5 searched 1 beyond 0', 'live 0 32 32 32 32 32 32 32 24'])
+        ['used 5 floor 5 searched 1 rounds 2 beyond 0', 'live 0 32 32 32 32 32 32 32 24'])
 analyse('location 2 is not reached', chart(4, 0, [(0, 1, [], []), (1, 3, [], []), (2, 3, [], [])]), 4, 'refused 9 2 changed 0')
 analyse('location 0 is not reached from 2', chart(3, 0, [(2, 1, [], []), (0, 1, [], [])], initial=2), 3, 'refused 9 0 changed 0')
 analyse('9 comes before 10', chart(3, 1, [(0, 1, [], [(0, AT_MOST, 1)])]), 3, 'refused 9 2 changed 0')

@@ -74,7 +74,7 @@ static void analyse(const uint8_t *file, size_t length, size_t room) {
     if (a.number != CHART_NO_REFUSAL)
         printf("refused %" PRIu64 " %" PRIu64 "\n", a.number, a.place);
     else
-        printf("used %" PRIu64 " %s %" PRIu64 "\n", a.used, a.searched ? "floor" : "seen", a.floor);
+        printf("used %" PRIu64 " %s %" PRIu64 " rounds %" PRIu64 "\n", a.used, a.searched ? "floor" : "seen", a.floor, a.rounds);
     printf("live");
     for (size_t q = 0; q < SHOWN; q++)
         printf(" %" PRIu64, live[q]);

@@ -1,4 +1,4 @@
-//! The analysis: reached, unstarted and live; families, their board numbers by first fit, used.
+//! The analysis: reached, unstarted, live with the number of rounds; families, their board numbers by first fit, used.
 
 use crate::chart::{Chart, Transition};
 use crate::floor::Floor;
@@ -9,9 +9,6 @@ use crate::sets::{LocationSet, TimerSet};
 /// One entry for each location that a chart can have; a location's byte is always inside.
 type ByLocation<T> = [T; LOCATIONS];
 
-/// The last position of an order of locations.
-const LAST: u8 = (LOCATIONS - 1) as u8;
-
 /// What the analysis returns beside the live sets.
 #[derive(Clone, Copy, Debug, PartialEq, Eq)]
 pub struct Analysis {
@@ -21,6 +18,9 @@ pub struct Analysis {
     pub floor: u64,
     /// Whether there are few enough families for the search.
     pub searched: bool,
+    /// The number of rounds in which the live sets are found, with the last one, which changes no set: at least 1, at most
+    /// the number of locations.
+    pub rounds: u64,
 }
 
 /// Analyses a chart file and writes the live set of each location to the front of `live`. Judges 1 to 10 and 21.
@@ -38,10 +38,10 @@ pub fn analyse(file: &[u8], live: &mut [u64]) -> Answer<Analysis> {
     for (entry, set) in entries.iter_mut().zip(liveness.sets()) {
         *entry = set.word();
     }
-    Ok(Analysis { used: u64::from(used), floor: u64::from(timers), searched })
+    Ok(Analysis { used: u64::from(used), floor: u64::from(timers), searched, rounds: liveness.rounds })
 }
 
-/// Judges 9 and 10 and returns the order of the locations, which the live sets are made by.
+/// Judges 9 and 10 and returns the graph that it used.
 pub fn judge(chart: &Chart) -> Answer<Graph> {
     let graph = Graph::of(chart);
     if let Some(location) = LocationSet::below(chart.locations()).lowest_beyond(&graph.reached) {
@@ -177,36 +177,36 @@ fn unstarted_sets(chart: &Chart, graph: &Graph) -> ByLocation<TimerSet> {
 pub struct Liveness {
     locations: usize,
     sets: ByLocation<TimerSet>,
+    rounds: u64,
     leaving: Grouped,
     entering: Grouped,
 }
 
 impl Liveness {
-    /// A timer is live where a test of it leaves, and backwards along transitions that do not start it.
+    /// Makes the sets in rounds (document 02, P3). Each round makes every location's set from the sets of the round
+    /// before, the first from empty ones: the timers that a transition from there tests, and those that it does not
+    /// start and that were in the set of its target. The first round that changes no set is the last, and counts.
+    ///
+    /// Sets only grow. So what a round adds comes from what the round before has added, and nothing else is looked at;
+    /// what it adds itself waits for the next round.
     pub fn of(chart: &Chart, graph: Graph) -> Self {
-        let mut sets = [TimerSet::EMPTY; LOCATIONS];
-        let mut pending = LocationSet::EMPTY;
-        for transition in chart.transitions() {
-            let source = &mut sets[usize::from(transition.source)];
-            *source = source.joined(transition.tested);
-            if !source.is_empty() {
-                pending.add(LAST - graph.position[usize::from(transition.source)]);
-            }
-        }
         let entering = Grouped::by(chart, |transition| transition.target);
-        while let Some(position) = pending.take_lowest() {
-            let location = graph.order[usize::from(LAST - position)];
-            let here = sets[usize::from(location)];
-            for transition in entering.group(chart, location) {
-                let source = &mut sets[usize::from(transition.source)];
-                let joined = source.joined(here.minus(transition.starts));
-                if joined != *source {
-                    *source = joined;
-                    pending.add(LAST - graph.position[usize::from(transition.source)]);
+        let mut sets = [TimerSet::EMPTY; LOCATIONS];
+        let (mut before, mut now) = (&mut Added::default(), &mut Added::default());
+        for transition in chart.transitions() {
+            before.add(&mut sets, transition.source, transition.tested);
+        }
+        let mut rounds = 1;
+        while before.count > 0 {
+            while let Some((location, timers)) = before.take() {
+                for transition in entering.group(chart, location) {
+                    now.add(&mut sets, transition.source, timers.minus(transition.starts));
                 }
             }
+            std::mem::swap(&mut before, &mut now);
+            rounds += 1;
         }
-        Liveness { locations: usize::from(chart.locations()), sets, leaving: graph.leaving, entering }
+        Liveness { locations: usize::from(chart.locations()), sets, rounds, leaving: graph.leaving, entering }
     }
 
     /// The live set of each location of the chart.
@@ -217,6 +217,48 @@ impl Liveness {
     /// The size of the fullest live set.
     pub fn fullest(&self) -> u32 {
         self.sets().iter().map(|set| set.len()).max().unwrap_or(0)
+    }
+}
+
+/// What a round has added to the live sets.
+struct Added {
+    /// At each location the timers that were added there.
+    timers: ByLocation<TimerSet>,
+    /// The locations where there are such timers, each once, in the first `count` entries.
+    locations: ByLocation<u8>,
+    count: usize,
+}
+
+impl Default for Added {
+    fn default() -> Self {
+        Added { timers: [TimerSet::EMPTY; LOCATIONS], locations: [0; LOCATIONS], count: 0 }
+    }
+}
+
+impl Added {
+    /// Adds to a location's set those of the timers that are not in it, and notes them.
+    #[inline]
+    fn add(&mut self, sets: &mut ByLocation<TimerSet>, location: u8, timers: TimerSet) {
+        let set = &mut sets[usize::from(location)];
+        let new = timers.minus(*set);
+        if new.is_empty() {
+            return;
+        }
+        *set = set.joined(new);
+        let added = &mut self.timers[usize::from(location)];
+        if added.is_empty() {
+            self.locations[self.count] = location;
+            self.count += 1;
+        }
+        *added = added.joined(new);
+    }
+
+    /// One of the locations with what was added there, taken out.
+    #[inline]
+    fn take(&mut self) -> Option<(u8, TimerSet)> {
+        self.count = self.count.checked_sub(1)?;
+        let location = self.locations[self.count];
+        Some((location, std::mem::take(&mut self.timers[usize::from(location)])))
     }
 }
 

@@ -84,6 +84,12 @@ impl Drawing {
         self
     }
 
+    /// The same chart with its transitions written last to first.
+    pub fn last_to_first(mut self) -> Self {
+        self.transitions.reverse();
+        self
+    }
+
     /// The bytes of a constant: two in version 1, four in version 2 and in those that there are not.
     fn width(&self) -> usize {
         match self.version {
@@ -201,7 +207,7 @@ pub fn over_floor() -> Drawing {
 
 /// So many transitions one after the other from a location where timer 0 was started: each tests the one of timers 0 and
 /// 1 that the transition before it has started, and starts the other. That is a family each, and none meets another.
-fn chain(from: u16, transitions: u16) -> Vec<Arrow> {
+fn alternating(from: u16, transitions: u16) -> Vec<Arrow> {
     let arrow = |index: u16| {
         let (tested, started) = if index.is_multiple_of(2) { (0, 1) } else { (1, 0) };
         Arrow::new(from + index, from + index + 1).tests(tested, AT_LEAST, 0).starts(&[started])
@@ -212,7 +218,7 @@ fn chain(from: u16, transitions: u16) -> Vec<Arrow> {
 /// So many families that meet none.
 pub fn lone_families(count: u16) -> Drawing {
     let mut transitions = vec![Arrow::new(0, 1).starts(&[0])];
-    transitions.extend(chain(1, count));
+    transitions.extend(alternating(1, count));
     Drawing::new(count + 2, 2, transitions)
 }
 
@@ -220,8 +226,31 @@ pub fn lone_families(count: u16) -> Drawing {
 pub fn chart_a_continued(count: u16) -> Drawing {
     let mut transitions = chart_a().transitions;
     transitions[6].starts = vec![0];
-    transitions.extend(chain(6, count));
+    transitions.extend(alternating(6, count));
     Drawing::new(7 + count, 3, transitions)
+}
+
+/// A row of so many locations, at least 2, each of which leads to the next; 0→1 starts 0.
+fn row(locations: u16) -> Vec<Arrow> {
+    let mut transitions: Vec<Arrow> = (1..locations).map(|target| Arrow::new(target - 1, target)).collect();
+    transitions[0].starts = vec![0];
+    transitions
+}
+
+/// A chain of so many locations, at least 3: 0→1 starts 0, the last transition tests it. Its live sets take one round
+/// fewer than it has locations.
+pub fn chain(locations: u16) -> Drawing {
+    let mut transitions = row(locations - 1);
+    transitions.push(Arrow::new(locations - 2, locations - 1).tests(0, AT_LEAST, 1));
+    Drawing::new(locations, 1, transitions)
+}
+
+/// A chain of so many locations, at least 2, with a loop at its end: 0→1 starts 0, the loop tests it. Its live sets
+/// take as many rounds as it has locations; no accepted chart of as many locations takes more.
+pub fn looped_chain(locations: u16) -> Drawing {
+    let mut transitions = row(locations);
+    transitions.push(Arrow::new(locations - 1, locations - 1).tests(0, AT_LEAST, 1));
+    Drawing::new(locations, 1, transitions)
 }
 
 /// The chart of one location and nothing else, 14 bytes; no location accepts.

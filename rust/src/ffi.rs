@@ -9,6 +9,7 @@ pub struct ChartAnalysis {
     pub used: u64,
     pub floor: u64,
     pub searched: u64,
+    pub rounds: u64,
 }
 
 #[repr(C)]

@@ -1,6 +1,6 @@
 //! Random charts, damaged files and step lists from a seed. For tests and measurements.
 
-use crate::drawing::{Arrow, Drawing, AT_LEAST, AT_MOST, BELOW};
+use crate::drawing::{chain, looped_chain, Arrow, Drawing, AT_LEAST, AT_MOST, BELOW};
 use crate::limits::{
     LARGEST_CONSTANT_VERSION_1, MOST_LOCATIONS, MOST_STARTS, MOST_TESTS, MOST_TICKS, MOST_TIMERS, MOST_TRANSITIONS,
     TIMERS,
@@ -429,6 +429,37 @@ fn few_timers(random: &mut Random, families: usize, sets: &[Vec<usize>]) -> Vec<
         timers[family] = (0..MOST_TIMERS).find(|&timer| !held(timer));
     }
     timers.into_iter().flatten().collect()
+}
+
+/// A [`chain`] or [`looped_chain`] of some length, with more timers, which 0→1 starts too and of which each is tested at
+/// most once, with a few transitions more, and all transitions in some order. Its live sets often take many rounds.
+pub fn random_chain(random: &mut Random) -> Drawing {
+    let locations = random.between(3, u64::from(MOST_LOCATIONS)) as u16;
+    let locations = random.pick(&[locations, locations, MOST_LOCATIONS]);
+    let mut drawing = random.pick(&[chain as fn(u16) -> Drawing, looped_chain])(locations);
+    drawing.timers = random.pick(&[1, 2, 8, MOST_TIMERS]);
+    drawing.transitions[0].starts = (0..drawing.timers).collect();
+    let last = drawing.transitions.len() as u64 - 1;
+    for timer in 1..drawing.timers {
+        let tests = &mut drawing.transitions[random.between(1, last) as usize].tests;
+        if tests.len() < usize::from(MOST_TESTS) {
+            tests.push((timer, AT_LEAST, 0));
+        }
+    }
+    for _ in 0..random.pick(&[0, 0, 1, 5]) {
+        let source = random.between(1, u64::from(locations) - 1) as u16;
+        let target = random.below(u64::from(locations)) as u16;
+        let started = random.below(u64::from(drawing.timers)) as u8;
+        drawing.transitions.push(Arrow::new(source, target).starts(&[started]));
+    }
+    match random.below(3) {
+        0 => drawing,
+        1 => drawing.last_to_first(),
+        _ => {
+            random.shuffle(&mut drawing.transitions);
+            drawing
+        }
+    }
 }
 
 /// The longest file of a version that passes 1 to 10, 54,254 bytes in version 1 and 62,430 in version 2: all limits are

@@ -7,7 +7,7 @@
 //! - [`version`]: the versions of a file, and the bytes of a constant in each;
 //! - [`chart`]: the chart, its reader (refusals 1 to 8) and its writer;
 //! - [`lists`]: the same reader and writer over lent lists;
-//! - [`analysis`]: reached, unstarted and live; families, their board numbers, used;
+//! - [`analysis`]: reached, unstarted, live with the number of rounds; families, their board numbers, used;
 //! - [`floor`]: the fewest timers of any plan, or the fullest live set;
 //! - [`rewriting`]: the chart's file for a board of K timers;
 //! - [`player`]: a step list, played on a file;

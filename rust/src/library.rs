@@ -23,8 +23,8 @@ fn answer<T>(number: u64, place: u64, result: T) -> Answer<T> {
 pub fn analyse(file: &[u8], live: &mut [u64]) -> Answer<Analysis> {
     // SAFETY: both slices are valid for their lengths during the call, and `live` is lent to it alone.
     let answered = unsafe { ffi::chart_analyse(file.as_ptr(), file.len(), live.as_mut_ptr(), live.len()) };
-    let ffi::ChartAnalysis { number, place, used, floor, searched } = answered;
-    answer(number, place, Analysis { used, floor, searched: searched != 0 })
+    let ffi::ChartAnalysis { number, place, used, floor, searched, rounds } = answered;
+    answer(number, place, Analysis { used, floor, searched: searched != 0, rounds })
 }
 
 /// [`crate::rewriting::rewrite`] by the proved library.
@@ -52,4 +52,20 @@ pub fn play(file: &[u8], counts: &[u32], transitions: &[u32], times: &[u64]) -> 
     };
     let ffi::ChartPlaying { number, place, location, time, accepting } = answered;
     answer(number, place, Playing { location, time, accepting: accepting != 0 })
+}
+
+#[cfg(test)]
+mod tests {
+    use super::ffi;
+    use crate::drawing::chart_a;
+
+    #[test]
+    fn the_figures_of_a_refused_analysis_are_0() {
+        for (file, number) in [(chart_a().file(), 21), (Vec::new(), 1)] {
+            // SAFETY: the file is valid for its length during the call, and the lent list has no entries.
+            let answered = unsafe { ffi::chart_analyse(file.as_ptr(), file.len(), std::ptr::null_mut(), 0) };
+            let ffi::ChartAnalysis { used, floor, searched, rounds, .. } = answered;
+            assert_eq!((answered.number, [used, floor, searched, rounds]), (number, [0; 4]));
+        }
+    }
 }

@@ -12,8 +12,8 @@ use timing_chart::player::{self, Playing};
 use timing_chart::rewriting::{self, Rewriting};
 use timing_chart::{Answer, Refusal};
 
-/// The cases that hold now, and how many there are in each file.
-const CASES: [(&str, usize); 2] = [("p01.jsonl", 48), ("p02.jsonl", 125)];
+/// The cases that hold now: of each file how many there are, and how many of them expect a number of rounds.
+const CASES: [(&str, usize, usize); 3] = [("p01.jsonl", 48, 0), ("p02.jsonl", 125, 0), ("p03.jsonl", 52, 52)];
 
 /// JSON as the cases have it: whole numbers, and texts with no escape but `\n`.
 #[derive(Clone, Debug, PartialEq)]
@@ -124,6 +124,14 @@ impl Json {
         self.list(name).iter().map(|entry| number(entry).expect("a number of the call's type")).collect()
     }
 
+    /// The number of rounds that a case of the analysis expects; none in the cases from before it was asked for.
+    fn rounds(&self) -> Option<u64> {
+        match self.get("answer") {
+            Some(answer @ Json::Object(entries)) if entries.contains_key("rounds") => Some(answer.number("rounds")),
+            _ => None,
+        }
+    }
+
     /// The answer that a case expects: a refusal, or what is made of its answer.
     fn expected<T>(&self, answer: impl FnOnce(&Json) -> T) -> Answer<T> {
         match self.get("refused") {
@@ -183,10 +191,12 @@ impl Calls {
             _ => panic!("no word: {entry:?}"),
         };
         let mut words = Vec::new();
-        let expected = case.expected(|answer| {
-            words.extend(answer.list("live").iter().map(word));
-            let (used, floor) = (answer.number("used"), answer.number("floor"));
-            Analysis { used, floor, searched: answer.is("searched") }
+        let expected = case.expected(|expected| {
+            words.extend(expected.list("live").iter().map(word));
+            let (used, floor) = (expected.number("used"), expected.number("floor"));
+            // A number that the case does not give is not compared.
+            let rounds = case.rounds().unwrap_or(answer.map_or(0, |analysis| analysis.rounds));
+            Analysis { used, floor, searched: expected.is("searched"), rounds }
         });
         words.resize(LOCATIONS, 77);
         assert_eq!((answer, live.to_vec()), (expected, words));
@@ -217,13 +227,15 @@ impl Calls {
     }
 
     fn check_all(&self) {
-        for (name, count) in CASES {
+        for (name, count, with_rounds) in CASES {
             let path = format!("{}/../tests/cases/{name}", env!("CARGO_MANIFEST_DIR"));
             let text = std::fs::read_to_string(&path).expect(&path);
-            assert_eq!(text.lines().count(), count);
-            for (index, line) in text.lines().enumerate() {
+            let cases: Vec<Json> = text.lines().map(Json::read).collect();
+            assert_eq!(cases.len(), count);
+            assert_eq!(cases.iter().filter(|case| case.rounds().is_some()).count(), with_rounds);
+            for (index, case) in cases.iter().enumerate() {
                 println!("{name}, line {}", index + 1);
-                self.check(&Json::read(line));
+                self.check(case);
             }
         }
     }

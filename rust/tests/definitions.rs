@@ -8,7 +8,8 @@ use timing_chart::chart::Chart;
 use timing_chart::drawing::{chart_a, chart_b, chart_c, over_floor, Arrow, Drawing};
 use timing_chart::generator::*;
 use timing_chart::limits::{
-    LARGEST_CONSTANT_VERSION_1, LARGEST_FILE, LOCATIONS, MOST_SEARCHED, MOST_TESTS, MOST_TICKS, TRANSITIONS,
+    LARGEST_CONSTANT_VERSION_1, LARGEST_FILE, LOCATIONS, MOST_LOCATIONS, MOST_SEARCHED, MOST_TESTS, MOST_TICKS,
+    TRANSITIONS,
 };
 use timing_chart::lists::{self, Header, LentLists, Lists};
 use timing_chart::player::{play, Playing};
@@ -52,6 +53,26 @@ fn is_live(drawing: &Drawing, location: u16, timer: u8) -> bool {
         .transitions
         .iter()
         .any(|transition| before_a_start.contains(&transition.source) && transition.is_test(timer))
+}
+
+/// The live sets as words, made in rounds: each makes all locations' sets from those of the round before, the first
+/// from empty ones, and the first that changes no set is the last. With the number of rounds.
+fn in_rounds(drawing: &Drawing) -> (Vec<u64>, u64) {
+    let mut before = vec![0; usize::from(drawing.locations)];
+    let mut rounds = 0;
+    loop {
+        let mut sets = vec![0; usize::from(drawing.locations)];
+        for transition in &drawing.transitions {
+            let tested = transition.tests.iter().fold(0, |word, test| word | 1 << test.0);
+            let started = transition.starts.iter().fold(0, |word, timer| word | 1 << timer);
+            sets[usize::from(transition.source)] |= tested | before[usize::from(transition.target)] & !started;
+        }
+        rounds += 1;
+        if sets == before {
+            return (sets, rounds);
+        }
+        before = sets;
+    }
 }
 
 /// A pair of a location and a timer, ordered as 64 times the location plus the timer.
@@ -250,7 +271,9 @@ fn check_analysis_and_rewriting(random: &mut Random, drawing: &Drawing) -> Optio
     let mut sets = planned.live_sets(drawing);
     let (floor, searched) = planned.floor(drawing);
     let used = planned.used();
-    assert_eq!(analyse(&file, &mut live), Ok(Analysis { used: used as u64, floor, searched }));
+    let (sets_in_rounds, rounds) = in_rounds(drawing);
+    assert_eq!(sets_in_rounds, sets);
+    assert_eq!(analyse(&file, &mut live), Ok(Analysis { used: used as u64, floor, searched, rounds }));
     sets.extend([5, 5]);
     assert_eq!(live, sets);
     let k = random.below(65) as u32;
@@ -317,6 +340,25 @@ fn floors_follow_the_definitions() {
         }
     }
     assert!(above_fullest > 0 && below_used > 0);
+}
+
+#[test]
+fn rounds_follow_the_definitions() {
+    let mut random = Random::new(9);
+    let mut drawings: Vec<Drawing> = (0..200).map(|_| random_chain(&mut random)).collect();
+    for _ in 0..200 {
+        let shape = Shape::random(&mut random, MOST_LOCATIONS);
+        drawings.push(accepted(&mut random, &shape));
+    }
+    let mut numbers = BTreeSet::new();
+    for drawing in &drawings {
+        let mut live = vec![5; usize::from(drawing.locations)];
+        let answer = analyse(&drawing.file(), &mut live).expect("a chart that is accepted");
+        assert_eq!((live, answer.rounds), in_rounds(drawing));
+        assert!(answer.rounds <= u64::from(drawing.locations));
+        numbers.insert(answer.rounds);
+    }
+    assert!([1, 2, 256].iter().all(|rounds| numbers.contains(rounds)) && numbers.len() > 50, "{numbers:?}");
 }
 
 #[test]

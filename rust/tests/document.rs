@@ -28,13 +28,13 @@ fn live_of(file: &[u8]) -> (Vec<Vec<u8>>, Analysis) {
 }
 
 /// The figures where the floor is searched.
-fn searched(used: u64, floor: u64) -> Analysis {
-    Analysis { used, floor, searched: true }
+fn searched(used: u64, floor: u64, rounds: u64) -> Analysis {
+    Analysis { used, floor, searched: true, rounds }
 }
 
 /// The figures where there are too many families for that.
-fn seen(used: u64, floor: u64) -> Analysis {
-    Analysis { used, floor, searched: false }
+fn seen(used: u64, floor: u64, rounds: u64) -> Analysis {
+    Analysis { used, floor, searched: false, rounds }
 }
 
 /// The families' numbers with their board numbers, by rising number.
@@ -68,7 +68,7 @@ fn read(file: &[u8]) -> Answer<()> {
 fn chart_a_is_analysed() {
     let (live, answer) = live_of(&chart_a().file());
     assert_eq!(live, [vec![], vec![0], vec![0, 1], vec![1, 2], vec![0, 2], vec![2], vec![]]);
-    assert_eq!(answer, searched(3, 3));
+    assert_eq!(answer, searched(3, 3, 3));
     assert_eq!(families(&chart_a()), [(64, 0), (129, 1), (194, 2)]);
 }
 
@@ -85,7 +85,7 @@ fn chart_b_shares_one_timer() {
     expected.transitions[1] = Arrow::new(1, 2).tests(0, AT_MOST, 2).starts(&[0]);
     expected.transitions[2] = Arrow::new(2, 3).tests(0, AT_LEAST, 1);
     assert_eq!(rewritten(&chart_b(), 16), Ok(expected.file()));
-    assert_eq!(live_of(&chart_b().file()).1, searched(1, 1));
+    assert_eq!(live_of(&chart_b().file()).1, searched(1, 1, 2));
 }
 
 #[test]
@@ -111,7 +111,7 @@ fn a_start_that_is_not_born_is_left_out() {
     expected.timers = 0;
     expected.transitions[0].starts.clear();
     assert_eq!(rewritten(&self_loop(), 0), Ok(expected.file()));
-    assert_eq!(live_of(&self_loop().file()), (vec![vec![]], searched(0, 0)));
+    assert_eq!(live_of(&self_loop().file()), (vec![vec![]], searched(0, 0, 1)));
 }
 
 #[test]
@@ -687,7 +687,7 @@ fn lent_memory_is_untouched_on_a_refusal_and_beyond_the_result() {
     let mut live = [77; 9];
     assert_eq!(analyse(&file, &mut live[..6]), refused(21, NOWHERE));
     assert_eq!(live, [77; 9]);
-    assert_eq!(analyse(&file, &mut live), Ok(searched(3, 3)));
+    assert_eq!(analyse(&file, &mut live), Ok(searched(3, 3, 3)));
     assert_eq!(live, [0, 1, 3, 6, 5, 4, 0, 77, 77]);
 
     // The room that is needed is the rewritten file's, which here is shorter than the drawn one's.
@@ -733,7 +733,7 @@ fn starts_are_sorted_by_board_number() {
 #[test]
 fn the_floor_may_be_below_used() {
     assert_eq!(families(&over_floor()), [(128, 0), (130, 1), (192, 0), (193, 2)]);
-    assert_eq!(live_of(&over_floor().file()).1, searched(3, 2));
+    assert_eq!(live_of(&over_floor().file()).1, searched(3, 2, 3));
     assert_eq!(rewritten(&over_floor(), 2), refused(20, NOWHERE));
     assert!(rewritten(&over_floor(), 3).is_ok());
 }
@@ -741,53 +741,92 @@ fn the_floor_may_be_below_used() {
 #[test]
 fn the_floor_is_searched_up_to_20_families() {
     let figures = |drawing: Drawing| live_of(&drawing.file()).1;
-    assert_eq!(figures(one_location()), searched(0, 0));
+    assert_eq!(figures(one_location()), searched(0, 0, 1));
     for count in [1, 19, 20] {
-        assert_eq!(figures(lone_families(count)), searched(1, 1));
+        assert_eq!(figures(lone_families(count)), searched(1, 1, 2));
     }
-    assert_eq!(figures(lone_families(21)), seen(1, 1));
+    assert_eq!(figures(lone_families(21)), seen(1, 1, 2));
     assert_eq!(families(&chart_a_continued(17)).len(), 20);
-    assert_eq!(figures(chart_a_continued(17)), searched(3, 3));
+    assert_eq!(figures(chart_a_continued(17)), searched(3, 3, 3));
     assert_eq!(families(&chart_a_continued(18)).len(), 21);
-    assert_eq!(figures(chart_a_continued(18)), seen(3, 2));
+    assert_eq!(figures(chart_a_continued(18)), seen(3, 2, 3));
 }
 
 #[test]
 fn floors_above_the_fullest_set() {
+    // In these charts every timer is tested wherever it is live: the second round changes nothing.
     // Families that meet pairwise, but nowhere more than two at once; fifteen that meet none come before them.
     let lone_then_five = pairs(20, |a, _| a >= 15);
     let figures = |timers: &[u8], sets: &[Vec<usize>]| live_of(&meetings(timers, sets).file()).1;
     let timers: Vec<u8> = (0..21).map(|family: u8| family.saturating_sub(15)).collect();
-    assert_eq!(figures(&timers[..20], &lone_then_five), searched(5, 5));
-    assert_eq!(figures(&timers, &lone_then_five), seen(5, 2));
+    assert_eq!(figures(&timers[..20], &lone_then_five), searched(5, 5, 2));
+    assert_eq!(figures(&timers, &lone_then_five), seen(5, 2, 2));
     // Circles: two timers suffice for an even one.
     let all: Vec<u8> = (0..20).collect();
     for count in 3..=20 {
         let circle = pairs(count, |a, b| b == a + 1 || b + 1 == a + count);
         let used = if count.is_multiple_of(2) { 2 } else { 3 };
-        assert_eq!(figures(&all[..count], &circle), searched(used, used));
+        assert_eq!(figures(&all[..count], &circle), searched(used, used, 2));
     }
     // All of twenty meet.
-    assert_eq!(figures(&all, &pairs(20, |_, _| true)), searched(20, 20));
+    assert_eq!(figures(&all, &pairs(20, |_, _| true)), searched(20, 20, 2));
     // Two rows of ten, each family meets all of the other row but the one across: first fit takes a timer for each
     // column, and two suffice, one for each row.
     let rows = pairs(20, |a, b| a % 2 != b % 2 && a / 2 != b / 2);
-    assert_eq!(figures(&all, &rows), searched(10, 2));
+    assert_eq!(figures(&all, &rows), searched(10, 2, 2));
     assert_eq!(live_of(&five_groups().file()).1.floor, 10);
-    assert_eq!(live_of(&hardest_floor().file()).1, searched(10, 10));
+    assert_eq!(live_of(&hardest_floor().file()).1, searched(10, 10, 2));
+}
+
+#[test]
+fn rounds_of_the_live_sets() {
+    // The order of the transitions in the file does not matter. (For A written last to first, sweeps that read what they
+    // have changed already would end after 2.)
+    let rounds = |drawing: Drawing| {
+        let rounds = live_of(&drawing.file()).1.rounds;
+        assert_eq!(live_of(&drawing.last_to_first().file()).1.rounds, rounds);
+        rounds
+    };
+    assert_eq!(rounds(chart_a()), 3);
+    assert_eq!(rounds(chart_a().version(2)), 3);
+    assert_eq!(rounds(chart_b()), 2);
+    assert_eq!(rounds(chart_c()), 4);
+    // Nothing is tested: the first round changes nothing, and counts.
+    assert_eq!(rounds(one_location()), 1);
+    assert_eq!(rounds(self_loop()), 1);
+    // Both tests are seen in the first round.
+    assert_eq!(rounds(started_anew()), 2);
+    // Locations 2 and 3 change in the second round, and 2 leads to 1: what 2 gains in it comes to 3 in the third.
+    let transitions = vec![
+        Arrow::new(0, 3).starts(&[0, 1]),
+        Arrow::new(3, 2),
+        Arrow::new(2, 1),
+        Arrow::new(1, 4).tests(0, AT_LEAST, 0),
+        Arrow::new(2, 4).tests(1, AT_LEAST, 0),
+    ];
+    assert_eq!(rounds(Drawing::new(5, 2, transitions)), 4);
+    // A test is seen one location further away in each round, but never at location 0.
+    for (locations, expected) in [(3, 2), (4, 3), (255, 254), (256, 255)] {
+        assert_eq!(rounds(chain(locations)), expected);
+    }
+    for (locations, expected) in [(2, 2), (3, 3), (255, 255), (256, 256)] {
+        assert_eq!(rounds(looped_chain(locations)), expected);
+    }
 }
 
 #[test]
 fn used_may_exceed_64() {
     let small = sixty_five_numbers(5);
     let (live, answer) = live_of(&small.file());
-    assert_eq!(answer, seen(65, 64));
+    assert_eq!(answer, seen(65, 64, 3));
     assert_eq!(live[3], (0..64).collect::<Vec<_>>());
     assert_eq!(rewritten(&small, 64), refused(20, NOWHERE));
     for (levels, half) in [(3, 8), (4, 16), (8, 32), (17, 5), (17, 32)] {
         let drawing = many_numbers(levels, half);
         let answer = live_of(&drawing.file()).1;
-        assert_eq!(answer, seen(u64::from(levels) * u64::from(half), 2 * u64::from(half)));
+        // A timer goes round a cycle of its group's locations: the longest has one fewer than there are levels.
+        let used = u64::from(levels) * u64::from(half);
+        assert_eq!(answer, seen(used, 2 * u64::from(half), u64::from(levels)));
         let fits = answer.used <= 64;
         assert_eq!(rewritten(&drawing, 64).is_ok(), fits);
         assert_eq!(rewritten(&drawing, 64).err(), (!fits).then_some(Refusal { number: 20, place: NOWHERE }));
@@ -804,7 +843,7 @@ fn all_64_timers_at_once() {
         transitions.push(transition);
     }
     let drawing = Drawing::new(2, 64, transitions);
-    assert_eq!(live_of(&drawing.file()).1, seen(64, 64));
+    assert_eq!(live_of(&drawing.file()).1, seen(64, 64, 2));
     assert_eq!(rewritten(&drawing, 64), Ok(drawing.file()));
     assert_eq!(rewritten(&drawing, 63), refused(20, NOWHERE));
     let mut input = vec![64];

@@ -5,7 +5,8 @@
 
 use timing_chart::analysis::Analysis;
 use timing_chart::drawing::{
-    chart_a, chart_a_continued, chart_b, dwell, never_started, over_floor, self_loop, AT_LEAST, AT_MOST,
+    chain, chart_a, chart_a_continued, chart_b, dwell, looped_chain, never_started, over_floor, self_loop, Drawing,
+    AT_LEAST, AT_MOST,
 };
 use timing_chart::library::{analyse, play, rewrite};
 use timing_chart::player::Playing;
@@ -17,12 +18,17 @@ fn analysis() {
     let mut live = [77; 9];
     assert_eq!(analyse(&chart_a().file(), &mut live[..6]), Err(Refusal { number: 21, place: NOWHERE }));
     assert_eq!(live, [77; 9]);
-    assert_eq!(analyse(&chart_a().file(), &mut live), Ok(Analysis { used: 3, floor: 3, searched: true }));
+    assert_eq!(analyse(&chart_a().file(), &mut live), Ok(Analysis { used: 3, floor: 3, searched: true, rounds: 3 }));
     assert_eq!(live, [0, 1, 3, 6, 5, 4, 0, 77, 77]);
-    assert_eq!(analyse(&over_floor().file(), &mut live), Ok(Analysis { used: 3, floor: 2, searched: true }));
+    assert_eq!(analyse(&over_floor().file(), &mut live), Ok(Analysis { used: 3, floor: 2, searched: true, rounds: 3 }));
     let continued = |count| analyse(&chart_a_continued(count).file(), &mut [0; 25]);
-    assert_eq!(continued(17), Ok(Analysis { used: 3, floor: 3, searched: true }));
-    assert_eq!(continued(18), Ok(Analysis { used: 3, floor: 2, searched: false }));
+    assert_eq!(continued(17), Ok(Analysis { used: 3, floor: 3, searched: true, rounds: 3 }));
+    assert_eq!(continued(18), Ok(Analysis { used: 3, floor: 2, searched: false, rounds: 3 }));
+    // The order of the transitions does not matter, and the rounds need more than a byte.
+    let rounds = |drawing: Drawing| analyse(&drawing.file(), &mut [0; 256]).map(|analysis| analysis.rounds);
+    assert_eq!(rounds(chart_a().last_to_first()), Ok(3));
+    assert_eq!([rounds(self_loop()), rounds(chain(256))], [Ok(1), Ok(255)]);
+    assert_eq!([rounds(looped_chain(256)), rounds(looped_chain(256).last_to_first())], [Ok(256); 2]);
     assert_eq!(analyse(&never_started().file(), &mut []), Err(Refusal { number: 10, place: 1 }));
     assert_eq!(analyse(&[], &mut []), Err(Refusal { number: 1, place: NOWHERE }));
 }
@@ -63,7 +69,7 @@ fn player() {
 fn version_2() {
     let file = chart_b().version(2).file();
     let mut live = [77; 5];
-    assert_eq!(analyse(&file, &mut live), Ok(Analysis { used: 1, floor: 1, searched: true }));
+    assert_eq!(analyse(&file, &mut live), Ok(Analysis { used: 1, floor: 1, searched: true, rounds: 2 }));
     assert_eq!(live, [0, 1, 2, 0, 77]);
     let mut expected = chart_b().version(2);
     expected.timers = 1;

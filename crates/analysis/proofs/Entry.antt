@@ -8,7 +8,7 @@ use lib.ListN.{length}
 use borrow.Author.Tests.{le-leb, lt-leb}
 use Rattle.model.specs.Answer.{result, refused, nowhere}
 use Rattle.model.specs.Chart.{Chart}
-use Rattle.model.specs.Live.{liveSets}
+use Rattle.model.specs.Live.{liveSets, liveRounds}
 use Rattle.model.specs.FirstFit.{used}
 use Rattle.model.specs.Floor.{floor, searched}
 use Rattle.chart_lists.specs.Lists.{put, overwritten}
@@ -48,10 +48,10 @@ module _ (bs before : List ℕ) where
 
     -- the chart's values, and its live sets over the front
     module _ (h : c .locations ≤ length before) where
-      pub found-answer : {u f : ℕ} {s : Bool} → u ≡ used c → f ≡ floor c → s ≡ searched c
-          → result (record { used = u; floor = f; searched = s }) ≡ analyseAnswer (length before) bs
+      pub found-answer : {u f n : ℕ} {s : Bool} → u ≡ used c → f ≡ floor c → s ≡ searched c → n ≡ liveRounds c
+          → result (record { used = u; floor = f; searched = s; rounds = n }) ≡ analyseAnswer (length before) bs
       unfolding analyseAnswer analysedIn valuesOf
-      found-answer x y z = rw (e, long-enough c (length before) h, x, y, z)
+      found-answer x y z n = rw (e, long-enough c (length before) h, x, y, z, n)
 
       pub found-list : {after sets : List ℕ} → sets ≡ liveSets c → after ≡ put sets before
           → after ≡ overwritten liveSets (analysedIn (length before) bs) before

@@ -16,9 +16,10 @@ use Rattle.model.specs.Answer.{result}
 use Rattle.model.specs.Chart.{Chart}
 use Rattle.model.specs.Version.{widthOf}
 use Rattle.model.specs.Valid.{Valid}
-use Rattle.model.specs.Live.{liveSets}
+use Rattle.model.specs.Live.{liveSets, liveRounds}
 use Rattle.model.specs.FirstFit.{board, used}
 use Rattle.model.specs.Floor.{floor, searched}
+use Rattle.model.proofs.LiveRounds.{rounds-by-paths, one-rounds, rounds-accepted}
 use Rattle.model.proofs.NumberAt.{number-below}
 use Rattle.model.proofs.UsedNumbers.{used-reached}
 use Rattle.file_format.specs.Parse.{Bytes}
@@ -75,6 +76,8 @@ module _ (bs before : List ℕ) (bytes : Bytes bs) where
         used-above = number-below (board c);
         used-reached = used-reached valid;
         used-none = used-none valid;
+        rounds-are = rounds-by-paths valid;
+        rounds-few = rounds-accepted valid (a .accepted);
       }
 
   pub found-values : {f : AnalysisValues} → analyseAnswer (length before) bs ≡ result f
@@ -134,10 +137,13 @@ module _ {bs before after : List ℕ} {f : AnalysisValues} (bytes : Bytes bs) (v
           let below : floor c ≤ f .floor = omega (arith, y .2, ap ones (word-only (y .0) (y .1)), v .floor-most (y .0) (y .1)) in
           omega arith
 
+  rounds-only : f .rounds ≡ liveRounds c
+  rounds-only = one-rounds (v .rounds-are) (rounds-by-paths valid)
+
   -- what is found is what the chart gives
   pub found-only : f ≡ valuesOf c
   unfolding valuesOf
-  found-only i = record { used = used-only i; floor = floor-only i; searched = searched-only i }
+  found-only i = record { used = used-only i; floor = floor-only i; searched = searched-only i; rounds = rounds-only i }
 
   -- and no other list: the live sets over the front of what was lent
   pub found-list : (q : ℕ) → getD after q 0 ≡ getD (put (liveSets c) before) q 0

@@ -5,6 +5,7 @@ use Prim.Native.Nat.{ℕ}
 use lib.Dec.{leb}
 use Rattle.model.specs.Answer.{Answer, result, then, unless, nowhere}
 use Rattle.model.specs.Chart.{Chart}
+use Rattle.model.specs.Live.{liveRounds}
 use Rattle.model.specs.FirstFit.{used}
 use Rattle.model.specs.Floor.{floor, searched}
 use Rattle.refusal.specs.Refused.{refusedAs}
@@ -20,16 +21,17 @@ analysedChart room c = unless (leb (c .locations) room) 21 nowhere (result c)
 unfoldable pub analysedIn : (room : ℕ) → List ℕ → Answer Chart
 analysedIn room bs = then (judgedIn bs) (analysedChart room)
 
--- how many timers the board numbers use; the floor; and whether the floor is the smallest number of timers of any plan, else it is the count of the
--- fullest live set
+-- how many timers the board numbers use; the floor; whether the floor is the smallest number of timers of any plan, else it is the count of the
+-- fullest live set; and how many rounds find the live sets
 pub record AnalysisValues : Type 0 where
   pub used : ℕ
   pub floor : ℕ
   pub searched : Bool
+  pub rounds : ℕ
 
 -- those of a chart
 unfoldable pub valuesOf : Chart → AnalysisValues
-valuesOf c = record { used = used c; floor = floor c; searched = searched c }
+valuesOf c = record { used = used c; floor = floor c; searched = searched c; rounds = liveRounds c }
 
 -- what is answered
 unfoldable pub analyseAnswer : (room : ℕ) → List ℕ → Answer AnalysisValues
@@ -37,5 +39,5 @@ analyseAnswer room bs = then (analysedIn room bs) (λ c. result (valuesOf c))
 
 -- what an answer of the code means
 abbrev pub analysisAs : Analysis → Answer AnalysisValues
-analysisAs (analysis.Found u f s) = result (record { used = u; floor = f; searched = s })
+analysisAs (analysis.Found u f s r) = result (record { used = u; floor = f; searched = s; rounds = r })
 analysisAs (analysis.Refused f) = refusedAs f

@@ -1,5 +1,5 @@
--- What an analysis that finds a chart says and leaves, in the words of paths (document 01, "Live, born, family, board number"; document 02, P1).
--- Assumes nothing.
+-- What an analysis that finds a chart says and leaves, in the words of paths (document 01, "Live, born, family, board number"; document 02, P1 and
+-- P3). Assumes nothing.
 use mathlib.Core.Path.{_≡_}
 use mathlib.Core.Logic.{_↔_}
 use mathlib.Core.Bool.{true, false}
@@ -11,6 +11,7 @@ use lib.ListN.{getD}
 use Rattle.timer_set.specs.Members.{member}
 use Rattle.model.specs.Chart.{Chart}
 use Rattle.model.specs.Path.{Live}
+use Rattle.model.specs.LiveWithin.{RoundsByPaths}
 use Rattle.model.specs.FirstFit.{numberAt, board}
 use Rattle.model.specs.Floor.{mostSearched}
 use Rattle.sharing_plans.specs.SharingPlan.{FewestTimers, FamiliesAtMost}
@@ -26,7 +27,8 @@ pub record Analysed (room : ℕ) (bs : List ℕ) (f : AnalysisValues) : Type 0 w
 
 -- the chart, which is accepted; in the list the live set of each location by paths, and the rest untouched; searched exactly where there are at most
 -- 20 families, and floor is then the smallest number of timers of any plan, else the count of the fullest live set; used, no less than floor, is one
--- more than the largest board number given, and 0 exactly where no timer is live and so there is no family
+-- more than the largest board number given, and 0 exactly where no timer is live and so there is no family; rounds is one more than the least k
+-- such that paths of at most k transitions decide which timers are live, and at most the number of locations
 pub record FoundValues (bs before after : List ℕ) (f : AnalysisValues) : Type 0 where
   pub chart : Chart
   pub accepts : Accepts bs chart
@@ -40,3 +42,5 @@ pub record FoundValues (bs before after : List ℕ) (f : AnalysisValues) : Type 
   pub used-above : (q j k : ℕ) → numberAt (board chart) q j ≡ some k → k < f .used
   pub used-reached : (u : ℕ) → f .used ≡ suc u → (q : ℕ) × (j : ℕ) × (numberAt (board chart) q j ≡ some u)
   pub used-none : (f .used ≡ 0) ↔ ((q j : ℕ) → Live chart q j → ⊥)
+  pub rounds-are : RoundsByPaths chart (f .rounds)
+  pub rounds-few : f .rounds ≤ chart .locations

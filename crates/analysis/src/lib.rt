@@ -1,4 +1,5 @@
-// The analysis of a chart file: the live set of each location, used and floor, and whether the floor is the smallest number of timers of any plan.
+// The analysis of a chart file: the live set of each location and how many rounds find them, used and floor, and whether the floor is the smallest
+// number of timers of any plan.
 ghost use mathlib.Core.Path.{_≡_};
 ghost use Prim.Native.Nat.{_≤_};
 ghost use lib.ListN.{length};
@@ -8,12 +9,13 @@ ghost use Rattle.analysis.specs.Analysing.{analysedIn, analyseAnswer, an
 use numbering::FileNumbered;
 use refusal::Refusal;
 
-// Used, floor, and whether the floor is the smallest number of timers of any plan; or a refusal.
+// Used, floor, whether the floor is the smallest number of timers of any plan, and the number of rounds; or a refusal.
 pub enum Analysis {
     Found {
         used: u32,
         floor: u32,
         searched: bool,
+        rounds: u32,
     },
     Refused(Refusal),
 }
@@ -31,7 +33,7 @@ fn copy(sets: &[u64], live: &mut [u64])
     }
 }
 
-// The live sets of the file's chart over the front of the list, with used, floor and searched; or a refusal, 1 to 10, then 21.
+// The live sets of the file's chart over the front of the list, with used, floor, searched and rounds; or a refusal, 1 to 10, then 21.
 pub fn analyse(file: &[u8], live: &mut [u64]) -> Analysis
     ensures answer { λ r. ⌜ analysisAs r ≡ analyseAnswer (length (now (live .entry))) (now (file .entry)) ⌝ }
     ensures lent { λ _. ⌜ now (live .exit)
@@ -47,6 +49,7 @@ pub fn analyse(file: &[u8], live: &mut [u64]) -> Analysis
             used,
             floor,
             searched,
+            rounds,
         } => {
             let m = header.locations as usize;
             if live.len() < m {
@@ -57,6 +60,7 @@ pub fn analyse(file: &[u8], live: &mut [u64]) -> Analysis
                 used,
                 floor,
                 searched,
+                rounds,
             }
         }
     }

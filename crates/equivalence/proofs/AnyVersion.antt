@@ -27,7 +27,7 @@ use Rattle.equivalence.proofs.RewrittenFile.{room-enough}
 same-values : (version : ℕ) (c : Chart) → valuesOf (inVersion version c) ≡ valuesOf c
 unfolding valuesOf used
 same-values version c = let s = same-in-version version c in
-    λ i. record { used = usedBy (s .same-board i); floor = s .same-floor i; searched = s .same-searched i }
+    λ i. record { used = usedBy (s .same-board i); floor = s .same-floor i; searched = s .same-searched i; rounds = s .same-rounds i }
 
 module _ (version : ℕ) (c : Chart) (stored : Storable c) (stored′ : Storable (inVersion version c)) where
   read : chartIn (fileOf c) ≡ result c

@@ -7,8 +7,8 @@ use Rattle.model.specs.Chart.{Chart}
 use Rattle.model.specs.Live.{liveSets}
 use Rattle.model.specs.FirstFit.{board}
 use Rattle.model.specs.Cases.{Question, Reply, boardNumbers}
-use Rattle.model.specs.Cases.Question.{live-sets, numbers, rewrite, play}
-use Rattle.model.specs.Cases.Reply.{sets, given, rewriting-is, played-is}
+use Rattle.model.specs.Cases.Question.{live-sets, numbers, round-count, rewrite, play}
+use Rattle.model.specs.Cases.Reply.{sets, given, count, rewriting-is, played-is}
 use Rattle.file_format.specs.File.{fileOf}
 use Rattle.file_format.specs.Lengths.{largestFile}
 use Rattle.chart_lists.specs.Lists.{overwritten}
@@ -20,14 +20,15 @@ use Rattle.player.specs.Playing.{playAnswer}
 unfoldable pub analysedList : Chart → List ℕ
 analysedList c = overwritten liveSets (analysedIn (c .locations) (fileOf c)) (replicate (c .locations) 7)
 
--- used and floor as the analysis answers them; a refused chart has none
-abbrev pub numbersReply : Chart → Answer AnalysisValues → Reply
-numbersReply c (result f) = given (boardNumbers (board c)) (f .used) (f .floor)
-numbersReply c (refused n p) = sets (analysedList c)
+-- a reply by the values that the analysis answers; a refused chart has none
+abbrev pub ofValues : Chart → (AnalysisValues → Reply) → Answer AnalysisValues → Reply
+ofValues c reply (result f) = reply f
+ofValues c reply (refused n p) = sets (analysedList c)
 
 -- the reply of the entry point that answers the question
 unfoldable pub askFile : Question → Reply
 askFile (live-sets c) = sets (analysedList c)
-askFile (numbers c) = numbersReply c (analyseAnswer (c .locations) (fileOf c))
+askFile (numbers c) = ofValues c (λ f. given (boardNumbers (board c)) (f .used) (f .floor)) (analyseAnswer (c .locations) (fileOf c))
+askFile (round-count c) = ofValues c (λ f. count (f .rounds)) (analyseAnswer (c .locations) (fileOf c))
 askFile (rewrite c k) = rewriting-is (rewriteInto k largestFile (fileOf c))
 askFile (play c v is ts) = played-is (playAnswer (fileOf c) v is ts)

@@ -14,8 +14,8 @@ abbrev pub bit : Bool → ℕ
 bit b = cond b 1 0
 
 abbrev pub analysisOf : Answer analysis.AnalysisValues → «chart_analysis»
-analysisOf (result f) = record { number = 0; place = 0; used = f .used; floor = f .floor; searched = bit (f .searched) }
-analysisOf (refused n p) = record { number = n; place = p; used = 0; floor = 0; searched = 0 }
+analysisOf (result f) = record { number = 0; place = 0; used = f .used; floor = f .floor; searched = bit (f .searched); rounds = f .rounds }
+analysisOf (refused n p) = record { number = n; place = p; used = 0; floor = 0; searched = 0; rounds = 0 }
 
 abbrev pub rewritingOf : Answer rewriting.RewritingValues → «chart_rewriting»
 rewritingOf (result f) = record { number = 0; place = 0; used = f .used; length = f .length }

@@ -11,7 +11,8 @@ use analysis::Analysis;
 use player::Played;
 use rewriting::Rewritten;
 
-// A refusal's number and place, or 0 and 0 with used and floor; searched is 1 where floor is the smallest number of timers of any plan, else 0.
+// A refusal's number and place, or 0 and 0 with used and floor; searched is 1 where floor is the smallest number of timers of any plan, else 0;
+// rounds is how many rounds find the live sets.
 #[repr(C)]
 pub struct chart_analysis {
     pub number: u64,
@@ -19,6 +20,7 @@ pub struct chart_analysis {
     pub used: u64,
     pub floor: u64,
     pub searched: u64,
+    pub rounds: u64,
 }
 
 // A refusal's number and place, or 0 and 0 with the timers used and the new file's length.
@@ -53,12 +55,14 @@ pub extern "C" fn chart_analyse(file: &[u8], live: &mut [u64]) -> chart_analysis
             used,
             floor,
             searched,
+            rounds,
         } => chart_analysis {
             number: 0,
             place: 0,
             used: used as u64,
             floor: floor as u64,
             searched: searched as u64,
+            rounds: rounds as u64,
         },
         Analysis::Refused(f) => chart_analysis {
             number: f.number as u64,
@@ -66,6 +70,7 @@ pub extern "C" fn chart_analyse(file: &[u8], live: &mut [u64]) -> chart_analysis
             used: 0,
             floor: 0,
             searched: 0,
+            rounds: 0,
         },
     }
 }

@@ -4,7 +4,7 @@
 use mathlib.Core.Path.{_≡_, refl, sym, ap, _∙_, subst}
 use mathlib.Core.Bool.{Bool, true}
 use mathlib.Core.List.{List, _++_, append-assoc, append-nil}
-use Prim.Native.Nat.{ℕ, _^_, _≤_, _<_}
+use Prim.Native.Nat.{ℕ, suc, _^_, _≤_, _<_}
 use native.Mathlib.Omega.{arith}
 use lib.Dec.{eqb}
 use lib.ListN.{length}
@@ -13,7 +13,9 @@ use Rattle.model.specs.Answer.{result, nowhere}
 use Rattle.model.specs.Chart.{Chart}
 use Rattle.model.specs.Version.{knownVersion, widthOf}
 use Rattle.model.specs.Valid.{Valid, Storable}
+use Rattle.model.specs.Live.{liveRounds}
 use Rattle.model.proofs.Versions.{known-most, width-most}
+use Rattle.model.proofs.LiveRounds.{rounds-most}
 use Rattle.file_format.specs.Parse.{Parsed, value, refusal, digits, Bytes}
 use Rattle.file_format.specs.Body.{readBody, writeBody}
 use Rattle.file_format.specs.File.{Frame, Versioned, readFrame, judgeFrame, readFile, writeFile, chartIn, fileOf, ReadAs}
@@ -126,3 +128,7 @@ module _ (bs : List ℕ) (c : Chart) (by : Bytes bs) (e : chartIn bs ≡ result 
   -- valid for the constants of its version
   pub reads-valid : Valid (widthOf (c .version)) c
   reads-valid = reads-storable .valid
+
+  -- accepted or not, it has at most one round more than locations
+  pub reads-rounds : liveRounds c ≤ suc (c .locations)
+  reads-rounds = rounds-most reads-valid

@@ -97,6 +97,7 @@ module _ {W : ℕ} {c : Chart} (valid : Valid W c) where
     froms = targets-each c ∙ sym (sources-each c);
     cuts = starts-each c ∙ sym (sources-each c);
     gains = tested-each c ∙ sym (sources-each c);
+    edges = omega (arith, valid .few-transitions, sources-each c);
     locations = omega (arith, valid .few-locations, own);
     into-below = λ i h. rw own (sources-below valid i (omega (arith, sources-each c)));
     from-below = λ i h. rw own (targets-below valid i (omega (arith, sources-each c)));
@@ -109,6 +110,7 @@ module _ {W : ℕ} {c : Chart} (valid : Valid W c) where
       froms = sources-each c ∙ sym (targets-each c);
       cuts = cuts ∙ sym (targets-each c);
       gains = length-replicate {A = ℕ} (length (c .transitions)) 0 ∙ sym (targets-each c);
+      edges = omega (arith, valid .few-transitions, targets-each c);
       locations = omega (arith, valid .few-locations, own);
       into-below = λ i h. rw own (targets-below valid i (omega (arith, targets-each c)));
       from-below = λ i h. rw own (sources-below valid i (omega (arith, targets-each c)));

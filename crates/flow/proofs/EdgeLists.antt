@@ -1,20 +1,24 @@
--- The flow of lists of code: a round edge by edge, as its loop goes, and what the laws of rounds ask of a flow. Assumes nothing.
+-- The flow of lists of code: the first round edge by edge, as its loop goes, what the laws of rounds ask of a flow, and the adjacency lists of its
+-- edges. Assumes nothing.
 use mathlib.Core.Path.{_≡_, refl, sym, ap, _∙_}
 use mathlib.Core.Option.{some, Option·some-injective}
 use mathlib.Core.List.{List}
-use Prim.Native.Nat.{ℕ, suc, _*_, _≤_, _<_}
+use Prim.Native.Nat.{ℕ, suc, _≤_, _<_}
 use native.Mathlib.Omega.{arith}
-use lib.ListN.{length, getD, getElem?, set}
+use lib.Bits.{or-zero-r}
+use lib.ListN.{length, getD, getElem?, set, replicate}
 use lib.Seq.{ext-getD}
 use Rattle.timer_set.specs.Members.{joined, minus}
 use Rattle.lists.specs.Lists.{upTo}
 use Rattle.model.specs.Comes.{Shaped}
 use Rattle.lists.proofs.Gather.{length-upTo, getD-upTo}
+use Rattle.lists.proofs.Zeros.{getD-zeros}
 use Rattle.lists.proofs.Nth.{nth-below, below-nth, getD-nth}
 use Rattle.model.specs.Flow.{Edge, brings, round}
 use Rattle.model.proofs.Edges.{roundTo, roundTo-start, roundTo-step, roundTo-end}
 use Rattle.model.proofs.Rounds.{Words}
 use Rattle.model.proofs.Settled.{Changes, few-changes}
+use Rattle.worklist.specs.Worklist.{Nexts, Firsts, Adjacency}
 use Rattle.flow.specs.Edges.{edgeAt, flowOf, SafeEdges}
 
 module _ {A : Type 0} where
@@ -35,22 +39,32 @@ module _ (into from cut gain own : List ℕ) where
   unfolding flowOf
   length-edges = length-upTo (edgeAt into from cut gain) (length into)
 
-  module _ (before : List ℕ) where
-    pub round-start : own ≡ roundTo (flowOf into from cut gain own) before 0
-    unfolding flowOf
-    round-start = sym (roundTo-start (flowOf into from cut gain own) before ∙ upTo-getD own 0)
+  -- ---- the first round, from empty sets
 
-    -- the sets after the first i edges, with what edge number i brings to the set w that it leads into
-    pub round-step : (i : ℕ) (after : List ℕ) (w : ℕ) → i < length into → after ≡ roundTo (flowOf into from cut gain own) before i
-        → w ≡ joined (getD after (getD into i 0) 0) (joined (getD gain i 0) (minus (getD before (getD from i 0) 0) (getD cut i 0)))
-        → set after (getD into i 0) w ≡ roundTo (flowOf into from cut gain own) before (suc i)
-    unfolding edgeAt brings
-    round-step i after w h e j = rw (j, e) (sym (roundTo-step (flowOf into from cut gain own) before i (edgeAt into from cut gain i) (nth-edge i h)))
+  abbrev empty : List ℕ
+  empty = replicate (length own) 0
 
-    pub round-end : (i : ℕ) (after : List ℕ) → i ≡ length into → after ≡ roundTo (flowOf into from cut gain own) before i
-        → after ≡ round (flowOf into from cut gain own) before
-    round-end i after l e = e ∙ ap (roundTo (flowOf into from cut gain own) before) (l ∙ sym length-edges)
-        ∙ roundTo-end (flowOf into from cut gain own) before
+  pub round-start : own ≡ roundTo (flowOf into from cut gain own) empty 0
+  unfolding flowOf
+  round-start = sym (roundTo-start (flowOf into from cut gain own) empty ∙ upTo-getD own 0)
+
+  -- an edge brings from empty sets what it gains
+  brings-gain : (e : Edge) → brings empty e ≡ e .gain
+  unfolding brings joined minus
+  brings-gain e = rw (getD-zeros, or-zero-r (e .gain))
+
+  -- the sets after the first i edges, with what edge number i brings to the set w that it leads into
+  pub round-step : (i : ℕ) (after : List ℕ) (w : ℕ) → i < length into → after ≡ roundTo (flowOf into from cut gain own) empty i
+      → w ≡ joined (getD after (getD into i 0) 0) (getD gain i 0)
+      → set after (getD into i 0) w ≡ roundTo (flowOf into from cut gain own) empty (suc i)
+  unfolding edgeAt
+  round-step i after w h e j = let edge = edgeAt into from cut gain i in
+      rw (j, ← brings-gain edge, e) (sym (roundTo-step (flowOf into from cut gain own) empty i edge (nth-edge i h)))
+
+  pub round-end : (i : ℕ) (after : List ℕ) → i ≡ length into → after ≡ roundTo (flowOf into from cut gain own) empty i
+      → after ≡ round (flowOf into from cut gain own) empty
+  round-end i after l e =
+      e ∙ ap (roundTo (flowOf into from cut gain own) empty) (l ∙ sym length-edges) ∙ roundTo-end (flowOf into from cut gain own) empty
 
   pub edge-of : (i : ℕ) {e : Edge} → getElem? (flowOf into from cut gain own .edges) i ≡ some e
       → (i < length into) × (e ≡ edgeAt into from cut gain i)
@@ -69,10 +83,22 @@ module _ (into from cut gain own : List ℕ) where
   }
 
   -- the number of rounds that change a set
-  pub few-rounds : Shaped (flowOf into from cut gain own) → (k : ℕ) → Changes (flowOf into from cut gain own) k → k ≤ 64 * length own
+  pub few-rounds : Shaped (flowOf into from cut gain own) → (k : ℕ) → Changes (flowOf into from cut gain own) k → k ≤ length own
   unfolding flowOf
   few-rounds s k m = few-changes (flowOf into from cut gain own) s k m
 
   pub locations-are : flowOf into from cut gain own .locations ≡ length own
   unfolding flowOf
   locations-are = refl
+
+-- the edges of safe lists, listed by the location that they leave
+pub adjacency : {into from cut gain own first next : List ℕ} → SafeEdges into from cut gain own → length own ≤ length first
+    → Firsts from first → Nexts from next → Adjacency (length own) from into cut first next
+adjacency safe room firsts nexts = record {
+  intos = sym (safe .froms);
+  cuts = safe .cuts ∙ sym (safe .froms);
+  into-below = safe .into-below;
+  room = room;
+  firsts = firsts;
+  nexts = nexts;
+}

@@ -1,37 +1,96 @@
--- One turn of the loop over the rounds: `before` holds the sets after k rounds, and `after` the round made of them. Assumes nothing.
+-- The turns of the loop over the rounds: the first, the next, and the last. Assumes nothing.
 use mathlib.Core.Path.{_≡_, sym, ap, _∙_}
-use mathlib.Core.Bool.{true, false}
+use mathlib.Core.Logic.{_⊎_, inl, inr}
 use mathlib.Core.List.{List}
-use Prim.Native.Nat.{ℕ, _+_}
+use Prim.Native.Nat.{ℕ, suc, _+_, _≤_, _<_}
+use native.Mathlib.Decide.{ℕ-discrete}
 use native.Mathlib.Numerals.{add-one}
-use borrow.Author.Count.{below-more}
+use native.Mathlib.Omega.{arith}
+use lib.ListN.{length, getD, replicate}
+use borrow.Author.Count.{below-more, below-none}
+use Rattle.lists.specs.Lists.{sumOf}
+use Rattle.lists.proofs.Zeros.{getD-zeros}
 use Rattle.model.specs.Comes.{Shaped}
-use Rattle.lists.proofs.Bools.{not-both}
-use Rattle.model.specs.Flow.{Flow, round, roundsOf, sameSets, settled, rounds}
-use Rattle.model.proofs.Settled.{Changes, ends, same-sets-self, same-sets-equal}
+use Rattle.model.specs.Flow.{Flow, round, roundsOf, settled, rounds}
+use Rattle.model.proofs.Rounds.{Words, length-rounds}
+use Rattle.model.proofs.Settled.{Changes, ends}
+use Rattle.worklist.specs.Worklist.{Among, Worklist}
+use Rattle.worklist.specs.GoneOver.{GoneOver}
+use Rattle.flow.specs.Edges.{flowOf, SafeEdges}
+use Rattle.flow.specs.Rounds.{Differing, LeavesOne}
+use Rattle.flow.proofs.Differing.{none-differs}
+use Rattle.flow.proofs.Skipping.{Listed, skips}
 
-pub record Turn (f : Flow) (k : ℕ) (before after : List ℕ) : Type 0 where
-  pub shaped : Shaped f
+-- one turn: `before` holds the sets after k rounds, each of which has changed a set, `after` those of one round more, and the locations at which they
+-- differ wait
+pub record Turn (f : Flow) (k : ℕ) (before after idle waiting : List ℕ) (depth : ℕ) : Type 0 where
   pub reached : before ≡ roundsOf f k
+  pub made : after ≡ roundsOf f (suc k)
   pub changes : Changes f k
-  pub made : after ≡ round f before
+  pub differing : Differing before after idle waiting depth
+  -- a location waits only if some have changed
+  pub none : after ≡ before → depth ≡ 0
 
-module _ {f : Flow} {k : ℕ} {before after : List ℕ} (t : Turn f k before after) where
-  pub next-is : after ≡ roundsOf f (k + 1)
-  unfolding roundsOf
-  next-is = rw add-one (t .made ∙ ap (round f) (t .reached))
+module _ {f : Flow} {k : ℕ} {before after idle waiting : List ℕ} {depth : ℕ} (t : Turn f k before after idle waiting depth) where
+  pub before-long : length before ≡ f .locations
+  before-long = ap length (t .reached) ∙ length-rounds f k
 
-  -- a round that changed a set is one more that did, and the next one is made of it
-  pub goes-on : sameSets before after ≡ false → Changes f (k + 1)
-  goes-on d = below-more _ k (t .changes) (λ e. not-both (rw (next-is, add-one, ← e, t .reached) (same-sets-self (roundsOf f k))) d)
+  pub after-long : length after ≡ f .locations
+  after-long = ap length (t .made) ∙ length-rounds f (suc k)
 
-  pub turn-next : sameSets before after ≡ false → {last : List ℕ} → last ≡ round f after → Turn f (k + 1) after last
-  turn-next d e = record { shaped = t .shaped; reached = next-is; changes = goes-on d; made = e }
+  -- where a location waits the round has changed a set
+  pub goes-on : 0 < depth → Changes f (k + 1)
+  goes-on l = below-more _ k (t .changes) (λ e. omega (arith, l, t .none (t .made ∙ sym e ∙ sym (t .reached))))
 
-  -- a round that changed none is the last
-  pub ends-here : sameSets before after ≡ true → (before ≡ settled f) × (after ≡ settled f) × (k + 1 ≡ rounds f)
-  ends-here s =
-      let q = same-sets-equal before after s in
-      let e = ends f (t .shaped) k (ap (roundsOf f) (sym (add-one k)) ∙ sym next-is ∙ sym q ∙ t .reached) (t .changes) in
-      let b = t .reached ∙ sym (e .settled-is) in
-      (b, sym q ∙ b, add-one k ∙ sym (e .rounds-are))
+  -- where none does the round is the last
+  pub ends-here : Shaped f → depth ≡ 0 → (before ≡ settled f) × (k + 1 ≡ rounds f)
+  ends-here shaped z =
+      let e = ends f shaped k (sym (t .made) ∙ sym (none-differs (t .differing) z) ∙ t .reached) (t .changes) in
+      (t .reached ∙ sym (e .settled-is), add-one k ∙ sym (e .rounds-are))
+
+  -- the waiting locations, copied to another list, are all that have changed
+  listed : {changed : List ℕ} → ((i : ℕ) → i < depth → getD changed i 0 ≡ getD waiting i 0)
+      → Listed (f .locations) (roundsOf f k) (roundsOf f (suc k)) changed depth
+  listed {changed} same q l = go (ℕ-discrete (getD idle q 0) 0)
+    where
+      h : q < length after
+      h = omega (arith, l, after-long)
+
+      go : Dec (getD idle q 0 ≡ 0) → (getD (roundsOf f (suc k)) q 0 ≡ getD (roundsOf f k) q 0) ⊎ Among changed depth q
+      go (yes z) =
+          let x = t .differing .worklist .listed q h z in
+          inr (record { place = x .place; below = x .below; is-at = same (x .place) (x .below) ∙ x .is-at })
+      go (no ne) = inl (rw (← t .made, ← t .reached) (t .differing .unchanged q h ne))
+
+-- the first round is made from empty sets
+pub turn-first : {f : Flow} {before after idle waiting : List ℕ} {depth : ℕ} → before ≡ replicate (f .locations) 0
+    → after ≡ round f (replicate (f .locations) 0) → Differing (replicate (f .locations) 0) after idle waiting depth
+    → (((q : ℕ) → getD after q 0 ≡ 0) → depth ≡ 0) → Turn f 0 before after idle waiting depth
+unfolding roundsOf
+turn-first {f} empty made differing none = record {
+  reached = empty;
+  made = made;
+  changes = below-none _;
+  differing = rw empty differing;
+  none = λ e. none (λ q. rw (e, empty) (getD-zeros (f .locations) q));
+}
+
+-- the next one goes over the edges from changed locations alone
+pub turn-next : {into from cut gain own : List ℕ} → SafeEdges into from cut gain own → Shaped (flowOf into from cut gain own)
+    → {k : ℕ} {before sets after idle waiting : List ℕ} {depth : ℕ} → Turn (flowOf into from cut gain own) k before after idle waiting depth
+    → 0 < depth → {changed taken last idleLast waitingLast : List ℕ} {grown : ℕ}
+    → ((i : ℕ) → i < depth → getD changed i 0 ≡ getD waiting i 0) → sets ≡ after
+    → GoneOver from into cut (LeavesOne from changed depth) (λ q. getD sets q 0) after taken last idleLast
+    → Worklist (length after) idleLast waitingLast grown → grown + sumOf after ≤ sumOf last → Words last
+    → Turn (flowOf into from cut gain own) (k + 1) sets last idleLast waitingLast grown
+turn-next safe shaped {k} t some same e over worklist less words = rw add-one (record {
+  reached = e ∙ t .made;
+  made = skips safe shaped k (listed t same) (rw (e, t .made) at over) words;
+  changes = rw add-one at (goes-on t some);
+  differing = record {
+    long = over .long ∙ ap length (sym e);
+    worklist = rw (over .long) worklist;
+    unchanged = λ q l f. rw e (over .still-idle q f .1);
+  };
+  none = λ s. omega (arith, less, ap sumOf (s ∙ e));
+})

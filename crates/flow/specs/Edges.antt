@@ -9,7 +9,7 @@ use denote.Triple.Both.{Both}
 use Rattle.lists.specs.Lists.{upTo}
 use Rattle.model.specs.Flow.{Edge, Flow}
 use Rattle.chart_lists.specs.Lent.{Slice}
-use Rattle.chart_lists.specs.Limits.{mostLocations}
+use Rattle.chart_lists.specs.Limits.{mostLocations, mostTransitions}
 
 unfoldable pub edgeAt : (into from cut gain : List ℕ) → ℕ → Edge
 edgeAt into from cut gain i = record { into = getD into i 0; from = getD from i 0; cut = getD cut i 0; gain = getD gain i 0 }
@@ -25,11 +25,12 @@ flowOf into from cut gain own = record {
 abbrev pub flowLent : (into from cut gain own : Both Slice Slice) → Flow
 flowLent i f k g o = flowOf (now (i .entry)) (now (f .entry)) (now (k .entry)) (now (g .entry)) (now (o .entry))
 
--- what the code asks for its safety: lists of one length, and every edge between two locations
+-- what the code asks for its safety: lists of one length, no longer than a chart's, and every edge between two locations
 pub record SafeEdges (into from cut gain own : List ℕ) : Type 0 where
   pub froms : length from ≡ length into
   pub cuts : length cut ≡ length into
   pub gains : length gain ≡ length into
+  pub edges : length into ≤ mostTransitions
   pub locations : length own ≤ mostLocations
   pub into-below : (i : ℕ) → i < length into → getD into i 0 < length own
   pub from-below : (i : ℕ) → i < length into → getD from i 0 < length own

@@ -1,4 +1,2 @@
-pub mod Leaving
-pub mod Waiting
 pub mod Visiting
 pub mod Ending

@@ -1,12 +1,11 @@
 -- Sets of timers that go forwards along transitions: all timers at the initial location, none elsewhere, and each transition brings to its
 -- target what stands at its source, but for what it cuts. Assumes nothing.
 use mathlib.Core.List.{List}
-use Prim.Native.Nat.{ℕ, _≤_, _<_}
+use Prim.Native.Nat.{ℕ, _<_}
 use lib.ListN.{length, replicate, set}
 use Rattle.timer_set.specs.Members.{everyTimer}
 use Rattle.model.specs.Flow.{Flow, settled}
 use Rattle.flow.specs.Edges.{flowOf, SafeEdges}
-use Rattle.chart_lists.specs.Limits.{mostTransitions}
 
 -- all timers at the initial location, nothing elsewhere
 abbrev pub ownSets : (initial locations : ℕ) → List ℕ
@@ -22,6 +21,5 @@ forwardSets initial locations sources targets cut = settled (forwardFlow initial
 
 -- what the code asks for its safety: the initial location is one, and every transition leads from a location to a location
 pub record SafeForward (initial locations : ℕ) (sources targets cut : List ℕ) : Type 0 where
-  pub few : length sources ≤ mostTransitions
   pub inside : initial < locations
   pub edges : SafeEdges targets sources cut (replicate (length sources) 0) (ownSets initial locations)

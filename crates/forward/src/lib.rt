@@ -2,108 +2,17 @@
 // grown since their transitions were last gone over.
 ghost use mathlib.Core.Path.{_≡_};
 ghost use mathlib.Core.List.{List};
-ghost use Prim.Native.Nat.{ℕ, _+_, _≤_, _<_};
-ghost use lib.ListN.{length, getD, replicate, set};
-ghost use Rattle.lists.specs.Lists.{sumOf};
-ghost use Rattle.chart_lists.specs.Limits.{mostTransitions};
+ghost use Prim.Native.Nat.{ℕ};
+ghost use lib.ListN.{length, replicate};
 ghost use Rattle.forward.specs.Forward.{SafeForward, forwardSets};
-ghost use Rattle.forward.specs.Worklist.{Nexts, Firsts, Worklist, Working, DuringVisit, BetweenVisits, JoinedInto};
+ghost use Rattle.forward.specs.Working.{BetweenVisits};
 use chart_lists::MOST_LOCATIONS;
 use chart_lists::MOST_TRANSITIONS;
 use timer_set::TimerSet;
-
-// The number of no transition.
-const NONE: u16 = MOST_TRANSITIONS as u16;
-
-// The transitions that leave each location, in rising order: the first of each location, and the next of each transition.
-fn link(sources: &[u16], first: &mut [u16], next: &mut [u16])
-    requires { ⌜ (length (now sources) ≤ mostTransitions) × (length (now sources) ≤ length (now next))
-        × (now first ≡ replicate (length (now first)) mostTransitions)
-        × ((i : ℕ) → i < length (now sources) → getD (now sources) i 0 < length (now first)) ⌝ }
-    ensures firsts { λ _. ⌜ Firsts (now (sources .entry)) (now (first .exit)) ⌝ }
-    ensures nexts { λ _. ⌜ Nexts (now (sources .entry)) (now (next .exit)) ⌝ }
-{
-    let mut i = sources.len();
-    while i > 0 {
-        i -= 1;
-        let q = sources[i] as usize;
-        next[i] = first[q];
-        first[q] = i as u16;
-    }
-}
-
-// Puts a location on the list, unless it waits there already: how many wait then.
-fn push(location: u16, idle: &mut [u8], waiting: &mut [u16], depth: usize) -> usize
-    requires { ⌜ ((m : ℕ) × (location < m) × Worklist m (now idle) (now waiting) depth) ⌝ }
-    ensures idle { λ _. ⌜ now (idle .exit) ≡ set (now (idle .entry)) location 0 ⌝ }
-    ensures worklist { λ r. ⌜ ((m : ℕ) → location < m → Worklist m (now (idle .entry)) (now (waiting .entry)) depth
-        → Worklist m (now (idle .exit)) (now (waiting .exit)) r) ⌝ }
-    ensures more { λ r. ⌜ r ≤ depth + 1 ⌝ }
-{
-    let q = location as usize;
-    if idle[q] == 0 {
-        return depth;
-    }
-    idle[q] = 0;
-    waiting[depth] = location;
-    depth + 1
-}
-
-// Joins timers to the set of a location; if it has grown, the location waits: how many wait then.
-fn join_into(
-    target: u16,
-    timers: u64,
-    sets: &mut [u64],
-    idle: &mut [u8],
-    waiting: &mut [u16],
-    depth: usize,
-) -> usize
-    requires { ⌜ (target < length (now sets)) × Worklist (length (now sets)) (now idle) (now waiting) depth ⌝ }
-    ensures joined { λ _. ⌜ JoinedInto target timers (now (sets .entry)) (now (idle .entry)) (now (sets .exit)) (now (idle .exit)) ⌝ }
-    ensures worklist { λ r. ⌜ Worklist (length (now (sets .entry))) (now (idle .exit)) (now (waiting .exit)) r ⌝ }
-    ensures less { λ r. ⌜ r + sumOf (now (sets .entry)) ≤ depth + sumOf (now (sets .exit)) ⌝ }
-{
-    let t = target as usize;
-    let old = sets[t];
-    let grown = TimerSet { bits: old }.join(TimerSet { bits: timers }).bits;
-    if grown == old {
-        return depth;
-    }
-    sets[t] = grown;
-    push(target, idle, waiting, depth)
-}
-
-// Goes over the transitions that leave location `here`, of which `first` is the first: how many locations wait then.
-fn visit<'a>(
-    targets: &'a [u16],
-    cut: &'a [u64],
-    next: &'a [u16],
-    first: u16,
-    here: usize,
-    sets: &mut [u64],
-    idle: &mut [u8],
-    waiting: &mut [u16],
-    depth: usize,
-) -> usize
-    requires { ⌜ ((initial : ℕ) × (sources : List ℕ) × DuringVisit initial (length (now sets)) sources (now targets) (now cut) (now next) here first
-        (now sets) (now idle) (now waiting) depth) ⌝ }
-    ensures working { λ r. ⌜ ((initial : ℕ) (sources : List ℕ) → DuringVisit initial (length (now (sets .entry))) sources (now (targets .entry))
-        (now (cut .entry)) (now (next .entry)) here first (now (sets .entry)) (now (idle .entry)) (now (waiting .entry)) depth
-        → Working initial (length (now (sets .entry))) sources (now (targets .entry)) (now (cut .entry)) here (length sources)
-        (now (sets .exit)) (now (idle .exit)) (now (waiting .exit)) r) ⌝ }
-    ensures less { λ r. ⌜ r + sumOf (now (sets .entry)) ≤ depth + sumOf (now (sets .exit)) ⌝ }
-{
-    let n = targets.len();
-    let set = TimerSet { bits: sets[here] };
-    let mut top = depth;
-    let mut i = first as usize;
-    while i < n {
-        let brought = set.minus(TimerSet { bits: cut[i] });
-        top = join_into(targets[i], brought.bits, sets, idle, waiting, top);
-        i = next[i] as usize;
-    }
-    top
-}
+use worklist::NONE;
+use worklist::list_edges;
+use worklist::push;
+use worklist::visit;
 
 // Takes the locations from the list, one by one, and goes over their transitions, until none waits.
 fn empty_list<'a>(
@@ -127,7 +36,18 @@ fn empty_list<'a>(
         left -= 1;
         let q = waiting[left] as usize;
         idle[q] = 1;
-        left = visit(targets, cut, next, first[q], q, sets, idle, waiting, left);
+        left = visit(
+            targets,
+            cut,
+            first,
+            next,
+            q,
+            sets[q],
+            sets,
+            idle,
+            waiting,
+            left,
+        );
     }
 }
 
@@ -145,7 +65,7 @@ pub fn settle_forward<'a>(
 {
     let mut first = [NONE; MOST_LOCATIONS];
     let mut next = [0u16; MOST_TRANSITIONS];
-    link(sources, &mut first, &mut next);
+    list_edges(sources, &mut first, &mut next);
     sets[initial as usize] = TimerSet::EVERY.bits;
     let mut idle = [1u8; MOST_LOCATIONS];
     let mut waiting = [0u16; MOST_LOCATIONS];

@@ -4,7 +4,6 @@ use mathlib.Core.Logic.{_⊎_, inl, inr}
 use mathlib.Core.Bool.{Bool, true, false}
 use mathlib.Core.List.{List}
 use Prim.Native.Nat.{ℕ, _≤_, _<_}
-use native.Mathlib.Omega.{arith}
 use lib.Dec.{leb}
 use lib.ListN.{length, replicate}
 use borrow.Author.Tests.{lt-ltb, le-ltb, lt-leb, le-leb}
@@ -67,7 +66,6 @@ module _ {W : ℕ} {c : Chart} (valid : Valid W c) where
 
   pub own-safe : SafeForward (c .initial) (c .locations) (listsOf c .sources) (listsOf c .targets) (listsOf c .starts)
   own-safe = record {
-    few = omega (arith, sources-each c, valid .few-transitions);
     inside = valid .initial;
     edges = rw none-each (unstarted-safe valid);
   }

@@ -23,12 +23,15 @@ length-forward initial locations sources targets cut =
     length-settled _ ∙ locations-are targets sources cut (replicate (length sources) 0) (ownSets initial locations) ∙ long-own initial locations
 
 module _ {initial locations : ℕ} {sources targets cut : List ℕ} (d : SafeForward initial locations sources targets cut) where
+  pub few-transitions : length sources ≤ mostTransitions
+  few-transitions = omega (arith, d .edges .edges, d .edges .froms)
+
   -- nothing is cut
   pub none-front : _≡_ {A = List ℕ} (take (length sources) (replicate mostTransitions 0)) (replicate (length sources) 0)
-  none-front = take-zeros (length sources) mostTransitions (d .few)
+  none-front = take-zeros (length sources) mostTransitions few-transitions
 
   pub none-length : _≡_ (length {A = ℕ} (take (length sources) (replicate mostTransitions 0))) (length sources)
-  none-length = length-empty (length sources) mostTransitions (d .few)
+  none-length = length-empty (length sources) mostTransitions few-transitions
 
   pub none-cut : SafeForward initial locations sources targets (replicate (length sources) 0)
   none-cut = let e = length-replicate {A = ℕ} (length sources) 0 ∙ d .edges .froms in search needs

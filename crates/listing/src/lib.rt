@@ -32,6 +32,7 @@ fn put_file(out: &mut [u8], limit: u8, file: &[u8]) -> usize
             used,
             floor,
             searched,
+            ..
         } => {
             let l = numbering::judge_limit(limit as u32, used);
             match l {

@@ -1,16 +1,16 @@
--- Elements by their places in joined and gathered lists, numbers that a gathered list has rising, and what is in a filtered list. Hard: a
+-- Elements by their places in joined, reversed and gathered lists, numbers that a gathered list has rising, and what is in a filtered list. Hard: a
 -- gathered list grows at its end, so an element stands in the last part or, by induction, in the parts before it. Assumes nothing.
 use mathlib.Core.Path.{_≡_, refl, sym, ap, _∙_, subst}
 use mathlib.Core.Logic.{_⊎_, inl, inr}
 use mathlib.Core.Bool.{true}
 use mathlib.Core.Option.{Option, none, some, Option·none-ne-some, Option·some-injective}
-use mathlib.Core.List.{List, [], _∷_, _++_, map, map-append, filterMap, filterMap-cons-none, filterMap-cons-some}
+use mathlib.Core.List.{List, [], _∷_, _++_, map, map-append, filterMap, filterMap-cons-none, filterMap-cons-some, reverse, reverse-cons}
 use Prim.Native.Nat.{ℕ, zero, suc, _≤_, _<_}
 use native.Mathlib.Decide.{ℕ-discrete}
 use native.Mathlib.Omega.{arith}
 use lib.ListN.{getElem?}
 use Rattle.lists.specs.Lists.{memb, gather}
-use Rattle.lists.specs.Rising.{Rising}
+use Rattle.lists.specs.Rising.{Rising, All}
 use Rattle.lists.specs.Elements.{Element}
 use Rattle.lists.proofs.Membership.{memb-cases, memb-head, memb-tail, memb-nil}
 use Rattle.lists.proofs.Gather.{rising-append}
@@ -36,6 +36,28 @@ module _ {A : Type 0} where
       go : Element l a ⊎ Element m a → Element (x ∷ l) a ⊎ Element m a
       go (inl h) = inl (element-later h)
       go (inr h) = inr h
+
+  -- ---- a list from its end
+
+  pub in-reversed : (l : List A) (i : ℕ) {a : A} → getElem? l i ≡ some a → Element (reverse l) a
+  in-reversed [] i e = absurd (Option·none-ne-some _ e)
+  in-reversed (x ∷ l) zero e = rw (reverse-cons x l) (element-right (reverse l) (x ∷ []) (record { place = 0; is-nth = e }))
+  in-reversed (x ∷ l) (suc i) e =
+      let r = in-reversed l i e in
+      rw (reverse-cons x l) (element-left (reverse l) (x ∷ []) (r .place) (r .is-nth))
+
+  pub from-reversed : (l : List A) (i : ℕ) {a : A} → getElem? (reverse l) i ≡ some a → Element l a
+  from-reversed [] i e = absurd (Option·none-ne-some _ e)
+  from-reversed (x ∷ l) i {a} e = go (element-cases (reverse l) (x ∷ []) i (rw (reverse-cons x l) at e)) (λ y. from-reversed l (y .place) (y .is-nth))
+    where
+      go : Element (reverse l) a ⊎ Element (x ∷ []) a → (Element (reverse l) a → Element l a) → Element (x ∷ l) a
+      go (inl y) ih = element-later (ih y)
+      go (inr y) ih = element-left (x ∷ []) l (y .place) (y .is-nth)
+
+  -- what each element has, all have
+  pub all-elements : (P : A → Type 0) (l : List A) → ((a : A) → Element l a → P a) → All P l
+  all-elements P [] h = tt
+  all-elements P (x ∷ l) h = (h x (record { place = 0; is-nth = refl }), all-elements P l (λ a e. h a (element-later e)))
 
   -- ---- gathered lists
 

@@ -84,3 +84,11 @@ filled-more f l x h below k lt = go (ℕ-discrete k x)
     go : Dec (k ≡ x) → getD (set l x (f x)) k 0 ≡ f k
     go (yes e) = rw e (getD-set-same l x (f x) 0 h)
     go (no ne) = getD-set-other l x k (f x) 0 ne ∙ below k (omega arith)
+
+-- what holds of the new entry, and of the others before, holds of all
+pub set-all : (P : ℕ → ℕ → Type 0) (l : List ℕ) (t v : ℕ) → t < length l → P t v → ((q : ℕ) → P q (getD l q 0)) → (q : ℕ) → P q (getD (set l t v) q 0)
+set-all P l t v h here rest q = go (ℕ-discrete q t)
+  where
+    go : Dec (q ≡ t) → P q (getD (set l t v) q 0)
+    go (yes e) = rw (e, getD-set-same l t v 0 h) here
+    go (no ne) = rw (getD-set-other l t q v 0 ne) (rest q)

@@ -17,6 +17,11 @@ sum-set [] q v h = absurd (omega arith)
 sum-set (x ∷ xs) zero v h = omega arith
 sum-set (x ∷ xs) (suc q) v h = omega (arith, sum-set xs q v (omega arith))
 
+pub sum-ones : (n : ℕ) → sumOf (replicate n 1) ≡ n
+unfolding sumOf
+sum-ones zero = refl
+sum-ones (suc n) = omega (arith, sum-ones n)
+
 -- a list that is nowhere higher is equal or has a smaller sum
 pub sum-less : (a b : List ℕ) → length a ≡ length b → ((x : ℕ) → getD a x 0 ≤ getD b x 0) → (a ≡ b) ⊎ (sumOf a < sumOf b)
 unfolding sumOf

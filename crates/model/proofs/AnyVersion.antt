@@ -1,5 +1,5 @@
--- Live sets, families and their numbers, the floor, the judgement, the rewriting, runs and the player do not look at a chart's version. Nothing is
--- hard: none of their definitions reads it; only a step list is gone through. Assumes nothing.
+-- Live sets and their rounds, families and their numbers, the floor, the judgement, the rewriting, runs and the player do not look at a chart's
+-- version. Nothing is hard: none of their definitions reads it; only a step list is gone through. Assumes nothing.
 use mathlib.Core.Path.{_≡_, refl, ap, _∙_}
 use mathlib.Core.Bool.{Bool, true, false, not}
 use mathlib.Core.List.{List, [], _∷_}
@@ -11,7 +11,7 @@ use Rattle.model.specs.Chart.{Chart}
 use Rattle.model.specs.Version.{inVersion}
 use Rattle.model.specs.Run.{State, Step, enabled, attempt, steps, begin, outcome, accepts}
 use Rattle.model.specs.Live.{atInitial, liveFlow, unstartedFlow, reachedFlow}
-use Rattle.model.specs.Live.{liveSets, unstartedSets, reachedSets, firstUnreached, firstUnstarted}
+use Rattle.model.specs.Live.{liveSets, liveRounds, unstartedSets, reachedSets, firstUnreached, firstUnstarted}
 use Rattle.model.specs.Family.{livePairs}
 use Rattle.model.specs.FirstFit.{board, usedBy, blocked}
 use Rattle.model.specs.Floor.{floor, searched}
@@ -71,12 +71,13 @@ unfolding inVersion countsJudged answerOf outcome begin arrival accepts
 same-played-on version c counts is ts = rw (same-steps version c _ 0 _ (stepsOf is ts))
 
 pub same-in-version : (version : ℕ) (c : Chart) → SameInVersion version c
-unfolding inVersion liveSets liveFlow board livePairs floor searched outcome begin rewriting played
+unfolding inVersion liveSets liveRounds liveFlow board livePairs floor searched outcome begin rewriting played
 same-in-version version c = record {
   same-live = refl;
   same-board = refl;
   same-floor = refl;
   same-searched = refl;
+  same-rounds = refl;
   same-judged = same-judged version c;
   same-rewriting = λ K. after-judged version c (fitted K) ∙ each (judged c) (fitted K) _ (same-fitted version K);
   same-outcome = λ allowed v es. same-steps version c allowed 0 (begin c v) es;

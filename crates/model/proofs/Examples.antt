@@ -1,34 +1,38 @@
--- Runs, their acceptance, their points and plans by examples: of each one that holds and one that is shown not to. Nothing is hard: what the
--- definitions compute is put to the laws of `Meanings`. Assumes nothing.
+-- Runs, their acceptance, their points and plans by examples: of each one that holds and one that is shown not to; and charts with the most rounds.
+-- Nothing is hard: what the definitions compute is put to the laws of `Meanings`. Assumes nothing.
 use mathlib.Core.Path.{_≡_, refl, sym, ap, _∙_}
 use mathlib.Core.Logic.{_↔_}
 use mathlib.Core.Bool.{Bool, true, false, true≢false}
 use mathlib.Core.Option.{some, Option·some-injective, Option·none-ne-some}
-use mathlib.Core.List.{List, [], _∷_}
+use mathlib.Core.List.{List, [], _∷_, map}
 use Prim.Native.Nat.{ℕ, zero, suc, _+_}
 use native.Mathlib.Omega.{arith}
-use lib.ListN.{getD, take}
+use lib.ListN.{getD, getElem?, take}
 use lib.Seq.{take-nil}
-use Rattle.timer_set.specs.Members.{member}
+use Rattle.timer_set.specs.Members.{member, joined, common, minus, added, everyTimer, setOf}
 use Rattle.comparison.specs.Comparison.{met}
-use Rattle.lists.specs.Lists.{memb}
+use Rattle.lists.specs.Lists.{memb, firstOf, lowest, gather, upTo}
 use Rattle.model.specs.Answer.{result, refused, then}
-use Rattle.model.specs.Chart.{Chart}
-use Rattle.model.specs.Valid.{Valid}
+use Rattle.model.specs.Version.{knownVersion, widthOf}
+use Rattle.model.specs.Chart.{Test, Transition, Chart}
+use Rattle.model.specs.AnyOrder.{SameTransitions}
+use Rattle.model.specs.Valid.{Valid, Storable}
 use Rattle.model.specs.Path.{Live, Reached}
 use Rattle.model.specs.Places.{Accepted}
-use Rattle.model.specs.Live.{liveSets, live}
+use Rattle.model.specs.Flow.{brings, made, round, roundsOf, sameSets, changing, settled, rounds}
+use Rattle.model.specs.Live.{startsSet, testsSet, atInitial, liveFlow, unstartedFlow, reachedFlow}
+use Rattle.model.specs.Live.{liveSets, liveRounds, unstartedSets, reachedSets, live, isEmpty, firstUnreached, firstUnstarted}
 use Rattle.model.specs.Run.{Counts, State, EndsAccepting, Point, accepts, waited}
 use Rattle.model.specs.Run.{grown, restarted, allMet, after, enabled, attempt, steps, begin, outcome, everyTime}
 use Rattle.model.specs.Player.{Arrival, stepsOf, arrival, answerOf}
 use Rattle.model.specs.FirstFit.{board}
 use Rattle.model.specs.Rewrite.{Numbering, numbering}
 use Rattle.model.specs.Plan.{Has, Plan}
-use Rattle.model.specs.Judge.{rewriting}
+use Rattle.model.specs.Judge.{judged, rewriting}
 use Rattle.model.specs.Equivalence.{IsRun}
 use Rattle.model.specs.Cases.{arrow, test, drawn, A, B, B′, Reply, ask, case, starred, unnoticed}
 use Rattle.model.specs.Cases.Reply.{sets, rewriting-is as rewriting-reply}
-use Rattle.model.specs.Examples.{oneStep, twoSteps, stricter, otherEnd, liveNumbers, oneNumber, drawnNumbers}
+use Rattle.model.specs.Examples.{oneStep, twoSteps, stricter, otherEnd, liveNumbers, oneNumber, drawnNumbers, loopStarted, loopNotStarted}
 use Rattle.model.proofs.Starred.{starred-hold}
 use Rattle.model.proofs.Answers.{result-refused, result-same}
 use Rattle.model.proofs.Paths.{live-here, live-back, live-inside, live-unstarted}
@@ -139,3 +143,50 @@ one-number-no-plan P =
   where
     two : Reached A 2
     two = record { path = 0 ∷ 1 ∷ []; leads = (_, record { there = refl }, refl, (_, record { there = refl }, refl, refl)) }
+
+-- ---- rounds: the bounds `rounds-accepted` and `rounds-most` are reached, by charts of two locations
+
+loop-started : judged loopStarted ≡ result loopStarted
+unfolding loopStarted drawn arrow test judged
+    member joined common minus added everyTimer setOf memb lowest firstOf gather upTo brings made round roundsOf sameSets changing settled
+    startsSet testsSet atInitial unstartedFlow reachedFlow unstartedSets reachedSets isEmpty firstUnreached firstUnstarted
+loop-started = refl
+
+loop-not-started : judged loopNotStarted ≡ refused 10 1
+unfolding loopNotStarted drawn arrow test judged
+    member joined common minus added everyTimer setOf memb lowest firstOf gather upTo brings made round roundsOf sameSets changing settled
+    startsSet testsSet atInitial unstartedFlow reachedFlow unstartedSets reachedSets isEmpty firstUnreached firstUnstarted
+loop-not-started = refl
+
+loops-storable : Storable loopStarted × Storable loopNotStarted
+unfolding loopStarted loopNotStarted drawn arrow test knownVersion widthOf
+loops-storable = (record { known = refl; valid = omega arith }, record { known = refl; valid = omega arith })
+
+loop-rounds : (liveRounds loopStarted ≡ loopStarted .locations) × (liveRounds loopNotStarted ≡ suc (loopNotStarted .locations))
+unfolding loopStarted loopNotStarted drawn arrow test
+    member joined minus added setOf lowest gather upTo brings made round roundsOf sameSets changing rounds startsSet testsSet liveFlow liveRounds
+loop-rounds = (refl, refl)
+
+-- an accepted chart with as many rounds as locations
+pub most-rounds-accepted : Storable loopStarted × Accepted loopStarted × (liveRounds loopStarted ≡ loopStarted .locations)
+most-rounds-accepted = let s = loops-storable .0 in (s, accepted (s .valid) .0 loop-started, loop-rounds .0)
+
+-- and one that a file can hold, but that is refused, with one round more
+pub most-rounds : Storable loopNotStarted × (judged loopNotStarted ≡ refused 10 1) × (liveRounds loopNotStarted ≡ suc (loopNotStarted .locations))
+most-rounds = (loops-storable .1, loop-not-started, loop-rounds .1)
+
+-- ---- charts with the same transitions: last-to-first (AnyOrder) is an example; here are two that have not
+
+pub stricter-other-transitions : SameTransitions B stricter → ⊥
+unfolding B stricter drawn arrow test
+stricter-other-transitions s = let e = s .there _ (record { place = 1; is-nth = refl }) in none (e .place) (e .is-nth)
+  where
+    -- source and constants of a transition
+    told : Transition → ℕ × List ℕ
+    told r = (r .source, map (λ (t : Test). t .constant) (r .tests))
+
+    none : (k : ℕ) → getElem? (stricter .transitions) k ≡ getElem? (B .transitions) 1 → ⊥
+    none zero e = omega (arith, ap (λ r. told r .0) (Option·some-injective _ _ e))
+    none (suc zero) e = omega (arith, ap (λ r. getD (told r .1) 0 0) (Option·some-injective _ _ e))
+    none (suc (suc zero)) e = omega (arith, ap (λ r. told r .0) (Option·some-injective _ _ e))
+    none (suc (suc (suc k))) e = Option·none-ne-some _ e

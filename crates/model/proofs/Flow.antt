@@ -23,6 +23,12 @@ pub data Way (f : Flow) (j : ℕ) (P : ℕ → Type 0) (q : ℕ) : Type 0 where
   by-gain : {e : Edge} → EdgeInto f q e → member (e .gain) j ≡ true → Way f j P q
   by-edge : {e : Edge} → EdgeInto f q e → member (e .cut) j ≡ false → P (e .from) → Way f j P q
 
+-- the same way, where P implies P′
+pub way-as : {f : Flow} {j q : ℕ} {P P′ : ℕ → Type 0} → ((s : ℕ) → P s → P′ s) → Way f j P q → Way f j P′ q
+way-as u (by-own o) = by-own o
+way-as u (by-gain i g) = by-gain i g
+way-as u (by-edge {e} i n s) = by-edge i n (u (e .from) s)
+
 or-none : (b : Bool) → b ≡ (b || false)
 or-none true = refl
 or-none false = refl

@@ -5,8 +5,11 @@ pub mod Paths
 pub mod Edges
 pub mod Flow
 pub mod Rounds
+pub mod RoundsBound
 pub mod Settled
 pub mod LivePaths
+pub mod LiveRounds
+pub mod AnyOrder
 pub mod Forward
 pub mod Judgement
 pub mod FirstFit

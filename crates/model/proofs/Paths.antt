@@ -31,13 +31,10 @@ module _ (c : Chart) where
 -- ---- live, from the end of the path backwards
 
 module _ {c : Chart} {j : ℕ} where
-  pub live-here : {q : ℕ} → ReadAt c q j → Live c q j
+  unfoldable pub live-here : {q : ℕ} → ReadAt c q j → Live c q j
   live-here {q} r = record { front = []; end = q; leads = refl; unstarted = tt; read = r }
 
-  pub live-test : {i : ℕ} {r : Transition} → Nth c i r → tested j (r .tests) ≡ true → Live c (r .source) j
-  live-test {i} {r} n t = live-here (record { number = i; transition = r; is-nth = n; leaves = refl; tests-it = t })
-
-  pub live-back : {i : ℕ} {r : Transition} → Nth c i r → memb j (r .starts) ≡ false → Live c (r .target) j → Live c (r .source) j
+  unfoldable pub live-back : {i : ℕ} {r : Transition} → Nth c i r → memb j (r .starts) ≡ false → Live c (r .target) j → Live c (r .source) j
   live-back {i} {r} n f l = record {
     front = i ∷ l .front;
     end = l .end;

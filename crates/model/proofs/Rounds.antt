@@ -17,13 +17,13 @@ use Rattle.lists.proofs.Gather.{length-upTo, getD-upTo}
 use Rattle.lists.proofs.Zeros.{getD-zeros}
 use Rattle.model.specs.Flow.{Edge, Flow, brings, made, round, roundsOf}
 use Rattle.model.proofs.Edges.{withEdge, withEdges}
-use Rattle.model.proofs.Flow.{Way, made-out, made-in}
+use Rattle.model.proofs.Flow.{Way, way-as, made-out, made-in}
 use Rattle.model.specs.Comes.Comes.{owned, gained, along}
 use Rattle.model.proofs.Flow.Way.{by-own, by-gain, by-edge}
 
--- each timer of each set of a is in the same set of b
-abbrev pub Under : List ℕ → List ℕ → Type 0
-Under a b = (q j : ℕ) → member (getD a q 0) j ≡ true → member (getD b q 0) j ≡ true
+-- where timer j is in a set of a, it is in the same set of b
+abbrev pub Under : ℕ → List ℕ → List ℕ → Type 0
+Under j a b = (q : ℕ) → member (getD a q 0) j ≡ true → member (getD b q 0) j ≡ true
 
 -- every set is a word of 64
 abbrev pub Words : List ℕ → Type 0
@@ -38,6 +38,9 @@ module _ (f : Flow) where
   unfolding roundsOf
   length-rounds zero = length-replicate {A = ℕ} (f .locations) 0
   length-rounds (suc k) = length-round (roundsOf f k)
+
+  pub rounds-beyond : (k q : ℕ) → f .locations ≤ q → getD (roundsOf f k) q 0 ≡ 0
+  rounds-beyond k q h = List·getD-eq-default (roundsOf f k) 0 (omega (arith, length-rounds k))
 
   getD-round : (before : List ℕ) (q : ℕ) → q < f .locations → getD (round f before) q 0 ≡ made f before q
   unfolding round
@@ -61,18 +64,13 @@ module _ (f : Flow) where
   pub round-in : (before : List ℕ) (q j : ℕ) → InRound before q j → member (getD (round f before) q 0) j ≡ true
   round-in before q j x = rw (getD-round before q (x .below)) (made-in f before q j (x .way))
 
-  round-mono : (a b : List ℕ) → Under a b → Under (round f a) (round f b)
-  round-mono a b u q j h = let x = round-out a q j h in round-in b q j (record { below = x .below; way = more (x .way) })
-    where
-      more : Way f j (λ s. member (getD a s 0) j ≡ true) q → Way f j (λ s. member (getD b s 0) j ≡ true) q
-      more (by-own o) = by-own o
-      more (by-gain i g) = by-gain i g
-      more (by-edge {e} i n s) = by-edge i n (u (e .from) j s)
+  pub round-mono : (j : ℕ) (a b : List ℕ) → Under j a b → Under j (round f a) (round f b)
+  round-mono j a b u q h = let x = round-out a q j h in round-in b q j (record { below = x .below; way = way-as u (x .way) })
 
-  pub rounds-grow : (k : ℕ) → Under (roundsOf f k) (roundsOf f (suc k))
+  pub rounds-grow : (j k : ℕ) → Under j (roundsOf f k) (roundsOf f (suc k))
   unfolding roundsOf
-  rounds-grow zero q j h = absurd (not-both (rw getD-zeros at h) (member-empty j))
-  rounds-grow (suc k) q j h = round-mono (roundsOf f k) (roundsOf f (suc k)) (rounds-grow k) q j h
+  rounds-grow j zero q h = absurd (not-both (rw getD-zeros at h) (member-empty j))
+  rounds-grow j (suc k) q h = round-mono j (roundsOf f k) (roundsOf f (suc k)) (rounds-grow j k) q h
 
   pub sound : (k q j : ℕ) → member (getD (roundsOf f k) q 0) j ≡ true → Comes f j q
   unfolding roundsOf

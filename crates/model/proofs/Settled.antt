@@ -1,48 +1,21 @@
--- Rounds end, and where they end the sets hold exactly what comes. Hard: the number of rounds, bounded by how many timers can still be added: each
--- round that changes a set puts one more into one, and there is room for 64 to a location. Assumes nothing.
-use mathlib.Core.Path.{_≡_, refl, sym, ap, ap₂, _∙_}
+-- The rounds end with the first that changes nothing, which is found, and there the sets hold exactly what comes. Nothing is hard: that there is such
+-- a round is shown in RoundsBound. Assumes nothing.
+use mathlib.Core.Path.{_≡_, refl, sym, ap, ap₂}
 use mathlib.Core.Logic.{_⊎_, inl, inr, _↔_}
 use mathlib.Core.Bool.{Bool, true, true≢false}
-use mathlib.Core.List.{List, [], _∷_, map}
-use Prim.Native.Nat.{ℕ, zero, suc, _+_, _*_, _≤_, _<_}
-use native.Mathlib.Nat.{suc-inj, suc-ne-zero}
+use mathlib.Core.List.{List, [], _∷_}
+use Prim.Native.Nat.{ℕ, suc, _*_, _≤_, _<_}
 use native.Mathlib.Omega.{arith}
-use lib.Count.{ones, ones-le}
+use lib.Count.{ones}
 use lib.Dec.{eqb}
-use lib.ListN.{length, getD, List·getD-eq-default}
+use lib.ListN.{length, getD}
 use Rattle.timer_set.specs.Members.{member}
-use Rattle.lists.specs.Lists.{sumOf}
 use Rattle.model.specs.Comes.{Comes, Shaped}
-use Rattle.timer_set.proofs.Counts.{ones-grow}
 use Rattle.lists.proofs.Bools.{lt-or-le, not-both, is-no, and-left, and-right, and-both, eqb-self, same-number}
-use Rattle.lists.proofs.Lowest.{lowest-passes, lowest-before, lowest-is}
+use Rattle.lists.proofs.Lowest.{lowest-passes, lowest-before, lowest-most, lowest-is}
 use Rattle.model.specs.Flow.{Flow, round, roundsOf, sameSets, changing, settled, rounds}
-use Rattle.model.proofs.Rounds.{Under, Words, length-rounds, rounds-grow, sound, complete, rounds-words}
-
--- ---- how many timers stand in the sets
-
-abbrev timersIn : List ℕ → ℕ
-timersIn l = sumOf (map ones l)
-
-timers-most : (l : List ℕ) → Words l → timersIn l ≤ 64 * length l
-unfolding sumOf
-timers-most [] h = omega arith
-timers-most (w ∷ ws) h = omega (arith, ones-le 64 w (h 0), timers-most ws (λ q. h (suc q)))
-
-more : (a b : List ℕ) → Words a → Words b → length a ≡ length b → Under a b → (a ≡ b) ⊎ (timersIn a < timersIn b)
-unfolding sumOf
-more [] [] v w e u = inl refl
-more [] (y ∷ ys) v w e u = absurd (suc-ne-zero (length ys) (sym e))
-more (x ∷ xs) [] v w e u = absurd (suc-ne-zero (length xs) e)
-more (x ∷ xs) (y ∷ ys) v w e u =
-    go (ones-grow 64 x y (v 0) (w 0) (λ j l. u 0 j)) (more xs ys (λ q. v (suc q)) (λ q. w (suc q)) (suc-inj e) (λ q. u (suc q)))
-  where
-    go : (x ≡ y) ⊎ (ones x < ones y) → (xs ≡ ys) ⊎ (timersIn xs < timersIn ys)
-        → (x ∷ xs ≡ y ∷ ys) ⊎ (ones x + timersIn xs < ones y + timersIn ys)
-    go (inl p) (inl q) = inl (ap₂ (λ (z : ℕ) (zs : List ℕ). z ∷ zs) p q)
-    go (inl p) (inr q) = inr (omega (arith, ap ones p))
-    go (inr p) (inl q) = inr (omega (arith, ap timersIn q))
-    go (inr p) (inr q) = inr (omega arith)
+use Rattle.model.proofs.Rounds.{Words, length-rounds, sound, complete, rounds-words}
+use Rattle.model.proofs.RoundsBound.{locationsWith, with-most, still-after}
 
 -- ---- the same sets
 
@@ -72,7 +45,7 @@ pub record Ends (f : Flow) (k : ℕ) : Type 0 where
   pub rounds-are : rounds f ≡ suc k
 
 module _ (f : Flow) where
-  -- round number k changes nothing
+  -- the round after k changes nothing
   abbrev still : ℕ → Bool
   still k = sameSets (roundsOf f k) (roundsOf f (suc k))
 
@@ -84,32 +57,19 @@ module _ (f : Flow) where
   unfolding settled
   length-settled = length-rounds f (changing f)
 
-  pub settled-beyond : (q : ℕ) → f .locations ≤ q → getD (settled f) q 0 ≡ 0
-  settled-beyond q h = List·getD-eq-default (settled f) 0 (omega (arith, length-settled))
-
   module _ (shaped : Shaped f) where
-    -- the round after k changes nothing, or adds a timer
-    abbrev StillOrMore : ℕ → Type 0
-    StillOrMore k = (roundsOf f k ≡ roundsOf f (suc k)) ⊎ (timersIn (roundsOf f k) < timersIn (roundsOf f (suc k)))
-
-    next : (k : ℕ) → StillOrMore k
-    next k =
-        let lengths = length-rounds f k ∙ sym (length-rounds f (suc k)) in
-        more (roundsOf f k) (roundsOf f (suc k)) (rounds-words f shaped k) (rounds-words f shaped (suc k)) lengths (rounds-grow f k)
-
-    room : (k : ℕ) → timersIn (roundsOf f k) ≤ 64 * f .locations
-    room k = omega (arith, timers-most (roundsOf f k) (rounds-words f shaped k), length-rounds f k)
-
-    counted : (k : ℕ) → Changes f k → k ≤ timersIn (roundsOf f k)
-    counted zero m = omega arith
-    counted (suc k) m = go (next k) (counted k (λ i l. m i (omega arith)))
+    -- no more rounds change a set than there are locations
+    pub few-changes : (k : ℕ) → Changes f k → k ≤ f .locations
+    few-changes k m = go (lt-or-le (f .locations) k)
       where
-        go : StillOrMore k → k ≤ timersIn (roundsOf f k) → suc k ≤ timersIn (roundsOf f (suc k))
-        go (inl e) h = absurd (m k (omega arith) e)
-        go (inr l) h = omega arith
+        go : (f .locations < k) ⊎ (k ≤ f .locations) → k ≤ f .locations
+        go (inl l) = absurd (m (f .locations) l (still-after f shaped (f .locations) (λ i j. with-most f i j)))
+        go (inr l) = l
 
-    pub few-changes : (k : ℕ) → Changes f k → k ≤ 64 * f .locations
-    few-changes k m = omega (arith, counted k m, room k)
+    -- nor than locations can have a timer
+    pub changing-most : (L : ℕ) → ((k j : ℕ) → ones (locationsWith f k j) ≤ L) → changing f ≤ L
+    unfolding changing
+    changing-most L most = lowest-most still (64 * f .locations) L (rw (← still-after f shaped L most) (same-sets-self (roundsOf f L)))
 
     -- the first round that changes nothing ends them
     pub ends : (k : ℕ) → roundsOf f (suc k) ≡ roundsOf f k → Changes f k → Ends f k
@@ -118,18 +78,18 @@ module _ (f : Flow) where
       where
         is : changing f ≡ k
         is =
-            lowest-is still (64 * f .locations) k (few-changes k m) (λ l. rw e (same-sets-self (roundsOf f k)))
+            lowest-is still (64 * f .locations) k (omega (arith, few-changes k m)) (λ l. rw e (same-sets-self (roundsOf f k)))
             (λ i l. is-no (still i) (λ t. m i l (same-sets-equal (roundsOf f i) (roundsOf f (suc i)) t)))
 
     pub settled-still : round f (settled f) ≡ settled f
     unfolding settled roundsOf changing
-    settled-still = sym (go (next (changing f)) (lt-or-le (changing f) (64 * f .locations)))
+    settled-still = sym (go (lt-or-le (changing f) (64 * f .locations)))
       where
-        go : StillOrMore (changing f)
-            → (changing f < 64 * f .locations) ⊎ (64 * f .locations ≤ changing f) → roundsOf f (changing f) ≡ roundsOf f (suc (changing f))
-        go (inl e) x = e
-        go (inr l) (inl h) = same-sets-equal (roundsOf f (changing f)) (roundsOf f (suc (changing f))) (lowest-passes still (64 * f .locations) h)
-        go (inr l) (inr h) = absurd (omega (arith, counted (changing f) changing-moves, room (suc (changing f))))
+        go : (changing f < 64 * f .locations) ⊎ (64 * f .locations ≤ changing f) → roundsOf f (changing f) ≡ roundsOf f (suc (changing f))
+        go (inl h) = same-sets-equal (roundsOf f (changing f)) (roundsOf f (suc (changing f))) (lowest-passes still (64 * f .locations) h)
+        go (inr h) =
+            let none : changing f ≡ f .locations = omega (arith, few-changes (changing f) changing-moves) in
+            rw none (still-after f shaped (f .locations) (λ i j. with-most f i j))
 
     pub settled-words : Words (settled f)
     unfolding settled

@@ -8,9 +8,9 @@ use Rattle.timer_set.specs.Members.{member, joined, common, minus, added, every
 use Rattle.comparison.specs.Comparison.{met}
 use Rattle.lists.specs.Lists.{memb, anyOf, firstOf, lowest, gather, upTo, pick, top}
 use Rattle.model.specs.Run.{grown, restarted, allMet, after, enabled, attempt, steps, begin, outcome, playerTime, accepts}
-use Rattle.model.specs.Flow.{brings, made, round, roundsOf, sameSets, changing, settled}
+use Rattle.model.specs.Flow.{brings, made, round, roundsOf, sameSets, changing, settled, rounds}
 use Rattle.model.specs.Live.{startsSet, testsSet, atInitial, liveFlow, unstartedFlow, reachedFlow}
-use Rattle.model.specs.Live.{liveSets, fullest, unstartedSets, reachedSets, isEmpty, firstUnreached, firstUnstarted}
+use Rattle.model.specs.Live.{liveSets, liveRounds, fullest, unstartedSets, reachedSets, isEmpty, firstUnreached, firstUnstarted}
 use Rattle.model.specs.Family.{isPair, livePairs, familyNumber, linkFlow, familyOf, familyFrom, families, meets}
 use Rattle.model.specs.FirstFit.{held, free, place, firstFit, usedBy, numberAt, allHeld, blocked, board}
 use Rattle.model.specs.SmallestPlan.{placings, meetingDiffer, planned, fewest}
@@ -21,17 +21,19 @@ use Rattle.model.specs.Player.{arrival, answerOf, tooLarge, countsJudged
 use Rattle.model.specs.Cases.{arrow, onEvent, test, drawn, A, B, C, selfLoop, neverStarted, restart, ownStart, twoEvents, aboveFloor, lone}
 use Rattle.model.specs.Version.{inVersion}
 use Rattle.model.specs.Cases.{B′, C′, selfLoop′, twoEvents′, longDwell, beyondCounts, longDwell′}
+use Rattle.model.specs.AnyOrder.{lastToFirst}
 use Rattle.model.specs.Cases.{boardNumbers, ask, Case, case, starred, unnoticed}
 
 pub starred-hold : map (λ (x : Case). ask (x .question)) (starred ++ unnoticed) ≡ map (λ (x : Case). x .reply) (starred ++ unnoticed)
 unfolding arrow onEvent test drawn inVersion A B C selfLoop neverStarted restart ownStart twoEvents aboveFloor
-    B′ C′ selfLoop′ twoEvents′ longDwell beyondCounts longDwell′
+    B′ C′ selfLoop′ twoEvents′ longDwell beyondCounts longDwell′ lastToFirst
     boardNumbers ask case starred unnoticed
     member joined common minus added everyTimer met ones onesIn filterMap
     memb anyOf firstOf lowest gather upTo pick top
     grown restarted allMet after enabled attempt steps begin outcome playerTime accepts
-    brings made round roundsOf sameSets changing settled
-    setOf startsSet testsSet atInitial liveFlow unstartedFlow reachedFlow liveSets unstartedSets reachedSets isEmpty firstUnreached firstUnstarted
+    brings made round roundsOf sameSets changing settled rounds
+    setOf startsSet testsSet atInitial liveFlow unstartedFlow reachedFlow liveSets liveRounds
+    unstartedSets reachedSets isEmpty firstUnreached firstUnstarted
     isPair livePairs familyNumber linkFlow familyOf familyFrom families meets
     held free place firstFit usedBy numberAt allHeld blocked board
     placings meetingDiffer planned fewest searched fullest floor

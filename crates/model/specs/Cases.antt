@@ -9,7 +9,8 @@ use Rattle.lists.specs.Lists.{upTo}
 use Rattle.model.specs.Answer.{Answer, result, refused, nowhere}
 use Rattle.model.specs.Chart.{Test, Transition, Chart}
 use Rattle.model.specs.Version.{inVersion}
-use Rattle.model.specs.Live.{liveSets}
+use Rattle.model.specs.AnyOrder.{lastToFirst}
+use Rattle.model.specs.Live.{liveSets, liveRounds}
 use Rattle.model.specs.Family.{familyNumber}
 use Rattle.model.specs.FirstFit.{Placed, board, usedBy}
 use Rattle.model.specs.Floor.{floor}
@@ -146,6 +147,7 @@ longDwell′ = inVersion 2 (drawn 3 2 1 (arrow 0 1 (0 ∷ []) [] ∷ arrow 1 2 [
 -- what a case asks of a chart
 pub data Question : Type 0 where
   live-sets : Chart → Question
+  round-count : Chart → Question
   numbers : Chart → Question
   rewrite : Chart → (K : ℕ) → Question
   play : Chart → (counts transitions times : List ℕ) → Question
@@ -153,6 +155,7 @@ pub data Question : Type 0 where
 -- what the document answers
 pub data Reply : Type 0 where
   sets : List ℕ → Reply
+  count : ℕ → Reply
   given : List (ℕ × ℕ) → (used floor : ℕ) → Reply
   rewriting-is : Answer Rewriting → Reply
   played-is : Answer Arrival → Reply
@@ -164,6 +167,7 @@ boardNumbers ps = reverse (map (λ g. (familyNumber (g .family), g .number)) ps)
 -- what the definitions answer
 unfoldable pub ask : Question → Reply
 ask (live-sets c) = sets (liveSets c)
+ask (round-count c) = count (liveRounds c)
 ask (numbers c) = let placed = board c in given (boardNumbers placed) (usedBy placed) (floor c)
 ask (rewrite c k) = rewriting-is (rewriting k c)
 ask (play c v is ts) = played-is (played c v is ts)
@@ -195,7 +199,8 @@ starred =
 
 -- what "goes wrong unnoticed", beside the cases above: a timer started anew begins a family of its own; a start on the same transition does not
 -- come before its test, neither where it is judged nor where it is played; an event is kept, which is 0 in all charts above; and, by document 02,
--- first fit's used is not the floor, and a constant over 65,535 is kept and compared as it is
+-- first fit's used is not the floor, a constant over 65,535 is kept and compared as it is, the last round is counted, and a round reads only the
+-- round before: sweeps in place over A, written last to first, would be 2
 unfoldable pub unnoticed : List Case
 unnoticed =
     case (numbers restart) (given ((64, 0) ∷ (128, 0) ∷ []) 1 1)
@@ -209,4 +214,9 @@ unnoticed =
     ∷ case (play beyondCounts (16777215 ∷ []) (0 ∷ 1 ∷ []) (0 ∷ 16777215 ∷ [])) (played-is (refused 24 1))
     ∷ case (play beyondCounts (16777215 ∷ []) (0 ∷ 2 ∷ []) (0 ∷ 16777215 ∷ []))
     (played-is (result (record { location = 2; time = 16777215; accepting = true })))
+    ∷ case (round-count A) (count 3)
+    ∷ case (round-count B) (count 2)
+    ∷ case (round-count C) (count 4)
+    ∷ case (round-count selfLoop) (count 1)
+    ∷ case (round-count (lastToFirst A)) (count 3)
     ∷ []

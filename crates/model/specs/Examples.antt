@@ -1,4 +1,5 @@
--- Charts and numberings that differ from document 01's where a relation of demand 3 or of plans has to tell them apart. Assumes nothing.
+-- Charts and numberings that differ from document 01's where a relation of demand 3 or of plans has to tell them apart, and charts with the most
+-- rounds. Assumes nothing.
 use mathlib.Core.Bool.{true, false}
 use mathlib.Core.Option.{none, some}
 use mathlib.Core.List.{List, [], _∷_}
@@ -43,6 +44,14 @@ oneTestMore = drawn 3 2 2 (arrow 0 1 (0 ∷ 1 ∷ []) [] ∷ arrow 1 2 [] (test 
 -- 0→1 tests 0 at least 9, and nothing starts it: the starting count decides
 unfoldable pub countDecides : Chart
 countDecides = drawn 2 1 1 (arrow 0 1 [] (test 0 AtLeast 9 ∷ []) ∷ [])
+
+-- 0→1 starts 0; 1→1 tests 0: as many rounds as locations, the most that an accepted chart can have
+unfoldable pub loopStarted : Chart
+loopStarted = drawn 2 1 1 (arrow 0 1 (0 ∷ []) [] ∷ arrow 1 1 [] (test 0 AtLeast 0 ∷ []) ∷ [])
+
+-- the same without the start: it is refused 10, and has one round more
+unfoldable pub loopNotStarted : Chart
+loopNotStarted = drawn 2 1 1 (arrow 0 1 [] [] ∷ arrow 1 1 [] (test 0 AtLeast 0 ∷ []) ∷ [])
 
 -- each live timer j with the number f j, wherever it is live
 unfoldable pub liveNumbers : Chart → (f : ℕ → ℕ) → (used : ℕ) → Numbering

@@ -4,6 +4,7 @@ pub mod Version
 pub mod Valid
 pub mod Run
 pub mod Path
+pub mod LiveWithin
 pub mod Flow
 pub mod Live
 pub mod Family
@@ -17,6 +18,7 @@ pub mod Cases
 pub mod Plan
 pub mod Equivalence
 pub mod AnyVersion
+pub mod AnyOrder
 pub mod Returned
 pub mod Places
 pub mod Chain

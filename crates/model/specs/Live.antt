@@ -9,7 +9,7 @@ use lib.ListN.{getD}
 use Rattle.timer_set.specs.Members.{member, common, everyTimer, setOf}
 use Rattle.lists.specs.Lists.{lowest, firstOf}
 use Rattle.model.specs.Chart.{Test, Transition, Chart}
-use Rattle.model.specs.Flow.{Flow, settled}
+use Rattle.model.specs.Flow.{Flow, settled, rounds}
 
 -- the timers that a transition starts
 unfoldable pub startsSet : Transition → ℕ
@@ -54,6 +54,10 @@ reachedFlow c = record {
 -- the live set of each location
 unfoldable pub liveSets : Chart → List ℕ
 liveSets c = settled (liveFlow c)
+
+-- how many rounds find them (document 02, P3)
+unfoldable pub liveRounds : Chart → ℕ
+liveRounds c = rounds (liveFlow c)
 
 -- the count of ones in the fullest of the sets
 unfoldable pub fullest : List ℕ → ℕ

@@ -7,7 +7,7 @@ use native.Mathlib.Omega.{arith}
 use lib.ListN.{length, take}
 use Rattle.model.specs.Answer.{Answer, result, refused}
 use Rattle.model.specs.Chart.{Chart}
-use Rattle.model.specs.Live.{liveSets}
+use Rattle.model.specs.Live.{liveSets, liveRounds}
 use Rattle.model.specs.FirstFit.{used}
 use Rattle.model.specs.Floor.{floor, searched}
 use Rattle.model.proofs.Answers.{result-refused, not-result, result-same, refused-same}
@@ -36,10 +36,10 @@ module _ (c : Chart) {m : Header} (is : m ≡ headerOf c) {live : List ℕ} (b :
   pub live-room : m .locations ≤ length live
   live-room = omega (arith, each, begins-room b)
 
-  pub chart-numbers : {u f : ℕ} {s : Bool} → u ≡ used c → f ≡ floor c → s ≡ searched c
-      → _≡_ {A = FileNumbers} (record { header = m; used = u; floor = f; searched = s }) (fileNumbers c)
+  pub chart-numbers : {u f n : ℕ} {s : Bool} → u ≡ used c → f ≡ floor c → s ≡ searched c → n ≡ liveRounds c
+      → _≡_ {A = FileNumbers} (record { header = m; used = u; floor = f; searched = s; rounds = n }) (fileNumbers c)
   unfolding fileNumbers
-  chart-numbers e g h = rw (is, e, g, h)
+  chart-numbers e g h n = rw (is, e, g, h, n)
 
 -- ---- of a file
 
@@ -51,6 +51,7 @@ pub record FileChart (bs : List ℕ) (x : FileNumbers) : Type 0 where
   pub used-is : x .used ≡ used chart
   pub floor-is : x .floor ≡ floor chart
   pub searched-is : x .searched ≡ searched chart
+  pub rounds-is : x .rounds ≡ liveRounds chart
 
 module _ (bs : List ℕ) where
   -- what is answered, by the judgement
@@ -86,6 +87,7 @@ module _ (bs : List ℕ) where
             used-is = ap (λ (y : FileNumbers). y .used) g;
             floor-is = ap (λ (y : FileNumbers). y .floor) g;
             searched-is = ap (λ (y : FileNumbers). y .searched) g;
+            rounds-is = ap (λ (y : FileNumbers). y .rounds) g;
           }
       go (refused n p) j = let f : result x ≡ refused n p = rw j at e in absurd (not-result (sym f))
 

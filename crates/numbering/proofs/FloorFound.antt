@@ -13,7 +13,7 @@ use Rattle.lists.specs.Lists.{memb}
 use Rattle.lists.proofs.Gather.{rising-below}
 use Rattle.model.specs.Chart.{Chart}
 use Rattle.model.specs.Valid.{Valid}
-use Rattle.model.specs.Live.{liveSets, fullest}
+use Rattle.model.specs.Live.{fullest}
 use Rattle.model.specs.Family.{Family, familyOf, families, livePairs}
 use Rattle.model.specs.SmallestPlan.{fewest}
 use Rattle.model.specs.Floor.{mostSearched, searched, floor}

@@ -7,9 +7,9 @@ use lib.ListN.{length, take, replicate, length-replicate}
 use lib.Seq.{take-at}
 use Rattle.lists.proofs.Zeros.{take-zeros}
 use Rattle.model.specs.Chart.{Chart}
-use Rattle.model.specs.Flow.{settled}
-use Rattle.model.specs.Live.{testedSets, liveSets}
-use Rattle.model.specs.Family.{Pairs, Family, families, livePairs}
+use Rattle.model.specs.Flow.{Flow, settled, rounds}
+use Rattle.model.specs.Live.{testedSets, liveFlow, liveSets, liveRounds}
+use Rattle.model.specs.Family.{Pairs, families, livePairs}
 use Rattle.model.specs.FirstFit.{firstFit, usedBy, board, used}
 use Rattle.model.specs.Rewrite.{numbering}
 use Rattle.chart_lists.specs.Limits.{mostLocations}
@@ -56,13 +56,23 @@ module _ (c : Chart) {m : Header} (is : m ≡ headerOf c) {s t w u : List ℕ} (
       rw (sources-front c is (h .sources), targets-front c is (h .targets), starts-front c is (h .starts), tested-front, own-are)
       (live-safe (h .valid))
 
-  module _ {live : List ℕ} (made : live ≡ settled (flowOf (part m s) (part m t) (part m w) (part m u) (own m))) where
+  -- the flow of the fronts
+  abbrev flow : Flow
+  flow = flowOf (part m s) (part m t) (part m w) (part m u) (own m)
+
+  flow-is : flow ≡ liveFlow c
+  flow-is =
+      rw (sources-front c is (h .sources), targets-front c is (h .targets), starts-front c is (h .starts), tested-front, own-are)
+      (live-flow (h .valid))
+
+  rounds-are : {n : ℕ} → n ≡ rounds flow → n ≡ liveRounds c
+  unfolding liveRounds
+  rounds-are e = e ∙ ap rounds flow-is
+
+  module _ {live : List ℕ} (made : live ≡ settled flow) where
     live-are : live ≡ liveSets c
     unfolding liveSets
-    live-are =
-        made
-        ∙ rw (sources-front c is (h .sources), targets-front c is (h .targets), starts-front c is (h .starts), tested-front, own-are)
-        (ap settled (live-flow (h .valid)))
+    live-are = made ∙ ap settled flow-is
 
     length-live : length live ≡ m .locations
     length-live = ap length live-are ∙ live-each c ∙ sym (locations-are c is)
@@ -93,14 +103,15 @@ module _ (c : Chart) {m : Header} (is : m ≡ headerOf c) {s t w u : List ℕ} (
 
       pub numbered : {cells : List ℕ} (beyond : List ℕ) {at : List ℕ} (past : List ℕ) {r : Numbered}
           → cells ≡ cellsOf (numbering (firstFit pairs)) (length (seen m live rest)) → r .used ≡ usedBy (firstFit pairs)
-          → r .families ≡ length (families pairs) → FamiliesAt (families pairs) at → length at ≡ m .locations
+          → r .families ≡ length (families pairs) → FamiliesAt (families pairs) at → length at ≡ m .locations → r .rounds ≡ rounds flow
           → ChartNumbered c (live ++ rest) (cells ++ beyond) (at ++ past) r
       unfolding used
-      numbered beyond {at} past f g k a long = record {
+      numbered beyond {at} past f g k a long n = record {
         live-are = begins-front rest live-are;
         cells-are = begins-front beyond (rw (placed-are, seen-length ∙ locations-are c is) at f);
         used-is = g ∙ ap usedBy placed-are;
         families-is = k ∙ ap (λ (p : Pairs). length (families p)) pairs-are;
+        rounds-is = rounds-are n;
         at-are = subst₂ (λ (p : Pairs) (l : List ℕ). FamiliesAt (families p) l) pairs-are
             (sym (take-at at past (c .locations) (long ∙ locations-are c is))) a;
       }

@@ -1,11 +1,11 @@
--- What numbering leaves of a chart: its live sets, the cells of its board numbers and how many of these are used, which of its first 20 families
--- contain each location and how many families there are. Assumes nothing.
+-- What numbering leaves of a chart: its live sets and how many rounds find them, the cells of its board numbers and how many of these are used, which
+-- of its first 20 families contain each location and how many families there are. Assumes nothing.
 use mathlib.Core.Path.{_≡_}
 use mathlib.Core.List.{List}
 use Prim.Native.Nat.{ℕ}
 use lib.ListN.{length, take}
 use Rattle.model.specs.Chart.{Chart}
-use Rattle.model.specs.Live.{liveSets}
+use Rattle.model.specs.Live.{liveSets, liveRounds}
 use Rattle.model.specs.Family.{families, livePairs}
 use Rattle.model.specs.FirstFit.{board, used}
 use Rattle.model.specs.Rewrite.{numbering}
@@ -20,4 +20,5 @@ pub record ChartNumbered (c : Chart) (live cells at : List ℕ) (r : Numbered) :
   pub cells-are : Begins (cellsOf (numbering (board c)) (c .locations)) cells
   pub used-is : r .used ≡ used c
   pub families-is : r .families ≡ length (families (livePairs c))
+  pub rounds-is : r .rounds ≡ liveRounds c
   pub at-are : FamiliesAt (families (livePairs c)) (take (c .locations) at)

@@ -5,7 +5,7 @@ use Prim.Native.Nat.{ℕ}
 use Rattle.model.specs.Answer.{Answer, result, then}
 use Rattle.model.specs.Chart.{Chart}
 use Rattle.model.specs.Valid.{Valid}
-use Rattle.model.specs.Live.{liveSets}
+use Rattle.model.specs.Live.{liveSets, liveRounds}
 use Rattle.model.specs.FirstFit.{board, used}
 use Rattle.model.specs.Floor.{floor, searched}
 use Rattle.model.specs.Rewrite.{numbering}
@@ -18,15 +18,17 @@ use Rattle.allocation.specs.Cells.{cellsOf}
 use Rattle.numbering.specs.declared.FileNumbered.{FileNumbered}
 use Rattle.numbering.specs.declared.FileNumbered.the-variants as file
 
--- the header of a chart, how many board timers it uses, its floor, and whether that is the fewest timers of any plan
+-- the header of a chart, how many board timers it uses, its floor, whether that is the fewest timers of any plan, and how many rounds find its live
+-- sets
 pub record FileNumbers : Type 0 where
   pub header : Header
   pub used : ℕ
   pub floor : ℕ
   pub searched : Bool
+  pub rounds : ℕ
 
 unfoldable pub fileNumbers : Chart → FileNumbers
-fileNumbers c = record { header = headerOf c; used = used c; floor = floor c; searched = searched c }
+fileNumbers c = record { header = headerOf c; used = used c; floor = floor c; searched = searched c; rounds = liveRounds c }
 
 -- 1 to 10, else these of the file's chart
 unfoldable pub numberedIn : List ℕ → Answer FileNumbers
@@ -34,7 +36,7 @@ numberedIn bs = then (judgedIn bs) (λ c. result (fileNumbers c))
 
 -- what an answer of the code means
 abbrev pub fileNumberedAs : FileNumbered → Answer FileNumbers
-fileNumberedAs (file.Chart h u f s) = result (record { header = h; used = u; floor = f; searched = s })
+fileNumberedAs (file.Chart h u f s r) = result (record { header = h; used = u; floor = f; searched = s; rounds = r })
 fileNumberedAs (file.Refused f) = refusedAs f
 
 -- a chart that a file can hold; the lists begin with its live sets and with the cells of its board numbers

@@ -26,10 +26,11 @@ use chart_lists::MOST_TRANSITIONS;
 use chart_lists::Read;
 use refusal::Refusal;
 
-// How many board numbers a chart uses, and how many families it has.
+// How many board numbers a chart uses, how many families it has, and how many rounds found its live sets.
 pub struct Numbered {
     pub used: u32,
     pub families: u32,
+    pub rounds: u32,
 }
 
 // Whether a board's timers are enough for a chart, or the refusal.
@@ -38,19 +39,22 @@ pub enum Limit {
     Refused(Refusal),
 }
 
-// The chart of a file, how many board numbers it uses, its floor, and whether that is the fewest timers of any plan; or a refusal.
+// The chart of a file, how many board numbers it uses, its floor, whether that is the fewest timers of any plan, and how many rounds found its live
+// sets; or a refusal.
 pub enum FileNumbered {
     Chart {
         header: Header,
         used: u32,
         floor: u32,
         searched: bool,
+        rounds: u32,
     },
     Refused(Refusal),
 }
 
 // The live set of each location over the front of `live`, the board number of each pair (q, j) at 64 q + j over the front of `cells`, and over the
-// front of `families_at` of each location which of the first 20 families contain it. How many numbers are used, and how many families there are.
+// front of `families_at` of each location which of the first 20 families contain it. How many numbers are used, how many families there are, and how
+// many rounds found the live sets.
 pub fn number_chart<'a>(
     header: Header,
     sources: &'a [u16],
@@ -74,7 +78,7 @@ pub fn number_chart<'a>(
     let to = &targets[..n];
     let started = &starts[..n];
     let own = [0u64; MOST_LOCATIONS];
-    flow::settle(from, to, started, &tested[..n], &own[..m], &mut live[..m]);
+    let rounds = flow::settle(from, to, started, &tested[..n], &own[..m], &mut live[..m]);
     let allocated = allocation::allocate(
         from,
         to,
@@ -87,6 +91,7 @@ pub fn number_chart<'a>(
     Numbered {
         used: allocated.used,
         families: allocated.families,
+        rounds,
     }
 }
 
@@ -137,6 +142,7 @@ fn number_judged<'a>(
         used: numbered.used,
         floor: found.floor,
         searched: found.searched,
+        rounds: numbered.rounds,
     }
 }
 

@@ -1,7 +1,7 @@
 -- The places where the tests of the transitions begin, found by adding up the numbers of tests, one transition a turn. Nothing is hard: a sum over
 -- a front grows by the next number. Assumes nothing.
 use mathlib.Core.Path.{_≡_, refl, _∙_}
-use mathlib.Core.List.{List, [], _∷_, map}
+use mathlib.Core.List.{List, [], _∷_}
 use Prim.Native.Nat.{ℕ, zero, suc, _+_, _≤_, _<_}
 use native.Mathlib.Numerals.{add-one}
 use native.Mathlib.Omega.{arith}

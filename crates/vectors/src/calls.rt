@@ -18,11 +18,13 @@ pub fn analyse(file: &[u8], values: &[u8]) {
             used,
             floor,
             searched,
+            rounds,
         } => {
             let locations = count(values, 1, MOST_LOCATIONS);
             item(b"used ", used as u64);
             item(b" floor ", floor as u64);
             item(b" searched ", searched as u64);
+            item(b" rounds ", rounds as u64);
             item(b" beyond ", changed64(0, live, locations) as u64);
             text(b"\nlive");
             sets(live, locations);

@@ -1,11 +1,11 @@
 //! Compares the proved library and the program `allocate` with this crate, on random files, limits, lent memory and
 //! step lists from a seed.
 //!
-//! usage: differential [ROUNDS] [SEED] [--without-program]
+//! usage: differential [TRIALS] [SEED] [--without-program]
 //!
-//! Exit status 0 if all agree and every refusal number, every kind of floor and every kind of version and constant came;
-//! 1 at the first difference, with its input in hex; 2 if one that should come never did, or the program is missing. A
-//! thousand rounds bring all.
+//! Exit status 0 if all agree and every refusal number, every kind of floor, of number of rounds and of version and
+//! constant came; 1 at the first difference, with its input in hex; 2 if one that should come never did, or the program
+//! is missing. A thousand trials bring all.
 
 use std::fmt::{Debug, Display, Formatter};
 use std::io::{ErrorKind, Write};
@@ -47,6 +47,7 @@ struct Tally {
     /// The program's, the number taken from its text.
     listings: ByNumber,
     floors: Floors,
+    live_rounds: LiveRounds,
     versions: Versions,
     /// Texts of the program with either word.
     printed_floor: u64,
@@ -69,7 +70,7 @@ struct Floors {
 }
 
 impl Floors {
-    fn count(&mut self, Analysis { used, floor, searched }: Analysis, fullest: u64) {
+    fn count(&mut self, Analysis { used, floor, searched, .. }: Analysis, fullest: u64) {
         self.used_over_most += u64::from(used > u64::from(MOST_TIMERS));
         self.seen += u64::from(!searched);
         self.searched += u64::from(searched);
@@ -90,6 +91,46 @@ impl Display for Floors {
         let Floors { used_over_most, seen, searched, over_fullest, below_used } = self;
         write!(f, "used over {MOST_TIMERS}: {used_over_most}; floor not searched: {seen}, searched: {searched}, ")?;
         write!(f, "of these above the fullest live set: {over_fullest}, below used: {below_used}")
+    }
+}
+
+/// How often which numbers of rounds of the live sets came.
+#[derive(Default)]
+struct LiveRounds {
+    one: u64,
+    two: u64,
+    to_8: u64,
+    to_255: u64,
+    /// More than a byte holds.
+    more: u64,
+    most: u64,
+}
+
+impl LiveRounds {
+    fn count(&mut self, rounds: u64) {
+        let kind = match rounds {
+            0 => panic!("there is at least one round"),
+            1 => &mut self.one,
+            2 => &mut self.two,
+            3..=8 => &mut self.to_8,
+            9..=255 => &mut self.to_255,
+            _ => &mut self.more,
+        };
+        *kind += 1;
+        self.most = self.most.max(rounds);
+    }
+
+    /// Whether each came.
+    fn all_came(&self) -> bool {
+        [self.one, self.two, self.to_8, self.to_255, self.more].iter().all(|&count| count > 0)
+    }
+}
+
+impl Display for LiveRounds {
+    fn fmt(&self, f: &mut Formatter<'_>) -> std::fmt::Result {
+        let LiveRounds { one, two, to_8, to_255, more, most } = self;
+        write!(f, "live sets in 1 round: {one}, in 2: {two}, in 3 to 8: {to_8}, in 9 to 255: {to_255}, ")?;
+        write!(f, "in more: {more}; the most: {most}")
     }
 }
 
@@ -218,6 +259,7 @@ impl Trial {
             let sets = &rust[..usize::from(chart.locations())];
             let fullest = sets.iter().map(|set| u64::from(set.count_ones())).max().unwrap_or(0);
             self.tally.floors.count(figures, fullest);
+            self.tally.live_rounds.count(figures.rounds);
             self.tally.versions.analysed[place_of(chart.version())] += 1;
         }
         answer
@@ -342,8 +384,8 @@ impl Trial {
         }
     }
 
-    /// One round: a file of some kind, and all calls on it.
-    fn round(&mut self, round: u64) {
+    /// One trial: a file of some kind, and all calls on it.
+    fn run(&mut self, index: u64) {
         let random = &mut self.random;
         let kind = random.below(100);
         let most_steps = if kind.is_multiple_of(10) { 2_000 } else { 25 };
@@ -372,6 +414,8 @@ impl Trial {
                 || chart_a_continued(18),
                 || lone_families(20),
                 || lone_families(21),
+                || looped_chain(MOST_LOCATIONS),
+                || looped_chain(MOST_LOCATIONS).last_to_first(),
             ])(),
             80..=85 => {
                 let shape = Shape::random(random, MOST_LOCATIONS);
@@ -396,6 +440,7 @@ impl Trial {
                 let most = (u64::from(MOST_TESTS) * (levels - 2)).min(u64::from(MOST_TIMERS) / 2);
                 many_numbers(levels as u16, random.between(1, most) as u8)
             }
+            96..=97 => random_chain(random),
             _ => sixty_five_numbers(random.between(1, u64::from(MOST_TIMERS) - 1) as u8),
         };
         if random.chance(1, 4) {
@@ -436,7 +481,7 @@ impl Trial {
                 self.all_calls(&file, None, 0);
             }
         }
-        if round.is_multiple_of(20) {
+        if index.is_multiple_of(20) {
             let random = &mut self.random;
             let most = MOST_TIMERS;
             let k = random.pick(&[0, 1, 2, 3, 8, 16, most - 1, most, most, most + 1, u8::MAX]);
@@ -513,7 +558,7 @@ fn main() {
     let number = |index: usize, default: u64| {
         numbers.get(index).map_or(default, |word| word.parse().unwrap_or_else(|_| panic!("no number: {word}")))
     };
-    let (rounds, seed) = (number(0, 20_000), number(1, 1));
+    let (trials, seed) = (number(0, 20_000), number(1, 1));
     let default = Path::new(env!("CARGO_MANIFEST_DIR")).join("../target/bin/allocate");
     let program = std::env::var_os("CHART_PROGRAM").map_or(default, PathBuf::from);
     let without = options.iter().any(|option| option == "--without-program");
@@ -524,17 +569,18 @@ fn main() {
     let program = (!without).then_some(program);
     let mut trial = Trial { random: Random::new(seed), tally: Tally::default(), program };
     trial.input_lengths();
-    for round in 0..rounds {
-        trial.round(round);
-        if round.is_multiple_of(2_000) {
+    for index in 0..trials {
+        trial.run(index);
+        if index.is_multiple_of(2_000) {
             trial.long_lists();
         }
     }
 
     let tally = &trial.tally;
-    println!("rounds {rounds}, seed {seed}; largest chart {} bytes", tally.largest);
+    println!("trials {trials}, seed {seed}; largest chart {} bytes", tally.largest);
     println!("steps taken: {}", tally.steps_taken);
     println!("analyses with {}", tally.floors);
+    println!("{}", tally.live_rounds);
     println!("{}", tally.versions);
     println!("texts with floor: {}, with seen: {}", tally.printed_floor, tally.printed_seen);
     println!("how often each answer came (0: a result)");
@@ -548,9 +594,11 @@ fn main() {
     let program = trial.program.is_some().then_some(OF_PROGRAM);
     let missing: Vec<usize> = EXPECTED.into_iter().chain(program).filter(|&number| !tally.came(number)).collect();
     let words_came = trial.program.is_none() || tally.printed_floor > 0 && tally.printed_seen > 0;
-    if !missing.is_empty() || !tally.floors.all_came() || !tally.versions.all_came() || !words_came {
-        let Tally { floors, versions, .. } = tally;
-        println!("never came: {missing:?}, or one of: {floors}; or one of: {versions}; or a word of the program");
+    let Tally { floors, live_rounds, versions, .. } = tally;
+    let kinds_came = floors.all_came() && live_rounds.all_came() && versions.all_came();
+    if !missing.is_empty() || !kinds_came || !words_came {
+        print!("never came: {missing:?}, or one of: {floors}; or one of: {live_rounds}; or one of: {versions}; ");
+        println!("or a word of the program");
         exit(2);
     }
     let calls: u64 = tally.all().into_iter().flatten().sum();

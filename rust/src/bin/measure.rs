@@ -1,5 +1,6 @@
 //! Measures the proved library beside this crate: analysis, rewriting and player on small, typical and largest charts,
-//! the larger ones as version 2 too, growth by transitions, and the player's time for a step.
+//! the larger ones as version 2 too, the analysis where there are most numbers or rounds or the floor is hard to find,
+//! growth by transitions, and the player's time for a step.
 //!
 //! usage: measure [REPETITIONS]
 
@@ -7,9 +8,9 @@ use std::hint::black_box;
 
 use timing_chart::analysis::{self, Analysis};
 use timing_chart::chart::Chart;
-use timing_chart::drawing::{chart_a, Drawing};
+use timing_chart::drawing::{chart_a, looped_chain, Arrow, Drawing, AT_LEAST};
 use timing_chart::generator::{accepted, five_groups, hardest_floor, longest, many_numbers, run, Random, Shape, Steps};
-use timing_chart::limits::{LOCATIONS, MOST_TIMERS, MOST_TRANSITIONS};
+use timing_chart::limits::{LOCATIONS, MOST_LOCATIONS, MOST_TIMERS, MOST_TRANSITIONS};
 use timing_chart::player::{self, Playing};
 use timing_chart::rewriting::{self, Rewriting};
 use timing_chart::version::Version;
@@ -120,6 +121,31 @@ fn typical() -> Drawing {
     })
 }
 
+/// The chain of the most locations with a loop at its end: its live sets take as many rounds as there can be.
+fn most_rounds() -> Drawing {
+    looped_chain(MOST_LOCATIONS)
+}
+
+/// A ring of all locations but the initial one, on which 64 timers are tested, each once, four locations apart: its live
+/// sets take 256 rounds too, and each round but the last changes 64 of them.
+fn ring() -> Drawing {
+    let last = MOST_LOCATIONS - 1;
+    let every: Vec<u8> = (0..MOST_TIMERS).collect();
+    let around = |source| Arrow::new(source, if source == last { 1 } else { source + 1 });
+    let mut transitions: Vec<Arrow> = (1..=last).map(around).collect();
+    for (&timer, transition) in every.iter().zip(transitions.iter_mut().step_by(4)) {
+        transition.tests.push((timer, AT_LEAST, 0));
+    }
+    transitions.push(Arrow::new(0, 1).starts(&every));
+    Drawing::new(MOST_LOCATIONS, MOST_TIMERS, transitions)
+}
+
+/// The same chart with each transition twice.
+fn twice(mut drawing: Drawing) -> Drawing {
+    drawing.transitions.extend_from_within(..);
+    drawing
+}
+
 fn largest(transitions: u16) -> Drawing {
     fitting(&Shape { locations: transitions / 2, transitions, cycle: true, lenient: true, ..Shape::LARGEST })
 }
@@ -172,14 +198,15 @@ fn describe(name: &str, drawing: &Drawing) {
     let answer = analysis::analyse(&file, &mut [0; LOCATIONS]).expect("the chart is accepted");
     let tests: usize = drawing.transitions.iter().map(|transition| transition.tests.len()).sum();
     println!(
-        "{name}: {} locations, {} transitions, {} timers, {tests} tests, {} bytes; used {}, {} {}",
+        "{name}: {} locations, {} transitions, {} timers, {tests} tests, {} bytes; used {}, {} {}, rounds {}",
         drawing.locations,
         drawing.transitions.len(),
         drawing.timers,
         file.len(),
         answer.used,
         if answer.searched { "floor" } else { "seen" },
-        answer.floor
+        answer.floor,
+        answer.rounds
     );
 }
 
@@ -205,8 +232,16 @@ fn main() {
         describe(name, drawing);
     }
     // Of these only the analysis is measured.
-    let figures =
-        [("most numbers", many_numbers(17, 32)), ("five groups", five_groups()), ("hardest floor", hardest_floor())];
+    let figures = [
+        ("most numbers", many_numbers(17, 32)),
+        ("five groups", five_groups()),
+        ("hardest floor", hardest_floor()),
+        ("most rounds", most_rounds()),
+        ("most rounds, last to first", most_rounds().last_to_first()),
+        ("most rounds, 512 transitions", twice(most_rounds())),
+        ("most rounds, a ring", ring()),
+        ("ring, 512 transitions", twice(ring())),
+    ];
     for (name, drawing) in &figures {
         describe(name, drawing);
     }

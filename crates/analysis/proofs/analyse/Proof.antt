@@ -25,7 +25,8 @@ sets c = called c .number-file .last .1 .0
 
 -- the chart, and what the lists hold of it
 numbered : (c : tie.After-a2) → let g = c .a2 .given .0 in
-    FileChart (start (called c) .args .file .now) (record { header = g .0; used = g .1 .0; floor = g .1 .1 .0; searched = g .1 .1 .1 .0 })
+    FileChart (start (called c) .args .file .now)
+    (record { header = g .0; used = g .1 .0; floor = g .1 .1 .0; searched = g .1 .1 .1 .0; rounds = g .1 .1 .1 .1 .0 })
 numbered c = file-chart _ (sym (ap fileNumberedAs (c .a2 .given .1)) ∙ called c .number-file .ensures .0)
 
 lists : (c : tie.After-a2) → ListsNumbered (numbered c .chart) (sets c) (called c .number-file .last .1 .1 .0)
@@ -90,7 +91,7 @@ returns-3 c =
     let h : n .chart .locations ≤ length (a .live .now) =
     omega (arith, locations-are (n .chart) (n .header-is), c .before .before .before .before .before .if1 .left) in
     let l = live-front (n .chart) (n .header-is) (lists x .live-are) in (
-      found-answer (a .file .now) (a .live .now) (n .judged) h (n .used-is) (n .floor-is) (n .searched-is),
+      found-answer (a .file .now) (a .live .now) (n .judged) h (n .used-is) (n .floor-is) (n .searched-is) (n .rounds-is),
       found-list (a .file .now) (a .live .now) (n .judged) h l (c .before .before .copy .ensures),
     )
 

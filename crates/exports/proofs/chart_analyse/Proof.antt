@@ -12,10 +12,11 @@ use Rattle.exports.proofs.chart_analyse.Statement.{statement}
 use Rattle.exports.proofs.chart_analyse.Tie as tie
 
 -- the code's cast makes 1 of true and 0 of false
-found : (u f : ℕ) (b : Bool) → _≡_ {A = «chart_analysis»} (record { number = 0; place = 0; used = u; floor = f; searched = boolByte b })
-    (analysisOf (result (record { used = u; floor = f; searched = b })))
-found u f true = refl
-found u f false = refl
+found : (u f : ℕ) (b : Bool) (n : ℕ)
+    → _≡_ {A = «chart_analysis»} (record { number = 0; place = 0; used = u; floor = f; searched = boolByte b; rounds = n })
+    (analysisOf (result (record { used = u; floor = f; searched = b; rounds = n })))
+found u f true n = refl
+found u f false n = refl
 
 analyse-requires : tie.Need-analyse-requires
 analyse-requires c κs = search needs
@@ -23,20 +24,23 @@ analyse-requires c κs = search needs
 enum-known-a : tie.Need-enum-known-a
 enum-known-a c = search needs
 
-cast-t11 : tie.Need-cast-t11
-cast-t11 c = search needs
-
 cast-t12 : tie.Need-cast-t12
 cast-t12 c = search needs
 
 cast-t13 : tie.Need-cast-t13
 cast-t13 c = search needs
 
+cast-t14 : tie.Need-cast-t14
+cast-t14 c = search needs
+
+cast-t15 : tie.Need-cast-t15
+cast-t15 c = search needs
+
 enum-known-a-2 : tie.Need-enum-known-a-2
 enum-known-a-2 c = search needs
 
-cast-t14 : tie.Need-cast-t14
-cast-t14 c = search needs
+cast-t16 : tie.Need-cast-t16
+cast-t16 c = search needs
 
 same-length : tie.Need-same-length
 same-length c = search needs
@@ -45,7 +49,7 @@ returns : tie.Need-returns
 returns c =
     let e = c .before .before .before .before .before .analyse .ensures in
     let g = c .before .a .given .0 in
-    (found (g .0) (g .1 .0) (g .1 .1 .0) ∙ ap analysisOf (sym (ap analysisAs (c .before .a .given .1)) ∙ e .0), e .1)
+    (found (g .0) (g .1 .0) (g .1 .1 .0) (g .1 .1 .1 .0) ∙ ap analysisOf (sym (ap analysisAs (c .before .a .given .1)) ∙ e .0), e .1)
 
 same-length-2 : tie.Need-same-length-2
 same-length-2 c = search needs
@@ -61,11 +65,12 @@ chart-analyse-spec =
     (tie.spec
     analyse-requires
     enum-known-a
-    cast-t11
     cast-t12
     cast-t13
-    enum-known-a-2
     cast-t14
+    cast-t15
+    enum-known-a-2
+    cast-t16
     same-length
     returns
     same-length-2

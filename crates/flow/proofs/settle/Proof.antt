@@ -1,45 +1,51 @@
--- `settle` lends an array of empty sets to `alternate`, and copies them into `sets` before. Assumes nothing.
-use mathlib.Core.Path.{_≡_, sym, _∙_}
-use Prim.Native.Nat.{ℕ}
-use lib.ListN.{length, take, replicate}
+-- `settle` lists the edges by the location that they leave, and lends what the rounds work with. Assumes nothing.
+use mathlib.Core.Path.{refl, sym}
+use Prim.Native.Nat.{ℕ, _≤_}
+use native.Mathlib.Omega.{arith}
+use lib.ListN.{length, replicate}
 use lib.Seq.{length-take-le}
 use borrow.Author.Needs.{needs}
 use Rattle.lists.proofs.Zeros.{take-zeros}
-use Rattle.chart_lists.specs.Limits.{mostLocations}
+use Rattle.chart_lists.specs.Limits.{mostLocations, mostTransitions}
+use Rattle.flow.proofs.EdgeLists.{adjacency}
 use Rattle.flow.proofs.settle.Statement.{statement}
 use Rattle.flow.proofs.settle.Tie as tie
 
 -- the call that a place is of
-abbrev call : tie.After-slice-known → tie.Start
-call c = c .before .before .before .before .before .before
+abbrev start : tie.After-after → tie.Start
+start c = c .before .before .before .before .before .before .before .before .before .before .before .before .before .before .before
 
-abbrev copied : tie.After-copy → tie.Start
-copied c = call (c .before .before .before)
+slice-aggregate-list-edges : tie.Need-slice-aggregate-list-edges
+slice-aggregate-list-edges c = search needs
 
--- the part of the array that is lent
-front-length : (s : tie.Start) → length (take {A = ℕ} (length (s .args .own .now)) (replicate mostLocations 0)) ≡ length (s .args .own .now)
-front-length s = length-take-le _ (replicate {A = ℕ} mostLocations 0) (s .pre .0 .locations)
+slice-aggregate-list-edges-2 : tie.Need-slice-aggregate-list-edges-2
+slice-aggregate-list-edges-2 c = search needs
 
-array-share-prefix-next : tie.Need-array-share-prefix-next
-array-share-prefix-next c = search needs
+list-edges-requires : tie.Need-list-edges-requires
+list-edges-requires c κs =
+    let s = c .before .before .before .before .before .before .before .before in
+    let p = s .pre .0 in
+    let few : length (s .args .from .now) ≤ mostTransitions = omega (arith, p .froms, p .edges) in
+    (few, few, refl, (λ i l. omega (arith, p .from-below i (omega (arith, l, p .froms)), p .locations)))
 
-slice-aggregate-copy : tie.Need-slice-aggregate-copy
-slice-aggregate-copy c = sym (front-length (call (c .before)))
+slice-aggregate-make-rounds : tie.Need-slice-aggregate-make-rounds
+slice-aggregate-make-rounds c = search needs
 
-copy-requires : tie.Need-copy-requires
-copy-requires c κs = let s = call (c .before .before) in s .pre .1 ∙ sym (front-length s)
+slice-aggregate-make-rounds-2 : tie.Need-slice-aggregate-make-rounds-2
+slice-aggregate-make-rounds-2 c = search needs
 
-array-borrow-prefix-next : tie.Need-array-borrow-prefix-next
-array-borrow-prefix-next c = search needs
+array-borrow-prefix-after : tie.Need-array-borrow-prefix-after
+array-borrow-prefix-after c = search needs
 
-slice-aggregate-alternate : tie.Need-slice-aggregate-alternate
-slice-aggregate-alternate c = sym (front-length (copied (c .before .before .before .before)))
+slice-aggregate-make-rounds-3 : tie.Need-slice-aggregate-make-rounds-3
+slice-aggregate-make-rounds-3 c = sym (length-take-le _ (replicate {A = ℕ} mostLocations 0) (start c .pre .0 .locations))
 
-alternate-requires : tie.Need-alternate-requires
-alternate-requires c κs =
-    let x = c .before .before .before .before in
-    let s = copied x in
-    (s .pre .0, (x .copy .ensures ∙ take-zeros _ mostLocations (s .pre .0 .locations), front-length s))
+make-rounds-requires : tie.Need-make-rounds-requires
+make-rounds-requires c κs =
+    let p = start c .pre in
+    let k = c .before .before .before .before .before .before .list-edges in
+    let few = p .0 .locations in
+    (p .0, p .1, take-zeros _ mostLocations few, adjacency (p .0) (omega (arith, few, k .kept .1 .0)) (k .ensures .0) (k .ensures .1))
 
 same-length : tie.Need-same-length
 same-length c = search needs
@@ -51,11 +57,13 @@ pub settle-spec : {M : Type 1} → statement M
 settle-spec =
     tie.close
     (tie.spec
-    array-share-prefix-next
-    slice-aggregate-copy
-    copy-requires
-    array-borrow-prefix-next
-    slice-aggregate-alternate
-    alternate-requires
+    slice-aggregate-list-edges
+    slice-aggregate-list-edges-2
+    list-edges-requires
+    slice-aggregate-make-rounds
+    slice-aggregate-make-rounds-2
+    array-borrow-prefix-after
+    slice-aggregate-make-rounds-3
+    make-rounds-requires
     same-length
     returns)

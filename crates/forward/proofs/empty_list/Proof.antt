@@ -1,21 +1,24 @@
 -- `empty_list` takes the last location of the list and goes over its transitions, until none waits. Each turn takes one location from the list, and
 -- each location that it puts there has a set that has grown: so the sum of what is missing from the sets and of what waits falls. Assumes nothing.
-use mathlib.Core.Path.{_≡_, _∙_}
+use mathlib.Core.Path.{_≡_, refl, _∙_}
 use mathlib.Core.List.{List}
 use Prim.Native.Nat.{ℕ, _+_, _*_, _-_, _^_, _<_}
 use native.Mathlib.Omega.{arith}
 use borrow.Author.Needs.{needs}
 use lib.ListN.{length, getD, length-set}
 use Rattle.lists.specs.Lists.{sumOf}
-use Rattle.forward.specs.Worklist.{BetweenVisits}
-use Rattle.forward.proofs.Visiting.{last-below, visit-first, between-again}
-use Rattle.forward.proofs.Ending.{sum-below, all-settled}
+use Rattle.lists.proofs.Sums.{sum-small}
+use Rattle.model.proofs.Rounds.{Words}
+use Rattle.worklist.proofs.Waiting.{last-below}
+use Rattle.forward.specs.Working.{BetweenVisits}
+use Rattle.forward.proofs.Visiting.{last-taken, between-again}
+use Rattle.forward.proofs.Ending.{all-settled}
 use Rattle.forward.proofs.empty_list.Statement.{statement}
 use Rattle.forward.proofs.empty_list.Tie as tie
 
 abbrev Inv-loop : tie.InvT-loop
 Inv-loop targets cut first next sets₀ idle₀ waiting₀ depth left₀ sets idle waiting left =
-    (length sets ≡ length sets₀) × (length idle ≡ length idle₀) × (length waiting ≡ length waiting₀)
+    (length sets ≡ length sets₀) × (length idle ≡ length idle₀) × (length waiting ≡ length waiting₀) × Words sets
     × ((initial : ℕ) (sources : List ℕ) → BetweenVisits initial (length sets₀) sources targets cut first next sets₀ idle₀ waiting₀ depth
     → BetweenVisits initial (length sets₀) sources targets cut first next sets idle waiting left)
 
@@ -29,7 +32,7 @@ start l = l .before .before .before .before .before .before .before .before
 turn : (l : tie.At-loop Inv-loop μ-loop) → let a = start l .args in
     BetweenVisits (start l .pre .0) (length (a .sets .now)) (start l .pre .1) (a .targets .now) (a .cut .now) (a .first .now) (a .next .now)
     (l .loop .sets) (l .loop .idle) (l .loop .waiting) (l .loop .left)
-turn l = let p = start l .pre in l .loop .inv .3 (p .0) (p .1) (p .2)
+turn l = let p = start l .pre in l .loop .inv .4 (p .0) (p .1) (p .2)
 
 -- the location that is taken from the list is the last one there
 abbrev place : tie.In-loop Inv-loop μ-loop → ℕ
@@ -39,10 +42,10 @@ place-is : (c : tie.In-loop Inv-loop μ-loop) → c .before .loop .left ≡ plac
 place-is c = omega (arith, c .loop-test .taken)
 
 location : (c : tie.In-loop Inv-loop μ-loop) → getD (c .before .loop .waiting) (place c) 0 < length (start (c .before) .args .sets .now)
-location c = let t = turn (c .before) in last-below (t .safe) (t .working) (place c) (place-is c)
+location c = last-below (turn (c .before) .working .worklist) (place c) (place-is c)
 
 loop-holds : tie.Need-loop-holds Inv-loop μ-loop
-loop-holds c = search needs
+loop-holds c = (refl, refl, refl, (λ q. c .before .before .slice-known .given q .fits), (λ initial sources t. t))
 
 sub-left : tie.Need-sub-left Inv-loop μ-loop
 sub-left c = search needs
@@ -65,38 +68,52 @@ slice-write-idle c = omega (arith, location (c .before), turn (c .before .before
 mul-visit : tie.Need-mul-visit Inv-loop μ-loop
 mul-visit c = omega (arith, c .slice-known4 .given (place (c .before)) .fits)
 
-shared-slice-read-visit : tie.Need-shared-slice-read-visit Inv-loop μ-loop
-shared-slice-read-visit c = omega (arith, location (c .before .before), turn (c .before .before .before) .room)
+slice-read-visit : tie.Need-slice-read-visit Inv-loop μ-loop
+slice-read-visit c = let i = c .before .before in omega (arith, location i, i .before .loop .inv .0)
 
 visit-requires : tie.Need-visit-requires Inv-loop μ-loop
 visit-requires c κs =
     let i = c .before .before .before .before .before in
-    let p = start (i .before) .pre in
-    (p .0, p .1, rw (i .before .loop .inv .0) (visit-first (turn (i .before)) (place i) (place-is i)))
+    let l = i .before in
+    let t = turn l in (
+      (start l .pre .1, rw (l .loop .inv .0) (t .adjacency)),
+      omega (arith, location i, l .loop .inv .0),
+      rw (l .loop .inv .0) (last-taken t (place i) (place-is i)),
+    )
+
+-- after the visit, the turn that this is of, and the sets then
+abbrev visited : tie.After-slice-known8 Inv-loop μ-loop → tie.After-visit Inv-loop μ-loop
+visited c = c .before .before .before .before .before .before
+
+abbrev inside : tie.After-visit Inv-loop μ-loop → tie.In-loop Inv-loop μ-loop
+inside v = v .before .before .before .before .before .before
+
+words : (c : tie.After-slice-known8 Inv-loop μ-loop) → Words (visited c .visit .last .1 .1 .1 .1 .1 .1 .0)
+words c q = c .before .before .before .before .slice-known6 .given q .fits
 
 loop-less : tie.Need-loop-less Inv-loop μ-loop
 loop-less c =
-    let v = c .before .before .before .before .before .before in
-    let i = v .before .before .before .before .before .before in
-    let l = i .before in
-    let p = start l .pre in
-    let t = turn l in
-    let w = v .visit .ensures .0 (p .0) (p .1) (rw (l .loop .inv .0) (visit-first t (place i) (place-is i))) in
-    omega (arith, i .loop-test .taken, v .visit .ensures .1, l .loop .inv .0, sum-below w)
+    let v = visited c in
+    let i = inside v in
+    let l = i .before .loop in
+    let after = v .visit .last .1 .1 .1 .1 .1 .1 .0 in
+    let long : length after ≡ length (l .sets) = search needs in
+    omega (arith, i .loop-test .taken, v .visit .ensures .1 .1, l .inv .0, sum-small after (words c), long)
 
 loop-again : tie.Need-loop-again Inv-loop μ-loop
 loop-again c =
-    let v = c .before .before .before .before .before .before in
-    let i = v .before .before .before .before .before .before in
+    let v = visited c in
+    let i = inside v in
     let l = i .before .loop in
     let idle-long = length-set (l .idle) (getD (l .waiting) (place i) 0) 1 ∙ l .inv .1 in (
       search needs,
       search needs,
       search needs,
+      words c,
       (λ initial sources t.
-          let b = l .inv .3 initial sources t in
-          let w = v .visit .ensures .0 initial sources (rw (l .inv .0) (visit-first b (place i) (place-is i))) in
-          between-again b (rw (l .inv .0) at w)),
+          let b = l .inv .4 initial sources t in
+          let e = v .visit .ensures in
+          between-again b (place i) (place-is i) (e .0 sources (rw (l .inv .0) (b .adjacency))) (rw (l .inv .0) at (e .1 .0))),
     )
 
 same-length : tie.Need-same-length Inv-loop μ-loop
@@ -111,7 +128,9 @@ same-length-3 c = search needs
 returns : tie.Need-returns Inv-loop μ-loop
 returns c =
     let l = c .before .loop in
-    (λ initial sources t. let b = l .inv .3 initial sources t in all-settled (b .safe) (b .working) (omega (arith, c .loop-test .left)))
+    (λ initial sources t.
+    let b = l .inv .4 initial sources t in
+    all-settled (b .safe) (b .working) (omega (arith, c .loop-test .left)) (l .inv .3))
 
 pub empty-list-spec : {M : Type 1} → statement M
 empty-list-spec =
@@ -126,7 +145,7 @@ empty-list-spec =
     cast-q
     slice-write-idle
     mul-visit
-    shared-slice-read-visit
+    slice-read-visit
     visit-requires
     loop-less
     loop-again

@@ -1,4 +1,5 @@
--- `settle_forward` links the transitions, gives the initial location all timers and lets it wait, in arrays of the largest size. Assumes nothing.
+-- `settle_forward` lists the transitions by the location that they leave, gives the initial location all timers and lets it wait, in arrays of the
+-- largest size. Assumes nothing.
 use mathlib.Core.Path.{_≡_, sym, ap}
 use mathlib.Core.List.{List}
 use Prim.Native.Nat.{ℕ, _≤_, _<_}
@@ -8,9 +9,9 @@ use lib.ListN.{length, replicate, set, length-replicate, length-set}
 use Rattle.timer_set.specs.Members.{everyTimer}
 use Rattle.chart_lists.specs.Limits.{mostLocations, mostTransitions}
 use Rattle.forward.specs.Forward.{ownSets}
-use Rattle.forward.specs.Worklist.{BetweenVisits}
+use Rattle.forward.specs.Working.{BetweenVisits}
 use lib.Seq.{getD-set-same}
-use Rattle.forward.proofs.Waiting.{worklist-none}
+use Rattle.worklist.proofs.Waiting.{worklist-none}
 use Rattle.forward.proofs.Visiting.{long-own}
 use Rattle.forward.proofs.Ending.{between-start}
 use Rattle.forward.proofs.settle_forward.Statement.{statement}
@@ -23,18 +24,19 @@ start c = c .before .before .before .before .before .before
 few : (c : tie.Start) → length (c .args .sets .now) ≤ mostLocations
 few c = omega (arith, c .pre .0 .edges .locations, long-own (c .args .initial) (length (c .args .sets .now)))
 
-slice-aggregate-link : tie.Need-slice-aggregate-link
-slice-aggregate-link c = search needs
+slice-aggregate-list-edges : tie.Need-slice-aggregate-list-edges
+slice-aggregate-list-edges c = search needs
 
-slice-aggregate-link-2 : tie.Need-slice-aggregate-link-2
-slice-aggregate-link-2 c = search needs
+slice-aggregate-list-edges-2 : tie.Need-slice-aggregate-list-edges-2
+slice-aggregate-list-edges-2 c = search needs
 
-link-requires : tie.Need-link-requires
-link-requires c κs =
+list-edges-requires : tie.Need-list-edges-requires
+list-edges-requires c κs =
     let s = start c in
-    let safe = s .pre .0 in (
-      safe .few,
-      omega (arith, safe .few, length-replicate {A = ℕ} mostTransitions 0),
+    let safe = s .pre .0 in
+    let few : length (s .args .sources .now) ≤ mostTransitions = omega (arith, safe .edges .edges, safe .edges .froms) in (
+      few,
+      omega (arith, few, length-replicate {A = ℕ} mostTransitions 0),
       ap (λ (n : ℕ). replicate n mostTransitions) (sym (length-replicate {A = ℕ} mostLocations mostTransitions)),
       (λ i h.
           let below = safe .edges .from-below i (omega (arith, h, safe .edges .froms)) in
@@ -76,11 +78,11 @@ slice-aggregate-empty-list-4 c = search needs
 abbrev pushed : tie.After-waiting3 → tie.After-push
 pushed c = c .before .before .before .before .before .before .before
 
-abbrev linked : tie.After-push → tie.After-link
-linked p = p .before .before .before .before .before
+abbrev listed : tie.After-push → tie.After-list-edges
+listed p = p .before .before .before .before .before
 
 abbrev begin : tie.After-waiting3 → tie.Start
-begin c = start (linked (pushed c) .before)
+begin c = start (listed (pushed c) .before)
 
 own : (s : tie.Start) → set (s .args .sets .now) (s .args .initial) 18446744073709551615 ≡ ownSets (s .args .initial) (length (s .args .sets .now))
 unfolding everyTimer
@@ -88,17 +90,17 @@ own s = ap (λ (l : List ℕ). set l (s .args .initial) 18446744073709551615) (s
 
 ready : (c : tie.After-waiting3) → let a = begin c .args in
     BetweenVisits (a .initial) (length (a .sets .now)) (a .sources .now) (a .targets .now) (a .cut .now)
-    (linked (pushed c) .link .last .1 .0) (linked (pushed c) .link .last .1 .1 .0) (set (a .sets .now) (a .initial) 18446744073709551615)
+    (listed (pushed c) .list-edges .last .1 .0) (listed (pushed c) .list-edges .last .1 .1 .0) (set (a .sets .now) (a .initial) 18446744073709551615)
     (pushed c .push .last .1 .0) (pushed c .push .last .1 .1 .0) (pushed c .push .result)
 ready c =
     let p = pushed c in
-    let k = linked p in
+    let k = listed p in
     let s = begin c in
-    let kept : length (k .link .last .1 .0) ≡ length {A = ℕ} (replicate mostLocations mostTransitions) = search needs in
+    let kept : length (k .list-edges .last .1 .0) ≡ length {A = ℕ} (replicate mostLocations mostTransitions) = search needs in
     let ones = length-replicate {A = ℕ} mostLocations 1 in
     let inside : s .args .initial < length {A = ℕ} (replicate mostLocations 1) = omega (arith, s .pre .0 .inside, few s, ones) in
     let full = length-replicate {A = ℕ} mostLocations mostTransitions in
-    between-start (s .pre .0) (k .link .ensures .0) (k .link .ensures .1) (omega (arith, kept, few s, full))
+    between-start (s .pre .0) (k .list-edges .ensures .0) (k .list-edges .ensures .1) (omega (arith, kept, few s, full))
     (p .push .ensures .1 .0 _ (s .pre .0 .inside) (worklist-none _ mostLocations _ (few s) (omega (arith, length-replicate {A = ℕ} mostLocations 0))))
     (rw (p .push .ensures .0) (getD-set-same (replicate mostLocations 1) (s .args .initial) 0 0 inside)) (own s)
 
@@ -121,9 +123,9 @@ pub settle-forward-spec : {M : Type 1} → statement M
 settle-forward-spec =
     tie.close
     (tie.spec
-    slice-aggregate-link
-    slice-aggregate-link-2
-    link-requires
+    slice-aggregate-list-edges
+    slice-aggregate-list-edges-2
+    list-edges-requires
     mul-sets
     slice-write-sets
     slice-aggregate-push

@@ -6,7 +6,7 @@ use borrow.Author.Needs.{needs}
 use Rattle.chart_lists.specs.Limits.{mostTransitions}
 use Rattle.forward.specs.Forward.{SafeForward, forwardSets}
 use Rattle.judgement.specs.Places.{firstEmpty}
-use Rattle.judgement.proofs.Lent.{none-front, none-length, few-locations, lent-length, lent-safe, lent-empty}
+use Rattle.judgement.proofs.Lent.{few-transitions, none-front, none-length, few-locations, lent-length, lent-safe, lent-empty}
 use Rattle.judgement.proofs.Lent.{made-room, seen-length, seen-sets}
 use Rattle.judgement.proofs.Judging.{unreached-few, unreached-all}
 use Rattle.judgement.proofs.first_unreached.Statement.{statement}
@@ -30,7 +30,7 @@ returns : tie.Need-returns
 returns c = c .first-empty .ensures ∙ unreached-few (c .before .before .before .before .before .args .initial) _ _ _ (c .before .if1 .taken)
 
 array-share-prefix-zeros : tie.Need-array-share-prefix-zeros
-array-share-prefix-zeros c = start c .pre .few
+array-share-prefix-zeros c = few-transitions (start c .pre)
 
 slice-aggregate-settle-forward : tie.Need-slice-aggregate-settle-forward
 slice-aggregate-settle-forward c = sym (none-length (start (c .before) .pre))

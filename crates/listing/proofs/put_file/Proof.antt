@@ -36,7 +36,7 @@ file c = start (called c) .args .file .now
 
 -- the chart, and what the lists hold of it
 numbered : (c : tie.After-a2) → let g = c .a2 .given .0 in
-    FileChart (file c) (record { header = g .0; used = g .1 .0; floor = g .1 .1 .0; searched = g .1 .1 .1 .0 })
+    FileChart (file c) (record { header = g .0; used = g .1 .0; floor = g .1 .1 .0; searched = g .1 .1 .1 .0; rounds = g .1 .1 .1 .1 .0 })
 numbered c = file-chart _ (sym (ap fileNumberedAs (c .a2 .given .1)) ∙ called c .number-file .ensures .0)
 
 lists : (c : tie.After-a2) → let l = called c .number-file .last in ListsNumbered (numbered c .chart) (l .1 .0) (l .1 .1 .0)

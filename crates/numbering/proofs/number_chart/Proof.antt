@@ -111,7 +111,7 @@ returns c chart is holds tested =
     let r = lent (a .before .before) in
     let e = a .allocate .ensures in
     numbered chart is holds tested (r .settle .ensures .0) _ _ _ (e .0) (e .1 .0) (e .1 .1 .0) (e .1 .1 .1)
-    (a .allocate .kept .1 .1 .1 .1 .1 .1 .0 ∙ length-take-le _ _ (settled r .pre .3))
+    (a .allocate .kept .1 .1 .1 .1 .1 .1 .0 ∙ length-take-le _ _ (settled r .pre .3)) (r .settle .ensures .1)
 
 pub number-chart-spec : {M : Type 1} → statement M
 number-chart-spec =

@@ -64,7 +64,7 @@ returns c d e h b =
     let m = n .number-chart .ensures d e h b in
     let room = few d e h b in
     let f = c .find-floor .ensures d (floor-asked d e (h .valid) m (search (needs, room))) in (
-      ap result (chart-numbers d e (m .live-are) (m .used-is) (f .0) (f .1)),
+      ap result (chart-numbers d e (m .live-are) (m .used-is) (f .0) (f .1) (m .rounds-is)),
       record { width = h .width; valid = h .valid; live-are = m .live-are; cells-are = m .cells-are },
     )
 
