@@ -5,7 +5,7 @@ use Prim.Native.Nat.{ℕ, _<_}
 use lib.ListN.{length, getD}
 use Rattle.worklist.specs.Worklist.{Among, Worklist}
 
--- the locations at which `after` differs from `before` wait
+-- the locations at which `after` differs from `before` wait; others may wait too
 pub record Differing (before after idle waiting : List ℕ) (depth : ℕ) : Type 0 where
   pub long : length after ≡ length before
   pub worklist : Worklist (length after) idle waiting depth

@@ -1,6 +1,6 @@
 // Sets of timers that pass along edges, by rounds: each round makes every location's set from the sets of the round before, the first from empty
 // ones, to the first round that changes no set. From the second round on, only edges from locations whose sets the round before has changed are gone
-// over: the others bring what they brought then.
+// over: what the others bring, that round has brought.
 ghost use mathlib.Core.Path.{_≡_};
 ghost use mathlib.Core.List.{List};
 ghost use Prim.Native.Nat.{ℕ, _+_, _≤_, _<_};
@@ -50,7 +50,7 @@ fn first_round<'a>(into: &'a [u16], gain: &'a [u64], own: &'a [u64], after: &mut
     }
 }
 
-// The locations whose sets are not empty wait: how many they are.
+// Each location whose set is not empty is put on the worklist: how many wait then.
 fn push_nonempty(sets: &[u64], idle: &mut [u8], waiting: &mut [u16]) -> usize
     requires { ⌜ (length (now sets) ≤ mostLocations) × Worklist (length (now sets)) (now idle) (now waiting) 0 ⌝ }
     ensures waits { λ r. ⌜ Differing (replicate (length (now (sets .entry))) 0) (now (sets .entry)) (now (idle .exit)) (now (waiting .exit)) r ⌝ }
@@ -69,7 +69,7 @@ fn push_nonempty(sets: &[u64], idle: &mut [u8], waiting: &mut [u16]) -> usize
     depth
 }
 
-// The waiting locations are the changed ones, and their sets those of the round that was made; none waits any more.
+// The sets of the waiting locations go from `after` to `sets`, and the list of these locations to `changed`; then none waits.
 fn take_over(
     after: &[u64],
     sets: &mut [u64],
@@ -138,7 +138,7 @@ fn next_round<'a>(
     depth
 }
 
-// All rounds, and their number: `after` holds the sets of the round that is made, `sets` those of the round before it.
+// All rounds, and their number: in `after` a round is made, in `sets` stand the sets of the round before it. `after` is lent with empty sets.
 fn make_rounds<'a>(
     into: &'a [u16],
     from: &'a [u16],
