@@ -1,11 +1,12 @@
-/* Timing charts: analysis, rewriting for a board of K timers, player. Link libexports.a (`rt staticlib exports`).
+/* Timing charts: analysis, rewriting for a board of K timers, player, controller of several heads. Link libexports.a (`rt staticlib exports`).
  *
  * A slice is a pointer and the number of its entries. Slices of one call must not overlap one that the call writes to, and nothing else may read or
- * write that one during the call. An empty slice is allowed; its pointer may then be null.
+ * write that one during the call; this holds for a controller's state too. An empty slice is allowed; its pointer may then be null.
  *
  * Every answer has a number: CHART_NO_REFUSAL where there is a result, else that of a refusal (chart_refusal), in the order of the reading and then
- * the lowest that applies. place is 0 with a result, else the refusal's place: a location, timer, transition or step from 0, or CHART_NOWHERE where
- * there is no other. With a refusal the result's fields are 0 and lent memory holds what it held before.
+ * the lowest that applies; a function that judges in another order says so. place is 0 with a result, else the refusal's place: a location, timer,
+ * transition or step from 0, or CHART_NOWHERE where there is no other. With a refusal the result's fields are 0 and lent memory holds what it held
+ * before.
  *
  * A chart file is of version 1 or 2, by its first byte: a test's constant has two bytes in version 1, four in version 2. Every call takes both.
  */
@@ -27,7 +28,10 @@
 /* The most families for which the floor is found by search. */
 #define CHART_MOST_SEARCHED 20
 
-/* The largest time of a step, and the largest starting count of a timer. */
+/* The most heads that a controller drives. */
+#define CHART_MOST_HEADS 8
+
+/* The largest time of a step or an event, and the largest starting count of a timer. */
 #define CHART_MOST_TICKS 16777215
 
 /* The place of a refusal that has no other. Step 65535 has the same number; a refusal of a step always has a place. */
@@ -56,7 +60,7 @@ typedef enum chart_refusal {
     CHART_REFUSED_WRONG_COUNTS = 12,       /* starting counts not one for each timer, or one over CHART_MOST_TICKS */
     CHART_REFUSED_UNEQUAL_LISTS = 13,      /* the lists of transitions and of times differ in length */
     CHART_REFUSED_NO_SUCH_TRANSITION = 14, /* a step names no transition */
-    CHART_REFUSED_TIME_TOO_LARGE = 15,     /* a step's time is over CHART_MOST_TICKS */
+    CHART_REFUSED_TIME_TOO_LARGE = 15,     /* a step's or an event's time is over CHART_MOST_TICKS */
     CHART_REFUSED_INPUT_TOO_LONG = 16,     /* by the program `allocate` alone: its input is over 65536 bytes */
     CHART_REFUSED_CONSTANT_TOO_LARGE = 17, /* by no call below: a constant over 65535 that is to be written as version 1 */
 
@@ -64,8 +68,11 @@ typedef enum chart_refusal {
     CHART_REFUSED_BOARD_TOO_SMALL = 20,    /* K timers do not suffice */
     CHART_REFUSED_NO_ROOM = 21,            /* a lent slice is too short for the result */
     CHART_REFUSED_WRONG_SOURCE = 22,       /* the step's transition does not leave the present location */
-    CHART_REFUSED_TIME_BEFORE = 23,        /* a step's time is before the present one */
-    CHART_REFUSED_TEST_NOT_MET = 24        /* a test of the step is not met */
+    CHART_REFUSED_TIME_BEFORE = 23,        /* a step's time is before the present one, or an event's before its head's */
+    CHART_REFUSED_TEST_NOT_MET = 24,       /* a test of the step is not met */
+    CHART_REFUSED_WRONG_HEADS = 25,        /* no head or over CHART_MOST_HEADS, blocks together over K, or a block shorter than its chart's timers */
+    CHART_REFUSED_NO_FREE_HEAD = 26,       /* an event names no head, or one at which an event waits already */
+    CHART_REFUSED_WRONG_STATE = 32         /* a controller's state has a turn, location, time or count that it cannot have */
 } chart_refusal;
 
 /* used: the board timers that the chart takes; it may exceed CHART_MOST_TIMERS.
@@ -103,14 +110,70 @@ typedef struct chart_playing {
     uint64_t accepting;
 } chart_playing;
 
-/* The answers as the library lays them out: fields of 8 bytes, one after the other. */
+/* Where a head stands and at what time. waiting is 0 where no event waits at it, and event and waiting_time then say nothing; else the event of that
+ * time waits. The calls write 1 where an event waits and leave all three 0 where none does. An event over 255 is no transition's. */
+typedef struct chart_head {
+    uint64_t location;
+    uint64_t time;
+    uint64_t waiting;
+    uint64_t event;
+    uint64_t waiting_time;
+} chart_head;
+
+/* The state of a controller: whose turn it is, the heads, and the counts of the board's timers. The blocks of the heads lie end to end on the board,
+ * and a head's timers stand from the beginning of its block on; the block of head h begins at counts[blocks[0] + .. + blocks[h - 1]].
+ *
+ * The state is the caller's: the caller has the memory for it, set-up writes it whole, and event and turn step it in place. It must not be null nor
+ * overlap files or counts. Before set-up it may hold anything, but must be initialised: set-up reads it, to leave it as it was where it refuses. The
+ * library keeps nothing between calls, so one program may have many controllers, and each call is handed the files, the heads and K again. What is
+ * promised from set-up on (docs/SPECIFICATION.md) holds while nothing but these calls changes the state, and files, heads and K stay as they were; if
+ * they do not, each call still judges what it is handed and answers for that. No call after set-up judges heads beyond the number, spare timers of a
+ * block or timers beyond the blocks, and each leaves them as they are. */
+typedef struct chart_controller {
+    uint64_t turn;
+    chart_head heads[CHART_MOST_HEADS];
+    uint32_t counts[CHART_MOST_TIMERS];
+} chart_controller;
+
+/* How many heads there are, and of each the bytes of its chart file and the timers of its block. Entries from number on are not looked at. */
+typedef struct chart_heads {
+    uint64_t number;
+    uint64_t lengths[CHART_MOST_HEADS];
+    uint64_t blocks[CHART_MOST_HEADS];
+} chart_heads;
+
+/* Of a list that holds a part for each head, one after another: how many entries each part has. Entries from the number of heads on are not looked
+ * at. */
+typedef struct chart_parts {
+    uint64_t lengths[CHART_MOST_HEADS];
+} chart_parts;
+
+/* The answer of set-up and of an event. */
+typedef struct chart_called {
+    uint64_t number;
+    uint64_t place;
+} chart_called;
+
+/* The answer of a turn. head: whose turn it was. served: 1 where an event waited at it, else 0. taken: 1 where a transition was taken, else 0.
+ * transition: its number; 0 where none was taken. */
+typedef struct chart_turned {
+    uint64_t number;
+    uint64_t place;
+    uint64_t head;
+    uint64_t served;
+    uint64_t taken;
+    uint64_t transition;
+} chart_turned;
+
+/* The structs as the library lays them out: one field after the other, fields of 8 bytes and lists. */
 #ifdef __cplusplus
 #define CHART_ASSERT static_assert
 #else
 #define CHART_ASSERT _Static_assert
 #endif
-#define CHART_FIELD(type, field, offset) \
-    CHART_ASSERT(offsetof(type, field) == (offset) && sizeof(((type *)0)->field) == 8, #type "." #field)
+#define CHART_LIST(type, field, offset, size) \
+    CHART_ASSERT(offsetof(type, field) == (offset) && sizeof(((type *)0)->field) == (size), #type "." #field)
+#define CHART_FIELD(type, field, offset) CHART_LIST(type, field, offset, 8)
 CHART_FIELD(chart_analysis, number, 0);
 CHART_FIELD(chart_analysis, place, 8);
 CHART_FIELD(chart_analysis, used, 16);
@@ -129,7 +192,34 @@ CHART_FIELD(chart_playing, location, 16);
 CHART_FIELD(chart_playing, time, 24);
 CHART_FIELD(chart_playing, accepting, 32);
 CHART_ASSERT(sizeof(chart_playing) == 40, "chart_playing");
+CHART_FIELD(chart_head, location, 0);
+CHART_FIELD(chart_head, time, 8);
+CHART_FIELD(chart_head, waiting, 16);
+CHART_FIELD(chart_head, event, 24);
+CHART_FIELD(chart_head, waiting_time, 32);
+CHART_ASSERT(sizeof(chart_head) == 40, "chart_head");
+CHART_FIELD(chart_controller, turn, 0);
+CHART_LIST(chart_controller, heads, 8, 320);
+CHART_LIST(chart_controller, counts, 328, 256);
+CHART_ASSERT(sizeof(chart_controller) == 584, "chart_controller");
+CHART_FIELD(chart_heads, number, 0);
+CHART_LIST(chart_heads, lengths, 8, 64);
+CHART_LIST(chart_heads, blocks, 72, 64);
+CHART_ASSERT(sizeof(chart_heads) == 136, "chart_heads");
+CHART_LIST(chart_parts, lengths, 0, 64);
+CHART_ASSERT(sizeof(chart_parts) == 64, "chart_parts");
+CHART_FIELD(chart_called, number, 0);
+CHART_FIELD(chart_called, place, 8);
+CHART_ASSERT(sizeof(chart_called) == 16, "chart_called");
+CHART_FIELD(chart_turned, number, 0);
+CHART_FIELD(chart_turned, place, 8);
+CHART_FIELD(chart_turned, head, 16);
+CHART_FIELD(chart_turned, served, 24);
+CHART_FIELD(chart_turned, taken, 32);
+CHART_FIELD(chart_turned, transition, 40);
+CHART_ASSERT(sizeof(chart_turned) == 48, "chart_turned");
 #undef CHART_FIELD
+#undef CHART_LIST
 #undef CHART_ASSERT
 
 /* Analyses a chart file. Writes the live set of each location into live, location 0 first, timer j at bit j.
@@ -150,6 +240,38 @@ chart_playing chart_play(
     const uint32_t *counts, size_t counts_length,
     const uint32_t *transitions, size_t transitions_length,
     const uint64_t *times, size_t times_length);
+
+/* Sets a controller up on a board of k timers: it is head 0's turn, and each head stands at its chart's initial location at tick 0, nothing waiting,
+ * its timers at its starting counts; all else in the state is 0.
+ * files has the heads' chart files one after another, of the lengths that heads gives; a file that reaches beyond its end is cut there, and bytes
+ * beyond the last file are not looked at. counts has the heads' starting counts in the same way, of the lengths that parts gives: of each head one
+ * for each timer of its chart (not of its block), at most CHART_MOST_TICKS.
+ * Refusals, in this order: 25 for the number of heads; of each chart in turn 1 to 10, place is the chart's own; 11; of each head's counts in turn 12,
+ * place is its timer or, for a wrong number of counts, CHART_NOWHERE; 25 for the blocks. 11 and 25 are at CHART_NOWHERE. */
+chart_called chart_controller_set_up(
+    chart_controller *state,
+    const uint8_t *files, size_t files_length,
+    chart_heads heads, uint32_t k,
+    const uint32_t *counts, size_t counts_length,
+    chart_parts parts);
+
+/* Receives an event for a head; from then on it waits there until the head's turn.
+ * Refusals, in this order: as set-up, without 12; then 32, 26, 15, and 23 against that head's time, all four at CHART_NOWHERE. */
+chart_called chart_controller_event(
+    chart_controller *state,
+    const uint8_t *files, size_t files_length,
+    chart_heads heads, uint32_t k,
+    uint32_t head, uint8_t event, uint64_t time);
+
+/* Takes a turn. If an event waits at the head whose turn it is, the head's counts and time move on to the event's time, and the lowest transition is
+ * taken that has this event, leaves the head's location and whose tests are then met, if there is one; the event is gone either way. If none waits,
+ * only whose turn it is changes. In both cases it is then the next head's turn, after the last one head 0's; so a waiting event is served within as
+ * many turns as there are heads.
+ * Refusals, in this order: as set-up, without 12; then 32, at CHART_NOWHERE. */
+chart_turned chart_controller_turn(
+    chart_controller *state,
+    const uint8_t *files, size_t files_length,
+    chart_heads heads, uint32_t k);
 
 #ifdef __cplusplus
 }

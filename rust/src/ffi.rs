@@ -1,5 +1,8 @@
 //! The proved library's functions as C sees them: a slice is a pointer and a length, a result a struct by value whose
-//! `number` is 0 where there is a result.
+//! `number` is 0 where there is a result. A controller's state and what its calls are handed are this crate's own structs,
+//! which are laid out as C has them.
+
+use crate::controller::{Heads, Parts, State};
 
 #[repr(C)]
 #[derive(Clone, Copy, Debug)]
@@ -31,6 +34,24 @@ pub struct ChartPlaying {
     pub accepting: u64,
 }
 
+#[repr(C)]
+#[derive(Clone, Copy, Debug)]
+pub struct ChartCalled {
+    pub number: u64,
+    pub place: u64,
+}
+
+#[repr(C)]
+#[derive(Clone, Copy, Debug)]
+pub struct ChartTurned {
+    pub number: u64,
+    pub place: u64,
+    pub head: u64,
+    pub served: u64,
+    pub taken: u64,
+    pub transition: u64,
+}
+
 #[allow(unsafe_code)]
 unsafe extern "C" {
     pub fn chart_analyse(file: *const u8, file_length: usize, live: *mut u64, live_length: usize) -> ChartAnalysis;
@@ -53,4 +74,34 @@ unsafe extern "C" {
         times: *const u64,
         times_length: usize,
     ) -> ChartPlaying;
+
+    pub fn chart_controller_set_up(
+        state: *mut State,
+        files: *const u8,
+        files_length: usize,
+        heads: Heads,
+        k: u32,
+        counts: *const u32,
+        counts_length: usize,
+        parts: Parts,
+    ) -> ChartCalled;
+
+    pub fn chart_controller_event(
+        state: *mut State,
+        files: *const u8,
+        files_length: usize,
+        heads: Heads,
+        k: u32,
+        head: u32,
+        event: u8,
+        time: u64,
+    ) -> ChartCalled;
+
+    pub fn chart_controller_turn(
+        state: *mut State,
+        files: *const u8,
+        files_length: usize,
+        heads: Heads,
+        k: u32,
+    ) -> ChartTurned;
 }

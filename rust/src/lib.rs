@@ -11,21 +11,25 @@
 //! - [`floor`]: the fewest timers of any plan, or the fullest live set;
 //! - [`rewriting`]: the chart's file for a board of K timers;
 //! - [`player`]: a step list, played on a file;
+//! - [`controller`]: one to eight heads, driven by events and turns;
 //! - [`listing`]: the program's text from its whole input;
 //! - [`limits`]: the numbers that limit all of these.
 //!
 //! Every entry point takes bytes and answers with a result or one [`Refusal`]; on a refusal lent memory is untouched.
 //!
-//! With the feature `library`, `library` calls the proved library with the same signatures. [`drawing`] and
-//! [`generator`] make files for tests and measurements.
+//! With the feature `library`, `library` calls the proved library with the same signatures. [`drawing`],
+//! [`generator`] and [`heads`] make files and controllers for tests and measurements; [`trials`] and [`tally`] compare
+//! implementations and count what came.
 
 #![deny(unsafe_code)]
 
 pub mod analysis;
 pub mod chart;
+pub mod controller;
 pub mod drawing;
 pub mod floor;
 pub mod generator;
+pub mod heads;
 pub mod limits;
 pub mod listing;
 pub mod lists;
@@ -33,6 +37,8 @@ pub mod player;
 mod refusal;
 pub mod rewriting;
 pub mod sets;
+pub mod tally;
+pub mod trials;
 pub mod version;
 
 #[cfg(feature = "library")]

@@ -6,6 +6,7 @@
 #![allow(unsafe_code)]
 
 use crate::analysis::Analysis;
+use crate::controller::{Board, Parts, Report, SetUp, Start, State, Turn};
 use crate::ffi;
 use crate::player::Playing;
 use crate::refusal::{Answer, Refusal};
@@ -54,10 +55,87 @@ pub fn play(file: &[u8], counts: &[u32], transitions: &[u32], times: &[u64]) -> 
     answer(number, place, Playing { location, time, accepting: accepting != 0 })
 }
 
+/// [`crate::controller::set_up`] by the proved library.
+pub fn set_up(state: &mut State, board: &Board, counts: &[u32], parts: &Parts) -> Answer<()> {
+    let Board { files, heads, k } = board;
+    // SAFETY: the slices are valid for their lengths during the call, and `state` is lent to it alone.
+    let ffi::ChartCalled { number, place } = unsafe {
+        ffi::chart_controller_set_up(
+            state,
+            files.as_ptr(),
+            files.len(),
+            *heads,
+            *k,
+            counts.as_ptr(),
+            counts.len(),
+            *parts,
+        )
+    };
+    answer(number, place, ())
+}
+
+/// [`crate::controller::event`] by the proved library.
+pub fn event(state: &mut State, board: &Board, head: u32, event: u8, time: u64) -> Answer<()> {
+    let Board { files, heads, k } = board;
+    // SAFETY: `files` is valid for its length during the call, and `state` is lent to it alone.
+    let ffi::ChartCalled { number, place } =
+        unsafe { ffi::chart_controller_event(state, files.as_ptr(), files.len(), *heads, *k, head, event, time) };
+    answer(number, place, ())
+}
+
+/// [`crate::controller::turn`] by the proved library.
+pub fn turn(state: &mut State, board: &Board) -> Answer<Turn> {
+    let Board { files, heads, k } = board;
+    // SAFETY: `files` is valid for its length during the call, and `state` is lent to it alone.
+    let answered = unsafe { ffi::chart_controller_turn(state, files.as_ptr(), files.len(), *heads, *k) };
+    let ffi::ChartTurned { number, place, head, served, taken, transition } = answered;
+    let report = match (served, taken, transition) {
+        (0, 0, 0) => Report::Nothing,
+        (1, 0, 0) => Report::NoneTaken,
+        (1, 1, _) => Report::Taken(transition),
+        _ => panic!("a turn never answers this: {answered:?}"),
+    };
+    answer(number, place, Turn { head, report })
+}
+
+/// A controller that the proved library drives. It keeps charts, blocks and state to itself, so that nothing else can
+/// change them: from set-up on, the calls are refused with 26, 15 and 23 alone.
+#[derive(Clone, Debug)]
+pub struct Controller {
+    board: Board,
+    state: State,
+}
+
+impl Controller {
+    /// Sets a controller up, with these heads on a board of `k` timers.
+    pub fn set_up(heads: &[Start], k: u32) -> Answer<Controller> {
+        let SetUp { board, counts, parts } = SetUp::of(heads, k);
+        let mut state = State::ZERO;
+        set_up(&mut state, &board, &counts, &parts)?;
+        Ok(Controller { board, state })
+    }
+
+    /// Receives an event for a head.
+    pub fn event(&mut self, head: u32, event: u8, time: u64) -> Answer<()> {
+        self::event(&mut self.state, &self.board, head, event, time)
+    }
+
+    /// Takes a turn.
+    pub fn turn(&mut self) -> Answer<Turn> {
+        turn(&mut self.state, &self.board)
+    }
+
+    /// The present state.
+    pub fn state(&self) -> &State {
+        &self.state
+    }
+}
+
 #[cfg(test)]
 mod tests {
     use super::ffi;
-    use crate::drawing::chart_a;
+    use crate::controller::{set_up, SetUp, Start, State};
+    use crate::drawing::{chart_a, chart_b};
 
     #[test]
     fn the_figures_of_a_refused_analysis_are_0() {
@@ -66,6 +144,28 @@ mod tests {
             let answered = unsafe { ffi::chart_analyse(file.as_ptr(), file.len(), std::ptr::null_mut(), 0) };
             let ffi::ChartAnalysis { used, floor, searched, rounds, .. } = answered;
             assert_eq!((answered.number, [used, floor, searched, rounds]), (number, [0; 4]));
+        }
+    }
+
+    #[test]
+    fn the_figures_of_a_turn_that_has_none_are_0() {
+        let file = chart_b().file();
+        let SetUp { board, counts, parts } = SetUp::of(&[Start { file: &file, block: 2, counts: &[7, 7] }], 4);
+        let mut state = State::ZERO;
+        let take_turn = |state: &mut State, k| {
+            // SAFETY: the files are valid for their length during the call, and `state` is lent to it alone.
+            let answered =
+                unsafe { ffi::chart_controller_turn(state, board.files.as_ptr(), board.files.len(), board.heads, k) };
+            let ffi::ChartTurned { number, place, head, served, taken, transition } = answered;
+            [number, place, head, served, taken, transition]
+        };
+        assert_eq!(set_up(&mut state, &board, &counts, &parts), Ok(()));
+        assert_eq!(take_turn(&mut state, 65), [11, 65_535, 0, 0, 0, 0]);
+        assert_eq!(take_turn(&mut state, 4), [0; 6]);
+        for (event, figures) in [(1, [0, 0, 0, 1, 0, 0]), (0, [0, 0, 0, 1, 1, 0]), (0, [0, 0, 0, 1, 1, 1])] {
+            state.heads[0].waiting = 1;
+            state.heads[0].event = event;
+            assert_eq!(take_turn(&mut state, 4), figures);
         }
     }
 }

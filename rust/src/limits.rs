@@ -1,5 +1,5 @@
 //! The limits that document 01 sets to a chart, its file, its step lists, the program's input and a refusal's place, and
-//! document 02 to the search for the floor and to files of version 2.
+//! document 02 to the search for the floor, to files of version 2 and to a controller's heads.
 
 /// The most locations of a chart.
 pub const MOST_LOCATIONS: u16 = 256;
@@ -28,7 +28,7 @@ pub const LARGEST_FILE: usize = 62_478;
 /// The bytes of the largest chart file of version 1.
 pub const LARGEST_FILE_VERSION_1: usize = 54_286;
 
-/// The largest time of a step, and the largest starting count of a timer.
+/// The largest time of a step or an event, and the largest starting count of a timer.
 pub const MOST_TICKS: u32 = 16_777_215;
 
 /// The most bytes of the program's input that are judged further.
@@ -39,6 +39,9 @@ pub const NOWHERE: u64 = 65_535;
 
 /// The most families for which the floor is found by search.
 pub const MOST_SEARCHED: usize = 20;
+
+/// The most heads that a controller drives.
+pub const MOST_HEADS: usize = 8;
 
 /// The entries of a table with one for each location that a chart can have.
 pub const LOCATIONS: usize = MOST_LOCATIONS as usize;

@@ -18,12 +18,7 @@ pub struct Playing {
 pub fn play(file: &[u8], counts: &[u32], transitions: &[u32], times: &[u64]) -> Answer<Playing> {
     let chart = Chart::read(file)?;
     judge(&chart)?;
-    if counts.len() != usize::from(chart.timers()) {
-        return Err(Refusal::nowhere(12));
-    }
-    if let Some(timer) = counts.iter().position(|&count| count > MOST_TICKS) {
-        return Err(Refusal::at(12, timer as u64));
-    }
+    judge_counts(&chart, counts)?;
     if transitions.len() != times.len() {
         return Err(Refusal::nowhere(13));
     }
@@ -32,6 +27,17 @@ pub fn play(file: &[u8], counts: &[u32], transitions: &[u32], times: &[u64]) -> 
         player.step(transition, time).map_err(|number| Refusal::at(number, step as u64))?;
     }
     Ok(player.playing())
+}
+
+/// Judges starting counts (12): one for each timer, none over [`MOST_TICKS`].
+pub(crate) fn judge_counts(chart: &Chart, counts: &[u32]) -> Answer<()> {
+    if counts.len() != usize::from(chart.timers()) {
+        return Err(Refusal::nowhere(12));
+    }
+    match counts.iter().position(|&count| count > MOST_TICKS) {
+        Some(timer) => Err(Refusal::at(12, timer as u64)),
+        None => Ok(()),
+    }
 }
 
 /// A chart being played.

@@ -26,6 +26,15 @@ pub struct Plan {
     numbers: Vec<u8>,
 }
 
+/// Judges the timers of a board (11).
+pub(crate) fn judge_board(k: u32) -> Answer<()> {
+    if k > u32::from(MOST_TIMERS) {
+        Err(Refusal::nowhere(11))
+    } else {
+        Ok(())
+    }
+}
+
 /// The place of a location and a timer in a list of all pairs.
 #[inline]
 fn pair(location: u8, timer: u8) -> usize {
@@ -37,9 +46,7 @@ impl Plan {
     pub fn of(file: &[u8], k: u32) -> Answer<Plan> {
         let chart = Chart::read(file)?;
         let graph = judge(&chart)?;
-        if k > u32::from(MOST_TIMERS) {
-            return Err(Refusal::nowhere(11));
-        }
+        judge_board(k)?;
         let liveness = Liveness::of(&chart, graph);
         let families = Families::of(&chart, &liveness);
         let given = families.first_fit(k as usize).ok_or(Refusal::nowhere(20))?;

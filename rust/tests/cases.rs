@@ -1,10 +1,14 @@
 //! Calls with their answers, computed outside this repository from the documents alone: tests/cases of the repository,
 //! one JSON object a line. This crate gives these answers and, with the feature `library`, the proved library and the
 //! program do.
+//!
+//! No case is void: every number of a case fits the type of the call that it is handed to. A block has 64 bits here, and
+//! no case has a longer one.
 
 use std::collections::BTreeMap;
 
 use timing_chart::analysis::{self, Analysis};
+use timing_chart::controller::{self, Board, Head, Parts, Report, SetUp, Start, State, Turn};
 use timing_chart::limits::{LARGEST_FILE, LOCATIONS};
 use timing_chart::listing::listing;
 use timing_chart::lists::{self, Header, Lists};
@@ -13,7 +17,8 @@ use timing_chart::rewriting::{self, Rewriting};
 use timing_chart::{Answer, Refusal};
 
 /// The cases that hold now: of each file how many there are, and how many of them expect a number of rounds.
-const CASES: [(&str, usize, usize); 3] = [("p01.jsonl", 48, 0), ("p02.jsonl", 125, 0), ("p03.jsonl", 52, 52)];
+const CASES: [(&str, usize, usize); 4] =
+    [("p01.jsonl", 48, 0), ("p02.jsonl", 125, 0), ("p03.jsonl", 52, 52), ("p04.jsonl", 81, 0)];
 
 /// JSON as the cases have it: whole numbers, and texts with no escape but `\n`.
 #[derive(Clone, Debug, PartialEq)]
@@ -106,7 +111,12 @@ impl Json {
     }
 
     fn bytes(&self, name: &str) -> Vec<u8> {
-        let hex = self.text(name);
+        self.get(name).expect(name).as_bytes()
+    }
+
+    /// The bytes that a text gives in hex.
+    fn as_bytes(&self) -> Vec<u8> {
+        let Json::Text(hex) = self else { panic!("no text: {self:?}") };
         let byte = |at: usize| u8::from_str_radix(&hex[at..at + 2], 16).expect("a byte in hex");
         (0..hex.len()).step_by(2).map(byte).collect()
     }
@@ -117,11 +127,17 @@ impl Json {
     }
 
     fn numbers<T: TryFrom<u64>>(&self, name: &str) -> Vec<T> {
+        self.get(name).expect(name).as_numbers()
+    }
+
+    /// The entries of a list of numbers.
+    fn as_numbers<T: TryFrom<u64>>(&self) -> Vec<T> {
+        let Json::List(entries) = self else { panic!("no list: {self:?}") };
         let number = |entry: &Json| match entry {
             Json::Number(number) => T::try_from(*number).ok(),
             _ => None,
         };
-        self.list(name).iter().map(|entry| number(entry).expect("a number of the call's type")).collect()
+        entries.iter().map(|entry| number(entry).expect("a number of the call's type")).collect()
     }
 
     /// The number of rounds that a case of the analysis expects; none in the cases from before it was asked for.
@@ -147,6 +163,8 @@ impl Json {
 type Analyse = fn(&[u8], &mut [u64]) -> Answer<Analysis>;
 type Rewrite = fn(&[u8], u32, &mut [u8]) -> Answer<Rewriting>;
 type Play = fn(&[u8], &[u32], &[u32], &[u64]) -> Answer<Playing>;
+type Receive = fn(&mut State, &Board, u32, u8, u64) -> Answer<()>;
+type TakeTurn = fn(&mut State, &Board) -> Answer<Turn>;
 type Write = fn(&Header, &Lists, &mut [u8]) -> Answer<usize>;
 
 /// One implementation of the calls.
@@ -154,6 +172,9 @@ struct Calls {
     analyse: Analyse,
     rewrite: Rewrite,
     play: Play,
+    set_up: fn(&mut State, &Board, &[u32], &Parts) -> Answer<()>,
+    event: Receive,
+    turn: TakeTurn,
     print: fn(&[u8]) -> String,
     /// The proved library offers no writer to its callers; the crate `vectors` of the repository runs these cases on the
     /// proved writer.
@@ -167,6 +188,10 @@ impl Calls {
             "analysis" => self.check_analysis(case),
             "rewriting" => self.check_rewriting(case),
             "play" => self.check_play(case),
+            "controller" => self.check_controller(case),
+            "turn" => {
+                self.check_turn(case, case, state_of(case, case.get("state").expect("a state")));
+            }
             "write" => {
                 if let Some(write) = self.write {
                     check_write(write, case);
@@ -226,6 +251,58 @@ impl Calls {
         assert_eq!(answer, expected);
     }
 
+    /// Set-up over a state that nobody made, and then the calls, each with the state that it leaves.
+    fn check_controller(&self, case: &Json) {
+        let SetUp { board, counts, parts } = set_up_of(case);
+        let head = Head { location: 77, time: 77, waiting: 77, event: 77, waiting_time: 77 };
+        let before = State { turn: 77, heads: [head; 8], counts: [77; 64] };
+        let mut state = before;
+        let answer = (self.set_up)(&mut state, &board, &counts, &parts);
+        let expected = case.expected(|answer| state_of(case, answer));
+        assert_eq!(answer, expected.map(|_| ()));
+        let Ok(at_end) = expected else {
+            assert_eq!(state, before);
+            return;
+        };
+        for call in case.list("calls") {
+            let check = if call.get("event").is_some() { Calls::check_event } else { Calls::check_turn };
+            state = check(self, case, call, state);
+        }
+        assert_eq!(state, at_end);
+    }
+
+    /// A call of a case on a state, an event; returns the state that it leaves.
+    fn check_event(&self, case: &Json, call: &Json, before: State) -> State {
+        let [head, event, time] = call.numbers("event")[..] else { panic!("an event has three numbers") };
+        let head = u32::try_from(head).expect("a head has 32 bits");
+        let event = u8::try_from(event).expect("an event is a byte");
+        let mut state = before;
+        let answer = (self.event)(&mut state, &set_up_of(case).board, head, event, time);
+        let expected = call.expected(|answer| state_of(case, answer));
+        assert_eq!((answer, state), (expected.map(|_| ()), expected.unwrap_or(before)));
+        state
+    }
+
+    /// The same for a turn.
+    fn check_turn(&self, case: &Json, call: &Json, before: State) -> State {
+        let mut state = before;
+        let answer = (self.turn)(&mut state, &set_up_of(case).board);
+        let expected = call.expected(|answer| {
+            let report = match (answer.is("served"), answer.get("transition")) {
+                (false, Some(Json::Null)) => Report::Nothing,
+                (true, Some(Json::Null)) => Report::NoneTaken,
+                (served, _) => {
+                    assert!(served);
+                    Report::Taken(answer.number("transition"))
+                }
+            };
+            (Turn { head: before.turn, report }, state_of(case, answer))
+        });
+        assert_eq!(answer, expected.map(|(turn, _)| turn));
+        assert_eq!(state, expected.map_or(before, |(_, state)| state));
+        state
+    }
+
     fn check_all(&self) {
         for (name, count, with_rounds) in CASES {
             let path = format!("{}/../tests/cases/{name}", env!("CARGO_MANIFEST_DIR"));
@@ -239,6 +316,35 @@ impl Calls {
             }
         }
     }
+}
+
+/// The heads of a case on their board, with their starting counts.
+fn set_up_of(case: &Json) -> SetUp {
+    let files: Vec<Vec<u8>> = case.list("files").iter().map(Json::as_bytes).collect();
+    let counts: Vec<Vec<u32>> = case.list("counts").iter().map(Json::as_numbers).collect();
+    let blocks = case.numbers::<u64>("blocks");
+    assert_eq!([files.len(), counts.len()], [blocks.len(); 2]);
+    let start = |head: usize| Start { file: &files[head], block: blocks[head], counts: &counts[head] };
+    let heads: Vec<Start> = (0..blocks.len()).map(start).collect();
+    SetUp::of(&heads, u32::try_from(case.number("k")).expect("K has 32 bits"))
+}
+
+/// A state as a case gives it: of each head its own counts, which stand from the beginning of its block on. What the case
+/// does not give is 0.
+fn state_of(case: &Json, given: &Json) -> State {
+    let mut state = State { turn: given.number("turn"), ..State::ZERO };
+    let mut begin = 0;
+    for ((head, given), block) in state.heads.iter_mut().zip(given.list("heads")).zip(case.numbers::<usize>("blocks")) {
+        *head = Head { location: given.number("location"), time: given.number("time"), ..Head::default() };
+        if let Some(Json::List(_)) = given.get("waiting") {
+            let [event, waiting_time] = given.numbers("waiting")[..] else { panic!("two numbers wait") };
+            *head = Head { waiting: 1, event, waiting_time, ..*head };
+        }
+        let counts = given.numbers::<u32>("counts");
+        state.counts[begin..begin + counts.len()].copy_from_slice(&counts);
+        begin += block;
+    }
+    state
 }
 
 /// The starts of each transition as one word, from the timers of all of them and how many each transition has.
@@ -298,14 +404,15 @@ fn check_write(write: Write, case: &Json) {
 #[test]
 fn this_crate_answers_so() {
     let (analyse, rewrite, play, write) = (analysis::analyse, rewriting::rewrite, player::play, lists::write);
-    Calls { analyse, rewrite, play, print: listing, write: Some(write) }.check_all();
+    let (set_up, event, turn) = (controller::set_up, controller::event, controller::turn);
+    Calls { analyse, rewrite, play, set_up, event, turn, print: listing, write: Some(write) }.check_all();
 }
 
 #[cfg(feature = "library")]
 #[test]
 fn the_proved_library_and_the_program_answer_so() {
-    use timing_chart::library::{analyse, play, rewrite};
-    Calls { analyse, rewrite, play, print: print_by_program, write: None }.check_all();
+    use timing_chart::library::{analyse, event, play, rewrite, set_up, turn};
+    Calls { analyse, rewrite, play, set_up, event, turn, print: print_by_program, write: None }.check_all();
 }
 
 /// What the program prints for an input that is no longer than it reads.

@@ -1,4 +1,7 @@
-//! include/chart.h gives the numbers of this crate, and declares, as `ffi.rs` does, what the proved library has.
+//! include/chart.h gives the numbers of this crate, and declares, as `ffi.rs` and `controller.rs` do, what the proved
+//! library has.
+
+use std::path::Path;
 
 use timing_chart::limits::*;
 
@@ -29,12 +32,13 @@ fn limits() {
     assert_eq!(defined("CHART_MOST_TESTS"), u64::from(MOST_TESTS));
     assert_eq!(defined("CHART_LARGEST_FILE"), LARGEST_FILE as u64);
     assert_eq!(defined("CHART_MOST_SEARCHED"), MOST_SEARCHED as u64);
+    assert_eq!(defined("CHART_MOST_HEADS"), MOST_HEADS as u64);
     assert_eq!(defined("CHART_MOST_TICKS"), u64::from(MOST_TICKS));
     assert_eq!(defined("CHART_NOWHERE"), NOWHERE);
 }
 
 /// The documents' numbers with the names that they have in C.
-const REFUSALS: [(&str, u64); 23] = [
+const REFUSALS: [(&str, u64); 26] = [
     ("CHART_NO_REFUSAL", 0),
     ("CHART_REFUSED_WRONG_LENGTH", 1),
     ("CHART_REFUSED_WRONG_VERSION", 2),
@@ -58,6 +62,9 @@ const REFUSALS: [(&str, u64); 23] = [
     ("CHART_REFUSED_WRONG_SOURCE", 22),
     ("CHART_REFUSED_TIME_BEFORE", 23),
     ("CHART_REFUSED_TEST_NOT_MET", 24),
+    ("CHART_REFUSED_WRONG_HEADS", 25),
+    ("CHART_REFUSED_NO_FREE_HEAD", 26),
+    ("CHART_REFUSED_WRONG_STATE", 32),
 ];
 
 #[test]
@@ -85,48 +92,90 @@ fn plain(text: &str) -> String {
 /// A field or parameter of the library, `NAME: TYPE`, in C and in Rust: a slice is a pointer and a length.
 fn declared(name_and_type: &str) -> [String; 2] {
     let (name, kind) = name_and_type.split_once(": ").unwrap();
-    let (entries, c, rust) = if let Some(entries) = kind.strip_prefix("&mut [") {
-        (entries, "", "mut")
-    } else if let Some(entries) = kind.strip_prefix("&[") {
-        (entries, "const ", "const")
+    let (behind, c, rust) = if let Some(behind) = kind.strip_prefix("&mut ") {
+        (behind, "", "mut")
+    } else if let Some(behind) = kind.strip_prefix('&') {
+        (behind, "const ", "const")
+    } else if let Some(list) = kind.strip_prefix('[') {
+        let (entry, length) = list.trim_end_matches(']').split_once("; ").unwrap();
+        let (c, rust) = LENGTHS.iter().find(|(number, ..)| *number == length).map(|(_, c, rust)| (c, rust)).unwrap();
+        return [format!("{} {name}[{c}]", c_type(entry)), format!("{name}: [{}; {rust}]", rust_type(entry))];
     } else {
-        return [format!("{} {name}", c_number(kind)), format!("{name}: {kind}")];
+        return [format!("{} {name}", c_type(kind)), format!("{name}: {}", rust_type(kind))];
     };
-    let number = entries.trim_end_matches(']');
-    let in_c = format!("{c}{} *{name}, size_t {name}_length", c_number(number));
-    [in_c, format!("{name}: *{rust} {number}, {name}_length: usize")]
+    let entries = behind.strip_prefix('[').map(|entries| entries.trim_end_matches(']'));
+    let one = entries.unwrap_or(behind);
+    let pointers = [format!("{c}{} *{name}", c_type(one)), format!("{name}: *{rust} {}", rust_type(one))];
+    match entries {
+        Some(_) => [format!("{}, size_t {name}_length", pointers[0]), format!("{}, {name}_length: usize", pointers[1])],
+        None => pointers,
+    }
 }
 
-/// `u64` in C.
-fn c_number(number: &str) -> String {
-    format!("uint{}_t", number.strip_prefix('u').expect(number))
+/// The length of a list in a struct of the library, and its name in C and in Rust.
+const LENGTHS: [(&str, &str, &str); 2] =
+    [("8", "CHART_MOST_HEADS", "MOST_HEADS"), ("64", "CHART_MOST_TIMERS", "TIMERS")];
+
+/// `u64` or a struct in C.
+fn c_type(name: &str) -> String {
+    match name.strip_prefix('u') {
+        Some(bits) => format!("uint{bits}_t"),
+        None if name.starts_with("chart_") => name.to_string(),
+        None => format!("chart_{}", name.to_lowercase()),
+    }
 }
 
-/// `chart_analysis` in Rust.
-fn rust_name(name: &str) -> String {
-    name.split('_').map(|word| word[..1].to_uppercase() + &word[1..]).collect()
+/// The same in Rust: an answer's struct is `ffi`'s, the others are those of the module `controller`.
+fn rust_type(name: &str) -> String {
+    match name {
+        "Controller" => "State".to_string(),
+        _ if name.starts_with("chart_") => name.split('_').map(|word| word[..1].to_uppercase() + &word[1..]).collect(),
+        _ => name.to_string(),
+    }
 }
 
+/// All code of the proved library: that of every crate of the repository.
 fn library() -> String {
-    file("../crates/exports/src/lib.rt")
+    fn add(path: &Path, all: &mut String) {
+        for entry in std::fs::read_dir(path).expect("a folder of crates").map(|entry| entry.unwrap().path()) {
+            if entry.is_dir() {
+                add(&entry, all);
+            } else if entry.extension().is_some_and(|extension| extension == "rt") {
+                all.push_str(&std::fs::read_to_string(&entry).unwrap());
+            }
+        }
+    }
+    let mut all = String::new();
+    add(&Path::new(env!("CARGO_MANIFEST_DIR")).join("../crates"), &mut all);
+    all
+}
+
+/// The structs of a Rust file that are laid out as in C, without their comments and derived traits.
+fn rust_structs(name: &str) -> Vec<String> {
+    let text: Vec<String> =
+        file(name).lines().map(str::trim).filter(|line| !line.starts_with("///")).map(String::from).collect();
+    let structs = between(&text.join("\n"), "#[repr(C)]\n", "}");
+    structs.iter().map(|text| plain(text.split_once("pub struct ").unwrap().1)).collect()
 }
 
 #[test]
-fn answers() {
-    let (header, ffi) = (plain(&header()), plain(&file("src/ffi.rs")));
+fn structs() {
+    let header = plain(&header());
+    let in_rust = [rust_structs("src/ffi.rs"), rust_structs("src/controller.rs")].concat();
     let structs = between(&library(), "#[repr(C)]\npub struct ", "}");
     assert!(!structs.is_empty());
     for text in &structs {
         let (name, fields) = text.split_once(" {").unwrap();
-        let fields: Vec<&str> = fields.split(',').filter_map(|field| field.trim().strip_prefix("pub ")).collect();
-        let in_c: String = fields.iter().map(|field| format!("{}; ", declared(field)[0])).collect();
-        assert!(header.contains(&format!("typedef struct {name} {{ {in_c}}} {name};")), "{name}");
-        let in_rust: String = fields.iter().map(|field| format!("pub {}, ", declared(field)[1])).collect();
-        let head = format!("#[repr(C)] #[derive(Clone, Copy, Debug)] pub struct {}", rust_name(name));
-        assert!(ffi.contains(&format!("{head} {{ {in_rust}}}")), "{name}");
+        let fields: Vec<&str> = fields.split(",\n").filter_map(|field| field.trim().strip_prefix("pub ")).collect();
+        let fields: Vec<[String; 2]> = fields.iter().map(|field| declared(field.trim_end_matches(','))).collect();
+        let c_fields: String = fields.iter().map(|field| format!("{}; ", field[0])).collect();
+        let c_name = c_type(name);
+        assert!(header.contains(&format!("typedef struct {c_name} {{ {c_fields}}} {c_name};")), "{name}");
+        let rust_fields: Vec<String> = fields.iter().map(|field| format!(" pub {},", field[1])).collect();
+        assert!(in_rust.contains(&format!("{} {{{}", rust_type(name), rust_fields.concat())), "{name}");
     }
     assert_eq!(header.matches("typedef struct ").count(), structs.len());
-    assert_eq!(ffi.matches("pub struct ").count(), structs.len());
+    assert_eq!(in_rust.len(), structs.len());
 }
 
 #[test]
@@ -140,7 +189,7 @@ fn functions() {
         let parameters: Vec<[String; 2]> = parameters.split(", ").map(declared).collect();
         let list = |language: usize| parameters.iter().map(|p| p[language].as_str()).collect::<Vec<_>>().join(", ");
         assert!(header.contains(&format!(" {answer} {name}({});", list(0))), "{name}");
-        assert!(ffi.contains(&format!(" pub fn {name}({}) -> {};", list(1), rust_name(answer))), "{name}");
+        assert!(ffi.contains(&format!(" pub fn {name}({}) -> {};", list(1), rust_type(answer))), "{name}");
     }
     assert_eq!(ffi.matches("pub fn ").count(), functions.len());
 }

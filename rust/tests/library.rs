@@ -4,11 +4,12 @@
 #![cfg(feature = "library")]
 
 use timing_chart::analysis::Analysis;
+use timing_chart::controller::{Head, Report, Start, State, Turn};
 use timing_chart::drawing::{
     chain, chart_a, chart_a_continued, chart_b, dwell, looped_chain, never_started, over_floor, self_loop, Drawing,
     AT_LEAST, AT_MOST,
 };
-use timing_chart::library::{analyse, play, rewrite};
+use timing_chart::library::{analyse, play, rewrite, Controller};
 use timing_chart::player::Playing;
 use timing_chart::rewriting::Rewriting;
 use timing_chart::{Refusal, NOWHERE};
@@ -100,4 +101,30 @@ fn version_2() {
         file[0] = 3;
         assert_eq!(analyse(&file, &mut [0; 4]), Err(refusal(2)));
     }
+}
+
+#[test]
+fn controller() {
+    let file = chart_b().file();
+    let head = |block, counts| Start { file: &file, block, counts };
+    let refused = |number| Refusal { number, place: NOWHERE };
+    let set_up = |heads: &[Start], k| Controller::set_up(heads, k).map(|controller| *controller.state());
+    assert_eq!(set_up(&[], 4), Err(refused(25)));
+    assert_eq!(set_up(&[head(2, &[0, 0]); 9], 4), Err(refused(25)));
+    assert_eq!(set_up(&[head(2, &[0, 0]), head(2, &[0])], 4), Err(refused(12)));
+    assert_eq!(set_up(&[head(2, &[0, 0]), head(2, &[0, 0])], 3), Err(refused(25)));
+
+    let mut controller = Controller::set_up(&[head(2, &[7, 7]), head(2, &[0, 0])], 4).unwrap();
+    assert_eq!(controller.event(0, 0, 5), Ok(()));
+    assert_eq!(controller.event(0, 0, 6), Err(refused(26)));
+    assert_eq!(controller.event(1, 0, 16_777_216), Err(refused(15)));
+    assert_eq!(controller.turn(), Ok(Turn { head: 0, report: Report::Taken(0) }));
+    assert_eq!(controller.event(0, 0, 4), Err(refused(23)));
+    assert_eq!(controller.turn(), Ok(Turn { head: 1, report: Report::Nothing }));
+    assert_eq!(controller.event(0, 0, 8), Ok(()));
+    assert_eq!(controller.turn(), Ok(Turn { head: 0, report: Report::NoneTaken }));
+    let mut expected = State { turn: 1, ..State::ZERO };
+    expected.heads[0] = Head { location: 1, time: 8, ..Head::default() };
+    expected.counts[..2].copy_from_slice(&[3, 15]);
+    assert_eq!(*controller.state(), expected);
 }

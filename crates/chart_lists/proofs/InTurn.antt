@@ -49,6 +49,10 @@ module _ {c : Chart} {i : ℕ} {r : Transition} (n : Nth c i r) where
   unfolding listsOf
   target-at b = entry (λ r. r .target) b
 
+  pub event-at : {l : List ℕ} → Begins (listsOf c .events) l → getD l i 0 ≡ r .event
+  unfolding listsOf
+  event-at b = entry (λ r. r .event) b
+
   pub starts-at : {l : List ℕ} → Begins (listsOf c .starts) l → getD l i 0 ≡ startsSet r
   unfolding listsOf
   starts-at b = entry startsSet b

@@ -1,4 +1,4 @@
-// The three calls as C sees them: a slice is a pointer and a length, an answer a struct by value whose number is 0 where there is a result.
+// The calls as C sees them: a slice is a pointer and a length, an answer a struct by value whose number is 0 where there is a result.
 ghost use mathlib.Core.Path.{_≡_};
 ghost use lib.ListN.{length};
 ghost use Rattle.model.specs.Live.{liveSets};
@@ -6,8 +6,24 @@ ghost use Rattle.chart_lists.specs.Lists.{overwritten};
 ghost use Rattle.analysis.specs.Analysing.{analysedIn, analyseAnswer};
 ghost use Rattle.rewriting.specs.Rewriting.{newFile, rewriteInto, rewriteAnswer};
 ghost use Rattle.player.specs.Playing.{playAnswer};
+ghost use Rattle.controller_model.specs.Controlling.{
+  setUp,
+  event as Call·event,
+  turn as Call·turn,
+  called,
+  stateAfter,
+  stateSetUp,
+  verdictOf,
+  reported,
+};
+ghost use Rattle.controller_answers.specs.Answered.{calledOf, turnedOf};
 ghost use Rattle.exports.specs.Exported.{analysisOf, rewritingOf, playingOf};
 use analysis::Analysis;
+use controller_answers::chart_called;
+use controller_answers::chart_turned;
+use controller_model::Controller;
+use controller_model::Heads;
+use controller_model::Parts;
 use player::Played;
 use rewriting::Rewritten;
 
@@ -130,4 +146,61 @@ pub extern "C" fn chart_play(
             accepting: 0,
         },
     }
+}
+
+// A controller is set up, in place.
+#[no_mangle]
+pub extern "C" fn chart_controller_set_up(
+    state: &mut Controller,
+    files: &[u8],
+    heads: Heads,
+    k: u32,
+    counts: &[u32],
+    parts: Parts,
+) -> chart_called
+    ensures answer { λ r. ⌜ r ≡ calledOf (verdictOf (setUp (now (files .entry)) heads k (now (counts .entry)) parts)) ⌝ }
+    ensures lent { λ _. ⌜ now (state .exit)
+        ≡ stateSetUp (now (state .entry)) (setUp (now (files .entry)) heads k (now (counts .entry)) parts) ⌝ }
+{
+    let out = controller_answers::set_up(*state, files, heads, k, counts, parts);
+    *state = out.state;
+    out.answer
+}
+
+// An event comes for a head, in place.
+#[no_mangle]
+pub extern "C" fn chart_controller_event(
+    state: &mut Controller,
+    files: &[u8],
+    heads: Heads,
+    k: u32,
+    head: u32,
+    event: u8,
+    time: u64,
+) -> chart_called
+    ensures answer { λ r. ⌜ r
+        ≡ calledOf (verdictOf (called (now (files .entry)) heads k (now (state .entry)) (Call·event head event time))) ⌝ }
+    ensures lent { λ _. ⌜ now (state .exit)
+        ≡ stateAfter (now (state .entry)) (called (now (files .entry)) heads k (now (state .entry)) (Call·event head event time)) ⌝ }
+{
+    let out = controller_answers::event(*state, files, heads, k, head, event, time);
+    *state = out.state;
+    out.answer
+}
+
+// A turn is taken, in place.
+#[no_mangle]
+pub extern "C" fn chart_controller_turn(
+    state: &mut Controller,
+    files: &[u8],
+    heads: Heads,
+    k: u32,
+) -> chart_turned
+    ensures answer { λ r. ⌜ r ≡ turnedOf (reported (called (now (files .entry)) heads k (now (state .entry)) Call·turn)) ⌝ }
+    ensures lent { λ _. ⌜ now (state .exit)
+        ≡ stateAfter (now (state .entry)) (called (now (files .entry)) heads k (now (state .entry)) Call·turn) ⌝ }
+{
+    let out = controller_answers::turn(*state, files, heads, k);
+    *state = out.state;
+    out.answer
 }

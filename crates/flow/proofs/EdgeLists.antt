@@ -13,7 +13,7 @@ use Rattle.lists.specs.Lists.{upTo}
 use Rattle.model.specs.Comes.{Shaped}
 use Rattle.lists.proofs.Gather.{length-upTo, getD-upTo}
 use Rattle.lists.proofs.Zeros.{getD-zeros}
-use Rattle.lists.proofs.Nth.{nth-below, below-nth, getD-nth}
+use Rattle.lists.proofs.Nth.{below-nth, nth-upTo}
 use Rattle.model.specs.Flow.{Edge, brings, round}
 use Rattle.model.proofs.Edges.{roundTo, roundTo-start, roundTo-step, roundTo-end}
 use Rattle.model.proofs.Rounds.{Words}
@@ -25,10 +25,6 @@ module _ {A : Type 0} where
   upTo-getD : (l : List A) (d : A) → upTo (λ i. getD l i d) (length l) ≡ l
   upTo-getD l d =
       ext-getD d _ l (length-upTo _ (length l)) (λ i h. getD-upTo _ (length l) i d (omega (arith, length-upTo (λ i. getD l i d) (length l))))
-
-  nth-upTo : (f : ℕ → A) (n i : ℕ) → i < n → getElem? (upTo f n) i ≡ some (f i)
-  nth-upTo f n i h = let x = nth-below (upTo f n) i (omega (arith, length-upTo f n)) in
-      x .1 ∙ ap some (sym (getD-nth (upTo f n) i (f i) (x .1)) ∙ getD-upTo f n i (f i) h)
 
 module _ (into from cut gain own : List ℕ) where
   pub nth-edge : (i : ℕ) → i < length into → getElem? (flowOf into from cut gain own .edges) i ≡ some (edgeAt into from cut gain i)

@@ -83,6 +83,23 @@ module _ {A : Type 0} (f : A → Bool) where
       go zero false t h e ih = ap f (sym (Option·some-injective _ _ e)) ∙ t
       go (suc i) false t h e ih = let h′ : suc i < suc (firstOf f l) = rw (t, firstOf) at h in ih i (omega arith) e
 
+  pub first-le : (l : List A) → firstOf f l ≤ length l
+  unfolding firstOf
+  first-le [] = omega arith
+  first-le (x ∷ l) = go (f x) (first-le l)
+    where
+      go : (b : Bool) → firstOf f l ≤ length l → elim b [ true ↦ 0 | false ↦ suc (firstOf f l) ] ≤ suc (length l)
+      go true h = omega arith
+      go false h = omega arith
+
+  -- what passes, or the end, before which nothing passes, is the first
+  pub first-is : (l : List A) (m : ℕ) → m ≤ length l → ((a : A) → getElem? l m ≡ some a → f a ≡ true)
+      → ((k : ℕ) → k < m → (a : A) → getElem? l k ≡ some a → f a ≡ false) → firstOf f l ≡ m
+  unfolding firstOf
+  first-is [] m h p b = omega arith
+  first-is (x ∷ l) zero h p b = rw (p x refl, firstOf) refl
+  first-is (x ∷ l) (suc m) h p b = rw (b 0 (omega arith) x refl, firstOf) (ap suc (first-is l m (omega arith) p (λ k d. b (suc k) (omega arith))))
+
 -- ---- the same of numbers that are in the list
 
 pub nth-memb : (l : List ℕ) (i : ℕ) {x : ℕ} → getElem? l i ≡ some x → memb x l ≡ true

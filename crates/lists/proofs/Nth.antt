@@ -30,6 +30,18 @@ module _ {A : Type 0} where
   getD-nth (x ∷ l) zero d e = Option·some-injective _ _ e
   getD-nth (x ∷ l) (suc i) d e = getD-nth l i d e
 
+-- the elements of a list by numbers
+module _ {A : Type 0} (f : ℕ → A) (n : ℕ) where
+  pub upTo-nth : (i : ℕ) {a : A} → getElem? (upTo f n) i ≡ some a → (i < n) × (f i ≡ a)
+  upTo-nth i {a} e =
+      let b : i < n = omega (arith, below-nth (upTo f n) i e, length-upTo f n) in
+      (b, sym (getD-upTo f n i a b) ∙ getD-nth (upTo f n) i a e)
+
+  pub nth-upTo : (i : ℕ) → i < n → getElem? (upTo f n) i ≡ some (f i)
+  nth-upTo i b =
+      let x = nth-below (upTo f n) i (omega (arith, length-upTo f n)) in
+      x .1 ∙ ap some (sym (upTo-nth i (x .1) .1))
+
 module _ {A : Type 0} where
   pub getD-map : (f : A → ℕ) (l : List A) (i : ℕ) {a : A} → getElem? l i ≡ some a → getD (map f l) i 0 ≡ f a
   getD-map f l i e = getD-nth (map f l) i 0 (nth-map f l i e)

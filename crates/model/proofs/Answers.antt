@@ -1,5 +1,6 @@
 -- Answers: two of them that match, and which refusal numbers they can hold. Nothing is hard: all by cases. Assumes nothing.
-use mathlib.Core.Path.{_≡_, refl, ap₂}
+use mathlib.Core.Path.{_≡_, refl, sym, ap₂}
+use mathlib.Core.Logic.{_⊎_, inl, inr}
 use mathlib.Core.Bool.{Bool, true, false}
 use mathlib.Core.List.{List}
 use Prim.Native.Nat.{ℕ}
@@ -30,6 +31,18 @@ module _ {A : Type 0} where
 pub then-result : {A B : Type 0} (x : Answer A) (k : A → Answer B) {b : B} → then x k ≡ result b → (a : A) × (x ≡ result a) × (k a ≡ result b)
 then-result (result a) k e = (a, refl, e)
 then-result (refused n p) k e = absurd (not-result e)
+
+-- where there is a refusal, the condition fails, or it holds and the rest is refused
+pub unless-refused : {A : Type 0} (b : Bool) (n p : ℕ) (x : Answer A) {m q : ℕ} → unless b n p x ≡ refused m q
+    → ((b ≡ false) × (m ≡ n) × (q ≡ p)) ⊎ ((b ≡ true) × (x ≡ refused m q))
+unless-refused true n p x e = inr (refl, e)
+unless-refused false n p x e = inl (refl, sym (refused-same e .0), sym (refused-same e .1))
+
+-- where going on is refused, what it goes on from is, or the rest
+pub then-refused : {A B : Type 0} (x : Answer A) (k : A → Answer B) {m q : ℕ} → then x k ≡ refused m q
+    → (x ≡ refused m q) ⊎ ((a : A) × (x ≡ result a) × (k a ≡ refused m q))
+then-refused (result a) k e = inr (a, refl, e)
+then-refused (refused n p) k e = inl (let z = refused-same e in rw (z .0, z .1) refl)
 
 -- ---- two answers match: results that R relates, or the same refusal
 

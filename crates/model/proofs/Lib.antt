@@ -29,6 +29,7 @@ pub mod FirstFitShares
 pub mod SharingDetermined
 pub mod Answers
 pub mod Steps
+pub mod LongerSteps
 pub mod Rewritten
 pub mod Agree
 pub mod EqualRuns

@@ -9,6 +9,8 @@ use Rattle.refusal.specs.Refused.{refusedAs}
 use Rattle.chart_lists.specs.Lists.{Lists, lists, listsOf}
 use Rattle.player.specs.declared.Played.{Played}
 use Rattle.player.specs.declared.Played.the-variants as played·
+use Rattle.player.specs.declared.Judged.{Judged}
+use Rattle.player.specs.declared.Judged.the-variants as judged·
 
 -- 1 to 8, then as the player on the chart: 9, 10, 12, 13, then step by step 14, 15, 22, 23, 24
 unfoldable pub playAnswer : (file counts transitions times : List ℕ) → Answer Arrival
@@ -18,6 +20,11 @@ playAnswer bs counts is ts = then (chartIn bs) (λ c. played c counts is ts)
 abbrev pub playedAs : Played → Answer Arrival
 playedAs (played·.Arrived q t b) = result (record { location = q; time = t; accepting = b })
 playedAs (played·.Refused f) = refusedAs f
+
+-- what an answer means that brings nothing
+abbrev pub judgedAs : Judged → Answer (Unit {0})
+judgedAs judged·.Passed = result tt
+judgedAs (judged·.Refused f) = refusedAs f
 
 -- these lists, with the chart's own events, which no player looks at
 abbrev pub playLists : Chart → (accepting sources targets starts test-counts timers codes constants : List ℕ) → Lists

@@ -5,11 +5,12 @@ ghost use lib.ListN.{length};
 ghost use Rattle.lists.specs.Lists.{memb, lowest};
 ghost use Rattle.model.specs.Chart.{Chart};
 ghost use Rattle.model.specs.Run.{Counts, Step, outcome, playerTime};
-ghost use Rattle.model.specs.Player.{answerOf, playedOn, tooLarge};
+ghost use Rattle.model.specs.Answer.{result};
+ghost use Rattle.model.specs.Player.{answerOf, countsJudged, playedOn, tooLarge};
 ghost use Rattle.chart_lists.specs.Header.{headerOf};
 ghost use Rattle.chart_lists.specs.Holds.{Holds};
 ghost use Rattle.steps.specs.Stepping.{Answered};
-ghost use Rattle.player.specs.Playing.{playAnswer, playedAs, playLists};
+ghost use Rattle.player.specs.Playing.{playAnswer, playedAs, judgedAs, playLists};
 use chart_lists::Header;
 use chart_lists::MOST_LOCATIONS;
 use chart_lists::MOST_TESTS;
@@ -30,6 +31,12 @@ pub enum Played {
     Refused(Refusal),
 }
 
+// What a judgement comes to that brings nothing but its refusal.
+pub enum Judged {
+    Passed,
+    Refused(Refusal),
+}
+
 // The lowest timer whose starting count is over 16,777,215, or the number of counts.
 pub fn first_too_large(counts: &[u32]) -> usize
     ensures { λ r. ⌜ r ≡ lowest (tooLarge (now (counts .entry))) (length (now (counts .entry))) ⌝ }
@@ -43,6 +50,23 @@ pub fn first_too_large(counts: &[u32]) -> usize
         j += 1;
     }
     n
+}
+
+// 12: a starting count for each of so many timers, none over 16,777,215.
+pub fn judge_counts(counts: &[u32], timers: u8) -> Judged
+    ensures { λ r. ⌜ ((c : Chart) → timers ≡ c .timers → judgedAs r ≡ countsJudged c (now (counts .entry)) (result tt)) ⌝ }
+{
+    if counts.len() != timers as usize {
+        return Judged::Refused(refusal::WRONG_COUNTS);
+    }
+    let first = first_too_large(counts);
+    if first < counts.len() {
+        return Judged::Refused(Refusal {
+            number: 12,
+            place: first as u64,
+        });
+    }
+    Judged::Passed
 }
 
 // Whether a location is one of the accepting ones.
@@ -101,15 +125,9 @@ fn play_chart<'a>(
         (now («test_counts» .entry)) (now (timers .entry)) (now (codes .entry)) (now (constants .entry)))
         → playedAs r ≡ playedOn (now (counts .entry)) (now (transitions .entry)) (now (times .entry)) c) ⌝ }
 {
-    if counts.len() != header.timers as usize {
-        return Played::Refused(refusal::WRONG_COUNTS);
-    }
-    let first = first_too_large(counts);
-    if first < counts.len() {
-        return Played::Refused(Refusal {
-            number: 12,
-            place: first as u64,
-        });
+    let judged = judge_counts(counts, header.timers);
+    if let Judged::Refused(f) = judged {
+        return Played::Refused(f);
     }
     if transitions.len() != times.len() {
         return Played::Refused(refusal::UNEQUAL_LISTS);

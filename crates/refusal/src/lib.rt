@@ -88,3 +88,33 @@ pub const NO_ROOM: Refusal = Refusal {
     number: 21,
     place: NOWHERE,
 };
+
+// No head or more than eight, blocks that together exceed the board, or one that is shorter than its chart's timers.
+pub const WRONG_HEADS: Refusal = Refusal {
+    number: 25,
+    place: NOWHERE,
+};
+
+// An event for a head that there is not, or at which one waits.
+pub const NO_FREE_HEAD: Refusal = Refusal {
+    number: 26,
+    place: NOWHERE,
+};
+
+// A controller's state that its calls cannot go on from.
+pub const WRONG_STATE: Refusal = Refusal {
+    number: 32,
+    place: NOWHERE,
+};
+
+// An event, not a step, whose time is over the largest.
+pub const EVENT_TOO_LATE: Refusal = Refusal {
+    number: 15,
+    place: NOWHERE,
+};
+
+// An event, not a step, whose time is before its head's.
+pub const EVENT_TOO_EARLY: Refusal = Refusal {
+    number: 23,
+    place: NOWHERE,
+};

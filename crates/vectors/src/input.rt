@@ -33,10 +33,15 @@ pub fn byte(s: &[u8], i: usize) -> u64 {
     if i < s.len() { wide8(s[i]) } else { 0 }
 }
 
+// The numbers from the i-th on.
+pub fn numbers_from<'a>(s: &'a [u8], i: usize) -> &'a [u8] {
+    let from = least(i << 3, s.len());
+    &s[from..]
+}
+
 // The i-th number.
 pub fn number(s: &[u8], i: usize) -> u64 {
-    let from = least(i << 3, s.len());
-    let t = &s[from..];
+    let t = numbers_from(s, i);
     let high = byte(t, 0) << 56 | byte(t, 1) << 48 | byte(t, 2) << 40 | byte(t, 3) << 32;
     high | byte(t, 4) << 24 | byte(t, 5) << 16 | byte(t, 6) << 8 | byte(t, 7)
 }

@@ -1,11 +1,13 @@
-//! Compares the proved library and the program `allocate` with this crate, on random files, limits, lent memory and
-//! step lists from a seed.
+//! Compares the proved library and the program `allocate` with this crate, on random files, limits, lent memory, step
+//! lists and controllers from a seed.
 //!
 //! usage: differential [TRIALS] [SEED] [--without-program]
 //!
-//! Exit status 0 if all agree and every refusal number, every kind of floor, of number of rounds and of version and
-//! constant came; 1 at the first difference, with its input in hex; 2 if one that should come never did, or the program
-//! is missing. A thousand trials bring all.
+//! Exit status 0 if all agree and every refusal number, every kind of floor, of number of rounds, of version and
+//! constant and of what a controller meets came; 1 at the first difference, or where a controller breaks a promise or
+//! gives a refusal that its call does not have, with the input in hex; 2 if one that should come never did, or the
+//! program is missing. What no call can answer, such as a transition that is taken with no event served, ends it by a
+//! panic. A thousand trials bring all.
 
 use std::fmt::{Debug, Display, Formatter};
 use std::io::{ErrorKind, Write};
@@ -23,19 +25,22 @@ use timing_chart::limits::{
 use timing_chart::listing::listing;
 use timing_chart::player;
 use timing_chart::rewriting::{self, Rewriting};
+use timing_chart::tally::{number_of, ByNumber};
+use timing_chart::trials::{Calls, Trials};
 use timing_chart::version::Version;
 use timing_chart::{library, Answer, Refusal};
 
-/// The numbers that calls of the library bring, each of which must come. 17 is not among them: it is the writer's, which
-/// may be handed a chart of version 1 with a constant over 65,535. The library's calls read their chart from a file, and
-/// in a file of version 1 a constant has two bytes; so none of them can meet it.
+/// The numbers that calls of the library on one chart bring, each of which must come; [`Trials`] has the controller's.
+/// 17 is not among them: it is the writer's, which may be handed a chart of version 1 with a constant over 65,535. The
+/// library's calls read their chart from a file, and in a file of version 1 a constant has two bytes; so none of them
+/// can meet it.
 const EXPECTED: [usize; 20] = [1, 2, 3, 4, 5, 6, 7, 8, 9, 10, 11, 12, 13, 14, 15, 20, 21, 22, 23, 24];
+
+/// The most calls from a controller's set-up on.
+const CALLS: u64 = 60;
 
 /// The number that the program alone brings.
 const OF_PROGRAM: usize = 16;
-
-/// How often each number came; 0 is a result.
-type ByNumber = [u64; 25];
 
 /// How often what came.
 #[derive(Default)]
@@ -215,11 +220,6 @@ impl Tally {
     }
 }
 
-/// The place of an answer in a tally: 0 for a result.
-fn number_of<T>(answer: &Answer<T>) -> usize {
-    answer.as_ref().err().map_or(0, |refusal| refusal.number as usize)
-}
-
 /// The place of a version in a tally.
 fn place_of(version: Version) -> usize {
     version as usize - 1
@@ -235,13 +235,14 @@ fn differ(what: &str, file: &[u8], with: &dyn Debug, library: &dyn Debug, rust: 
     exit(1)
 }
 
-struct Trial {
+/// Trials of the calls on one chart and of the program; those of the controller are [`Trials`].
+struct ChartTrials {
     random: Random,
     tally: Tally,
     program: Option<PathBuf>,
 }
 
-impl Trial {
+impl ChartTrials {
     /// Analyses with a lent list of `length` words, filled beforehand.
     fn analyse(&mut self, file: &[u8], length: usize) -> Answer<Analysis> {
         let before: Vec<u64> = (0..length).map(|_| self.random.word()).collect();
@@ -567,40 +568,63 @@ fn main() {
         exit(2);
     }
     let program = (!without).then_some(program);
-    let mut trial = Trial { random: Random::new(seed), tally: Tally::default(), program };
-    trial.input_lengths();
+    let mut charts = ChartTrials { random: Random::new(seed), tally: Tally::default(), program };
+    let mut controllers = Trials::new(seed, [Calls::PROVED, Calls::RUST]);
+    charts.input_lengths();
     for index in 0..trials {
-        trial.run(index);
+        charts.run(index);
+        if index.is_multiple_of(2) {
+            if let Err(wrong) = controllers.run(CALLS) {
+                println!("wrong in controller: {wrong}");
+                exit(1);
+            }
+        }
         if index.is_multiple_of(2_000) {
-            trial.long_lists();
+            charts.long_lists();
         }
     }
 
-    let tally = &trial.tally;
+    let tally = &charts.tally;
     println!("trials {trials}, seed {seed}; largest chart {} bytes", tally.largest);
     println!("steps taken: {}", tally.steps_taken);
     println!("analyses with {}", tally.floors);
     println!("{}", tally.live_rounds);
     println!("{}", tally.versions);
+    println!("{}", controllers.tally);
     println!("texts with floor: {}, with seen: {}", tally.printed_floor, tally.printed_seen);
     println!("how often each answer came (0: a result)");
-    println!("{:>6} {:>10} {:>10} {:>10} {:>10}", "number", "analysis", "rewriting", "player", "program");
-    for number in 0..ByNumber::default().len() {
-        if number == 0 || number == OF_PROGRAM || EXPECTED.contains(&number) || tally.came(number) {
-            let [a, b, c, d] = tally.all().map(|numbers| numbers[number]);
-            println!("{number:>6} {a:>10} {b:>10} {c:>10} {d:>10}");
+    let [analyses, rewritings, playings, listings] = tally.all();
+    let columns = [
+        ("analysis", analyses),
+        ("rewriting", rewritings),
+        ("player", playings),
+        ("program", listings),
+        ("set-up", &controllers.tally.set_ups),
+        ("event", &controllers.tally.events),
+        ("turn", &controllers.tally.turns),
+    ];
+    let row = |first: &str, cell: &dyn Fn(usize) -> String| {
+        let cells: String = (0..columns.len()).map(|column| format!(" {:>10}", cell(column))).collect();
+        println!("{first:>6}{cells}");
+    };
+    row("number", &|column| columns[column].0.to_string());
+    for number in ByNumber::NUMBERS {
+        if EXPECTED.contains(&number) || columns.iter().any(|(_, numbers)| numbers[number] > 0) {
+            row(&number.to_string(), &|column| columns[column].1[number].to_string());
         }
     }
-    let program = trial.program.is_some().then_some(OF_PROGRAM);
+    let program = charts.program.is_some().then_some(OF_PROGRAM);
     let missing: Vec<usize> = EXPECTED.into_iter().chain(program).filter(|&number| !tally.came(number)).collect();
-    let words_came = trial.program.is_none() || tally.printed_floor > 0 && tally.printed_seen > 0;
+    let words_came = charts.program.is_none() || tally.printed_floor > 0 && tally.printed_seen > 0;
     let Tally { floors, live_rounds, versions, .. } = tally;
     let kinds_came = floors.all_came() && live_rounds.all_came() && versions.all_came();
-    if !missing.is_empty() || !kinds_came || !words_came {
+    let of_controllers = controllers.tally.missing();
+    if !missing.is_empty() || !kinds_came || !words_came || !of_controllers.is_empty() {
+        println!("never came with a controller: {of_controllers:?}");
         print!("never came: {missing:?}, or one of: {floors}; or one of: {live_rounds}; or one of: {versions}; ");
         println!("or a word of the program");
         exit(2);
     }
-    let calls: u64 = tally.all().into_iter().flatten().sum();
+    let calls: u64 = columns.iter().map(|(_, numbers)| numbers.total()).sum();
     println!("all {calls} calls agree");
 }

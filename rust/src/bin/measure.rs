@@ -1,6 +1,6 @@
 //! Measures the proved library beside this crate: analysis, rewriting and player on small, typical and largest charts,
 //! the larger ones as version 2 too, the analysis where there are most numbers or rounds or the floor is hard to find,
-//! growth by transitions, and the player's time for a step.
+//! growth by transitions, the player's time for a step, and the controller's calls with one and with eight heads.
 //!
 //! usage: measure [REPETITIONS]
 
@@ -8,13 +8,15 @@ use std::hint::black_box;
 
 use timing_chart::analysis::{self, Analysis};
 use timing_chart::chart::Chart;
-use timing_chart::drawing::{chart_a, looped_chain, Arrow, Drawing, AT_LEAST};
+use timing_chart::controller::{Report, SetUp, State, Turn};
+use timing_chart::drawing::{chart_a, chart_b, looped_chain, Arrow, Drawing, AT_LEAST};
 use timing_chart::generator::{accepted, five_groups, hardest_floor, longest, many_numbers, run, Random, Shape, Steps};
-use timing_chart::limits::{LOCATIONS, MOST_LOCATIONS, MOST_TIMERS, MOST_TRANSITIONS};
+use timing_chart::heads::{self, DrawnHeads};
+use timing_chart::limits::{LOCATIONS, MOST_HEADS, MOST_LOCATIONS, MOST_TIMERS, MOST_TRANSITIONS};
 use timing_chart::player::{self, Playing};
 use timing_chart::rewriting::{self, Rewriting};
 use timing_chart::version::Version;
-use timing_chart::{library, Answer};
+use timing_chart::{library, trials, Answer};
 
 /// The steps of a long list.
 const LONG: usize = 100_000;
@@ -26,16 +28,27 @@ type Analyse = fn(&[u8], &mut [u64]) -> Answer<Analysis>;
 type Rewrite = fn(&[u8], u32, &mut [u8]) -> Answer<Rewriting>;
 type Play = fn(&[u8], &[u32], &[u32], &[u64]) -> Answer<Playing>;
 
-/// One implementation of the three calls.
+/// One implementation of the calls.
 #[derive(Clone, Copy)]
 struct Calls {
     analyse: Analyse,
     rewrite: Rewrite,
     play: Play,
+    controller: trials::Calls,
 }
 
-const PROVED: Calls = Calls { analyse: library::analyse, rewrite: library::rewrite, play: library::play };
-const RUST: Calls = Calls { analyse: analysis::analyse, rewrite: rewriting::rewrite, play: player::play };
+const PROVED: Calls = Calls {
+    analyse: library::analyse,
+    rewrite: library::rewrite,
+    play: library::play,
+    controller: trials::Calls::PROVED,
+};
+const RUST: Calls = Calls {
+    analyse: analysis::analyse,
+    rewrite: rewriting::rewrite,
+    play: player::play,
+    controller: trials::Calls::RUST,
+};
 
 /// The processor's time that this thread has taken, in nanoseconds: other programs on the machine do not count.
 fn now() -> u64 {
@@ -183,6 +196,53 @@ fn steps_of(drawing: &Drawing, most: usize) -> Steps {
     steps
 }
 
+/// The controller's calls with heads of these charts: set-up, an event, a turn with nothing waiting, and a turn at which
+/// head 0 takes the highest transition that has tests. The state is handed in anew for each call.
+fn controllers(repetitions: usize, name: &str, drawings: &[Drawing]) {
+    let heads = DrawnHeads::of(&mut Random::new(1), drawings.to_vec(), 0);
+    let SetUp { board, counts, parts } = heads.set_up(&mut Random::new(1));
+    let mut state = State::ZERO;
+    (RUST.controller.set_up)(&mut state, &board, &counts, &parts).expect("the heads are good");
+    let mut waiting = state;
+    let transitions = &heads.drawings[0].transitions;
+    let tested = transitions.iter().rposition(|transition| !transition.tests.is_empty()).expect("there is a test");
+    let transition = &transitions[tested];
+    waiting.counts.fill(2);
+    waiting.heads[0].location = u64::from(transition.source);
+    waiting.heads[0].waiting = 1;
+    waiting.heads[0].event = u64::from(transition.event);
+
+    let timed = |call: &dyn Fn(trials::Calls, &mut State), state: State| {
+        let after = [PROVED, RUST].map(|calls| {
+            let mut state = state;
+            call(calls.controller, &mut state);
+            state
+        });
+        assert_eq!(after[0], after[1]);
+        medians(repetitions, |calls| {
+            let mut state = black_box(state);
+            call(calls.controller, &mut state);
+            black_box(state);
+        })
+    };
+    let set_up = |calls: trials::Calls, state: &mut State| {
+        (calls.set_up)(state, black_box(&board), &counts, &parts).expect("the heads are good");
+    };
+    let event = |calls: trials::Calls, state: &mut State| {
+        (calls.event)(state, black_box(&board), 0, 0, 5).expect("head 0 is free");
+    };
+    let turn = |report: Report| {
+        let board = &board;
+        move |calls: trials::Calls, state: &mut State| {
+            assert_eq!((calls.turn)(state, black_box(board)), Ok(Turn { head: 0, report }));
+        }
+    };
+    row("set-up", name, timed(&set_up, state));
+    row("event", name, timed(&event, state));
+    row("turn, nothing waiting", name, timed(&turn(Report::Nothing), state));
+    row("turn, an event served", name, timed(&turn(Report::Taken(tested as u64)), waiting));
+}
+
 /// Both must answer alike, or a comparison of times says nothing.
 fn check(file: &[u8]) {
     let (mut a, mut b) = ([0; LOCATIONS], [0; LOCATIONS]);
@@ -296,4 +356,13 @@ fn main() {
         let empty = playings(repetitions, &file, &Steps::default());
         row("player, for a step", name, ((proved - empty.0) / LONG as f64, (rust - empty.1) / LONG as f64));
     }
+    let large: Vec<Drawing> = (1..=MOST_HEADS as u64).map(|seed| heads::largest(&mut Random::new(seed))).collect();
+    println!();
+    describe("head, small (chart B)", &chart_b());
+    describe("first head, large", &large[0]);
+    heading("The controller");
+    controllers(repetitions, "one small head", &[chart_b()]);
+    controllers(repetitions, "eight small heads", &[(); MOST_HEADS].map(|()| chart_b()));
+    controllers(repetitions, "one large head", &large[..1]);
+    controllers(repetitions, "eight large heads", &large);
 }

@@ -1,0 +1,11 @@
+pub mod Every
+pub mod SoundHeads
+pub mod SoundStates
+pub mod Judging
+pub mod Events
+pub mod StartHeads
+pub mod StartCounts
+pub mod SetUps
+pub mod HeadInTurn
+pub mod Turns
+pub mod Written

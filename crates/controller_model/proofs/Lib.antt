@@ -1,0 +1,16 @@
+pub mod Cases
+pub mod ListParts
+pub mod InOrder
+pub mod CountsInOrder
+pub mod Standing
+pub mod Turns
+pub mod Sound
+pub mod SetUp
+pub mod Failing
+pub mod Serving
+pub mod Fair
+pub mod Promise
+pub mod Refusals
+pub mod Exactly
+pub mod ByPaths
+pub mod Examples

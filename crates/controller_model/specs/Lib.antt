@@ -1,0 +1,9 @@
+pub mod Parts
+pub mod Heads
+pub mod Headers
+pub mod Serving
+pub mod Controlling
+pub mod Refusals
+pub mod Promise
+pub mod Cases
+pub mod Examples
