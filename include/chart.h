@@ -111,7 +111,7 @@ typedef struct chart_playing {
 } chart_playing;
 
 /* Where a head stands and at what time. waiting is 0 where no event waits at it, and event and waiting_time then say nothing; else the event of that
- * time waits. The calls write 1 where an event waits and leave all three 0 where none does. An event over 255 is no transition's. */
+ * time waits. A received event is written with waiting 1, and once it is served all three are 0. An event over 255 is no transition's. */
 typedef struct chart_head {
     uint64_t location;
     uint64_t time;

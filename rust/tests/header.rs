@@ -33,6 +33,7 @@ fn limits() {
     assert_eq!(defined("CHART_LARGEST_FILE"), LARGEST_FILE as u64);
     assert_eq!(defined("CHART_MOST_SEARCHED"), MOST_SEARCHED as u64);
     assert_eq!(defined("CHART_MOST_HEADS"), MOST_HEADS as u64);
+    assert!(library().contains(&format!("pub const MOST_HEADS: usize = {MOST_HEADS};")));
     assert_eq!(defined("CHART_MOST_TICKS"), u64::from(MOST_TICKS));
     assert_eq!(defined("CHART_NOWHERE"), NOWHERE);
 }
@@ -114,7 +115,7 @@ fn declared(name_and_type: &str) -> [String; 2] {
 
 /// The length of a list in a struct of the library, and its name in C and in Rust.
 const LENGTHS: [(&str, &str, &str); 2] =
-    [("8", "CHART_MOST_HEADS", "MOST_HEADS"), ("64", "CHART_MOST_TIMERS", "TIMERS")];
+    [("MOST_HEADS", "CHART_MOST_HEADS", "MOST_HEADS"), ("64", "CHART_MOST_TIMERS", "TIMERS")];
 
 /// `u64` or a struct in C.
 fn c_type(name: &str) -> String {

@@ -1,6 +1,6 @@
 -- The head whose turn it is: what 32 leaves of it is what serving asks for, and its file has its chart. Nothing is hard: past its own timers the
 -- counts are 0. Assumes nothing.
-use mathlib.Core.Path.{_≡_, refl, sym, ap, subst, _∙_}
+use mathlib.Core.Path.{_≡_, refl, ap, subst, _∙_}
 use mathlib.Core.Logic.{_⊎_, inl, inr}
 use mathlib.Core.Bool.{Bool, true, _&&_}
 use mathlib.Core.Option.{some}
@@ -15,13 +15,10 @@ use Rattle.lists.proofs.Nth.{nth-below}
 use Rattle.model.specs.Answer.{result}
 use Rattle.model.specs.Chart.{Chart}
 use Rattle.model.specs.Run.{largestTime}
-use Rattle.model.specs.Judge.{judged}
-use Rattle.model.proofs.Answers.{result-same, then-result}
-use Rattle.model.proofs.PlayerNumbers.{judged-is}
 use Rattle.file_format.specs.File.{chartIn}
 use Rattle.chart_lists.specs.declared.Header.{Header}
-use Rattle.judgement.specs.Judging.{judgedIn}
 use Rattle.steps.specs.Counts.{Starting}
+use Rattle.judgement.proofs.Corollaries.{judged-reads}
 use Rattle.controller_model.specs.declared.Head.{Head}
 use Rattle.controller_model.specs.declared.Controller.{Controller}
 use Rattle.controller_model.specs.declared.Heads.{Heads}
@@ -34,11 +31,6 @@ use Rattle.heads.proofs.Lengths.{part-between}
 use Rattle.heads.proofs.Blocks.{noHeader, timers-of}
 use Rattle.serving.specs.Served.{SoundServing, HeadShows}
 use Rattle.controller.specs.Judged.{Ready, InTurn}
-
--- a judged file is read
-judged-reads : (bs : List ℕ) {c : Chart} → judgedIn bs ≡ result c → chartIn bs ≡ result c
-unfolding judgedIn
-judged-reads bs e = let d = then-result (chartIn bs) judged e in d .1 ∙ ap result (result-same (sym (judged-is (d .0) (d .2)) ∙ d .2))
 
 -- ---- what serving asks for
 

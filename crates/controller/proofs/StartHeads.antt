@@ -1,18 +1,17 @@
 -- The heads that set-up makes, one after another. Nothing is hard: the code's array and the definition's list are compared head by head.
 -- Assumes nothing.
-use mathlib.Core.Path.{_≡_, refl, sym, ap, _∙_}
+use mathlib.Core.Path.{_≡_, sym, ap, _∙_}
 use mathlib.Core.Logic.{_⊎_, inl, inr}
-use mathlib.Core.Option.{none}
-use mathlib.Core.List.{List, [], _∷_}
-use Prim.Native.Nat.{ℕ, zero, suc, _+_, _≤_, _<_}
+use mathlib.Core.List.{List}
+use Prim.Native.Nat.{ℕ, _+_, _≤_, _<_}
 use native.Mathlib.Decide.{ℕ-discrete}
 use native.Mathlib.Omega.{arith}
-use lib.ListN.{length, getD, getElem?, set, replicate, length-set, length-replicate, getD-replicate}
+use lib.ListN.{length, getD, set, replicate, length-set, length-replicate, getD-replicate}
 use lib.Seq.{ext-getD, getD-set-same, getD-set-other}
 use Rattle.lists.specs.Lists.{upTo}
 use Rattle.lists.proofs.Bools.{lt-or-le}
 use Rattle.lists.proofs.Gather.{length-upTo, getD-upTo}
-use Rattle.lists.proofs.Nth.{nth-below, getD-nth}
+use Rattle.lists.proofs.Nth.{nth-below, getD-nth, nth-past}
 use Rattle.model.specs.Chart.{Chart}
 use Rattle.chart_lists.specs.declared.Header.{Header}
 use Rattle.chart_lists.proofs.Fronts.{initial-is}
@@ -54,14 +53,9 @@ module _ (headers : List Header) where
       let b : g < 8 = omega (arith, s .number) in
       go g b (lt-or-le g (length cs)) ∙ sym (getD-upTo (startHead cs) 8 g (standing 0 0) b))
     where
-      past : {A : Type 0} (l : List A) (i : ℕ) → length l ≤ i → getElem? l i ≡ none
-      past [] i h = refl
-      past (x ∷ l) zero h = absurd (omega arith)
-      past (x ∷ l) (suc i) h = past l i (omega arith)
-
       go : (g : ℕ) → g < 8 → (g < length cs) ⊎ (length cs ≤ g) → getD heads g (standing 0 0) ≡ startHead cs g
       go g b (inl l) =
           let c = nth-below cs g l in
           let e : getD headers g noHeader .initial ≡ c .0 .initial = initial-is (c .0) (getD-nth headers g noHeader (are .header g (c .0) (c .1))) in
           rw (c .1, startHead) (s .set-up g l ∙ ap (λ (q : ℕ). standing q 0) e)
-      go g b (inr l) = rw (past cs g l, startHead) (s .behind g l b)
+      go g b (inr l) = rw (nth-past cs g l, startHead) (s .behind g l b)

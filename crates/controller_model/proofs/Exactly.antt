@@ -10,7 +10,7 @@ use lib.Dec.{ltb}
 use lib.ListN.{length}
 use borrow.Author.Tests.{leb-false, ltb-true, ltb-false, le-leb, lt-ltb, le-ltb, lt-leb, ne-eqb}
 use Rattle.lists.specs.Lists.{memb}
-use Rattle.lists.proofs.Bools.{and-left, and-right, not-both, is-no, is-yes, not-true, not-false}
+use Rattle.lists.proofs.Bools.{and-left, and-right, not-both, is-no, is-yes, not-true, not-false, and-cases}
 use Rattle.lists.proofs.Membership.{memb-tail}
 use Rattle.model.specs.Answer.{result, refused, nowhere}
 use Rattle.model.specs.Chart.{Chart}
@@ -32,7 +32,7 @@ use Rattle.controller_model.proofs.SetUp.{number-passes}
 use Rattle.controller_model.proofs.Turns.{EventRefused}
 use Rattle.controller_model.proofs.Turns.EventRefused.{not-free, too-late, too-early}
 use Rattle.controller_model.proofs.Promise.{event-refused, done-refused}
-use Rattle.controller_model.proofs.Failing.{and-cases, number-fails, blocks-fail, state-fails}
+use Rattle.controller_model.proofs.Failing.{number-fails, blocks-fail, state-fails}
 use Rattle.controller_model.proofs.Refusals.{charts-refused, of-first, HeadsRefused, SetUpRefused, set-up-refused}
 use Rattle.controller_model.proofs.Refusals.{CallRefused, call-refused}
 use Rattle.controller_model.proofs.Refusals.ChartsRefused.{by-number, by-chart, by-board}

@@ -10,7 +10,7 @@ use lib.Dec.{leb, ltb}
 use lib.ListN.{length, getD}
 use borrow.Author.Tests.{leb-true, leb-false, ltb-true, ltb-false, lt-leb}
 use Rattle.lists.specs.Lists.{lowest}
-use Rattle.lists.proofs.Bools.{and-left, and-right, is-no, not-true}
+use Rattle.lists.proofs.Bools.{and-left, and-right, is-no, not-true, and-cases}
 use Rattle.lists.proofs.Lowest.{lowest-passes}
 use Rattle.lists.proofs.Nth.{nth-below, below-nth}
 use Rattle.model.specs.Chart.{Chart}
@@ -27,11 +27,6 @@ use Rattle.controller_model.specs.Refusals.UnsoundHead.{no-location, tim
 use Rattle.controller_model.specs.Refusals.UnsoundState.{no-turn, at-head}
 use Rattle.controller_model.proofs.ListParts.{stretch-at, every-out}
 use Rattle.controller_model.proofs.SetUp.{blocks-end, blocks-long}
-
--- a conjunction that fails
-pub and-cases : (a b : Bool) → (a && b) ≡ false → (a ≡ false) ⊎ (b ≡ false)
-and-cases true b e = inr e
-and-cases false b e = inl refl
 
 -- a number below n fails
 every-fails : (f : ℕ → Bool) (n : ℕ) → everyBelow f n ≡ false → (i : ℕ) × (i < n) × (f i ≡ false)

@@ -1,13 +1,15 @@
 -- Lists that hold a part for each head: where the parts lie, what is read from one and written to one; and tests of all numbers below a bound.
 -- Nothing is hard. Assumes nothing.
-use mathlib.Core.Path.{_≡_, ap, _∙_, subst}
+use mathlib.Core.Path.{_≡_, refl, ap, _∙_, subst}
 use mathlib.Core.Bool.{Bool, true, not}
 use mathlib.Core.List.{List, [], _∷_}
 use Prim.Native.Nat.{ℕ, zero, suc, _+_, _-_, _≤_, _<_}
+use native.Mathlib.Numerals.{add-one}
 use native.Mathlib.Omega.{arith}
 use lib.ListN.{length, getD, take, drop, length-append, length-drop, List·getD-append}
 use lib.Seq.{length-take-le, getD-append-add, getD-take, getD-drop, take-nil}
 use borrow.Author.Tests.{leb-true, le-leb}
+use Rattle.lists.proofs.All.{all-take, all-drop}
 use Rattle.lists.specs.Lists.{lowest, sumOf}
 use Rattle.lists.specs.Rising.{All}
 use Rattle.lists.proofs.Bools.{not-false}
@@ -16,6 +18,18 @@ use Rattle.chart_lists.specs.Lists.{put}
 use Rattle.controller_model.specs.Parts.{offset, partOf, everyBelow, stretch, written}
 
 -- ---- where parts begin
+
+-- where the next part begins
+offset-suc : (lengths : List ℕ) (h : ℕ) → offset lengths (suc h) ≡ offset lengths h + getD lengths h 0
+unfolding offset sumOf
+offset-suc [] zero = refl
+offset-suc [] (suc h) = refl
+offset-suc (n ∷ ns) zero = omega arith
+offset-suc (n ∷ ns) (suc h) = omega (arith, offset-suc ns h)
+
+-- as the code counts
+pub offset-next : (lengths : List ℕ) (h : ℕ) → offset lengths (h + 1) ≡ offset lengths h + getD lengths h 0
+offset-next lengths h = rw (add-one h) (offset-suc lengths h)
 
 -- a part ends before a later one begins
 pub offset-apart : (l : List ℕ) (h g : ℕ) → h < g → offset l h + getD l h 0 ≤ offset l g
@@ -29,19 +43,9 @@ offset-apart (x ∷ l) (suc h) (suc g) b = omega (arith, offset-apart l h g (ome
 
 -- what all elements have, those of a part have
 module _ (P : ℕ → Type 0) where
-  all-take : (n : ℕ) (l : List ℕ) → All P l → All P (take n l)
-  all-take zero l a = tt
-  all-take (suc n) [] a = tt
-  all-take (suc n) (x ∷ l) a = (a .0, all-take n l (a .1))
-
-  all-drop : (n : ℕ) (l : List ℕ) → All P l → All P (drop n l)
-  all-drop zero l a = a
-  all-drop (suc n) [] a = tt
-  all-drop (suc n) (x ∷ l) a = all-drop n l (a .1)
-
   pub all-part : (lengths : List ℕ) (h : ℕ) (l : List ℕ) → All P l → All P (partOf lengths h l)
   unfolding partOf stretch
-  all-part lengths h l a = all-take (getD lengths h 0) (drop (offset lengths h) l) (all-drop (offset lengths h) l a)
+  all-part lengths h l a = all-take P (getD lengths h 0) (drop (offset lengths h) l) (all-drop P (offset lengths h) l a)
 
 pub stretch-at : (o n : ℕ) (l : List ℕ) (j : ℕ) → j < n → getD (stretch o n l) j 0 ≡ getD l (o + j) 0
 unfolding stretch

@@ -140,6 +140,12 @@ module _ (files : List ℕ) (bytes : Bytes files) (hs : Heads) (K : ℕ) (cs : L
     next-turn d e =
         ap (λ (y : Done). y .state .turn) (result-same (sym e ∙ decided s es a turn)) ∙ turned-turn (hs .blocks) cs s (a .turn)
 
+-- without a refused call the calls after it come to the same
+refused-left-out : (files : List ℕ) (hs : Heads) (K : ℕ) (s : Controller) (k : Call) {n p : ℕ} → called files hs K s k ≡ refused n p
+    → (more : List Call) → afterCalls files hs K s (k ∷ more) ≡ afterCalls files hs K s more
+unfolding afterCalls
+refused-left-out files hs K s k r more = ap (λ (y : Answer Done). afterCalls files hs K (stateAfter s y) more) r
+
 pub promise : Promise
 unfolding doneBy
 promise files hs K counts ns bytes s₀ e ks =
@@ -166,6 +172,7 @@ promise files hs K counts ns bytes s₀ e ks =
       turn-is = a .turn;
       decided = dc;
       refusals = λ k n p r. done-refused (hs .blocks) cs s k n p (sym (dc k) ∙ r);
+      unchanged = λ k n p r more. refused-left-out files hs K s k r more;
       runs = λ h c n. on-its-run (chart-of files hs cs (ac .are) h c n) (x .accepts .allowed h c n) (a .each h c n);
       fair = fair files bytes hs K cs ac own s _ a;
       serving = turn-serves files bytes hs K s cs jd (a .as-many-counts) (a .as-many-heads);

@@ -102,6 +102,9 @@ module _ (files : List ℕ) (hs : Heads) (K : ℕ) where
     -- neither the heads nor the state are refused, 25 and 32 among them: a turn is never refused, an event by 26, 15 and 23 alone
     pub decided : (k : Call) → called files hs K s k ≡ doneBy (hs .blocks) charts s k
     pub refusals : (k : Call) (n p : ℕ) → called files hs K s k ≡ refused n p → IsEvent k × (memb n (26 ∷ 15 ∷ 23 ∷ []) ≡ true) × (p ≡ nowhere)
+    -- a refused call changes nothing: what is called after it comes to the same without it
+    pub unchanged : (k : Call) (n p : ℕ) → called files hs K s k ≡ refused n p
+        → (more : List Call) → afterCalls files hs K s (k ∷ more) ≡ afterCalls files hs K s more
     -- what each head took is a run
     pub runs : (h : ℕ) (c : Chart) → getElem? charts h ≡ some c
         → OnItsRun c (headFile files hs h) (headCounts counts ns h) (offset (hs .blocks) h) s h (took files hs K h s₀ ks)

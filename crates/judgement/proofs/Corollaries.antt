@@ -13,10 +13,12 @@ use Rattle.model.specs.Valid.{Valid}
 use Rattle.model.specs.Judge.{judged}
 use Rattle.model.specs.Places.{LowestUnreached, LowestUnstarted}
 use Rattle.model.proofs.Judgement.{Judgement, refused-9, refused-10, accepted as judged-accepted, judged-cases}
+use Rattle.model.proofs.Answers.{result-same}
+use Rattle.model.proofs.PlayerNumbers.{judged-is}
 use Rattle.model.proofs.Judgement.Judgement.{is-unreached, is-unstarted, is-accepted}
 use Rattle.file_format.specs.File.{chartIn}
 use Rattle.file_format.proofs.File.{reads-valid}
-use Rattle.file_format.proofs.Answers.{result-refused}
+use Rattle.file_format.proofs.Answers.{result-refused, then-result}
 use Rattle.file_format.proofs.Refusals.{refusals-of-chartIn}
 use Rattle.judgement.specs.Judging.{judgedIn}
 use Rattle.judgement.specs.Charts.{HoldsChart, Accepts}
@@ -37,6 +39,11 @@ module _ (bs : List ℕ) where
   pub judged-file : {n p : ℕ} → chartIn bs ≡ refused n p → judgedIn bs ≡ refused n p
   unfolding judgedIn
   judged-file e = rw e
+
+  -- what the judgement accepts is the file's chart
+  pub judged-reads : {c : Chart} → judgedIn bs ≡ result c → chartIn bs ≡ result c
+  unfolding judgedIn
+  judged-reads e = let d = then-result (chartIn bs) judged e in d .1 ∙ ap result (result-same (sym (judged-is (d .0) (d .2)) ∙ d .2))
 
   module _ (bytes : Bytes bs) where
     -- a refusal beyond those of the file is the chart's

@@ -7,6 +7,7 @@ use native.Mathlib.Omega.{arith}
 use lib.Dec.{ltb}
 use lib.ListN.{length, getD, getElem?}
 use borrow.Author.Tests.{lt-ltb, le-ltb, ltb-true}
+use Rattle.lists.proofs.Nth.{nth-past}
 use Rattle.model.specs.Answer.{Answer, result, refused, nowhere}
 use Rattle.file_format.proofs.Answers.{result-refused, then-result, unless-result}
 use Rattle.list_judging.specs.FromLists.{orRefused, entryAt, limited, entryBelow}
@@ -15,11 +16,6 @@ nth-in : (l : List ℕ) (k : ℕ) → k < length l → getElem? l k ≡ some (ge
 nth-in [] k h = absurd (omega arith)
 nth-in (x ∷ l) zero h = refl
 nth-in (x ∷ l) (suc k) h = nth-in l k (omega arith)
-
-nth-out : (l : List ℕ) (k : ℕ) → length l ≤ k → getElem? l k ≡ none
-nth-out [] k h = refl
-nth-out (x ∷ l) zero h = absurd (omega arith)
-nth-out (x ∷ l) (suc k) h = nth-out l k (omega arith)
 
 -- ---- there or not
 
@@ -34,7 +30,7 @@ module _ (l : List ℕ) (k : ℕ) where
 
   pub entry-out : length l ≤ k → entryAt l k ≡ refused 3 nowhere
   unfolding entryAt
-  entry-out h = ap (orRefused 3 nowhere) (nth-out l k h)
+  entry-out h = ap (orRefused 3 nowhere) (nth-past l k h)
 
   pub entry-some : {x : ℕ} → entryAt l k ≡ result x → getElem? l k ≡ some x
   unfolding entryAt

@@ -2,6 +2,8 @@
 use mathlib.Core.Path.{_≡_, refl}
 use mathlib.Core.Bool.{Bool, true, false, _||_}
 use mathlib.Core.List.{List, [], _∷_}
+use Prim.Native.Nat.{ℕ, zero, suc}
+use lib.ListN.{take, drop}
 use Rattle.lists.specs.Lists.{anyOf}
 use Rattle.lists.specs.Rising.{All}
 use Rattle.lists.proofs.Bools.{not-both}
@@ -15,6 +17,18 @@ all-have h (a ∷ l) = (h a, all-have h l)
 pub all-as : {A : Type 0} {P Q : A → Type 0} → ((a : A) → P a → Q a) → (l : List A) → All P l → All Q l
 all-as h [] x = tt
 all-as h (a ∷ l) x = (h a (x .0), all-as h l (x .1))
+
+-- what every element has, those of a part have
+module _ {A : Type 0} (P : A → Type 0) where
+  pub all-take : (n : ℕ) (l : List A) → All P l → All P (take n l)
+  all-take zero l a = tt
+  all-take (suc n) [] a = tt
+  all-take (suc n) (x ∷ l) a = (a .0, all-take n l (a .1))
+
+  pub all-drop : (n : ℕ) (l : List A) → All P l → All P (drop n l)
+  all-drop zero l a = a
+  all-drop (suc n) [] a = tt
+  all-drop (suc n) (x ∷ l) a = all-drop n l (a .1)
 
 -- none passes: each fails, and the other way round
 module _ {A : Type 0} (f : A → Bool) where

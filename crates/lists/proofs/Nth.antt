@@ -2,9 +2,9 @@
 -- a loop writes from the front. Hard: that a list by numbers is a mapped one, since the one grows at its end and the other at its front: they are
 -- compared place by place. Assumes nothing.
 use mathlib.Core.Path.{_≡_, refl, sym, ap, ap₂, subst, subst₂, _∙_}
-use mathlib.Core.Option.{some, Option·some-injective, Option·none-ne-some}
+use mathlib.Core.Option.{none, some, Option·some-injective, Option·none-ne-some}
 use mathlib.Core.List.{List, [], _∷_, map}
-use Prim.Native.Nat.{ℕ, zero, suc, _+_, _<_}
+use Prim.Native.Nat.{ℕ, zero, suc, _+_, _≤_, _<_}
 use native.Mathlib.Decide.{ℕ-discrete}
 use native.Mathlib.Omega.{arith}
 use lib.ListN.{length, getD, getElem?, set, length-map}
@@ -24,6 +24,11 @@ module _ {A : Type 0} where
   below-nth [] i e = absurd (Option·none-ne-some _ e)
   below-nth (x ∷ l) zero e = omega arith
   below-nth (x ∷ l) (suc i) e = omega (arith, below-nth l i e)
+
+  pub nth-past : (l : List A) (i : ℕ) → length l ≤ i → getElem? l i ≡ none
+  nth-past [] i h = refl
+  nth-past (x ∷ l) zero h = absurd (omega arith)
+  nth-past (x ∷ l) (suc i) h = nth-past l i (omega arith)
 
   pub getD-nth : (l : List A) (i : ℕ) {a : A} (d : A) → getElem? l i ≡ some a → getD l i d ≡ a
   getD-nth [] i d e = absurd (Option·none-ne-some _ e)

@@ -6,7 +6,7 @@ use mathlib.Core.List.{List, [], _∷_, _++_, map}
 use Prim.Native.Nat.{ℕ, zero, suc, _+_, _≤_, _<_}
 use native.Mathlib.Omega.{arith}
 use lib.ListN.{length, getD, getElem?, take, drop, length-map, take-append-drop}
-use Rattle.lists.proofs.Nth.{nth-below, below-nth, getD-map}
+use Rattle.lists.proofs.Nth.{nth-below, below-nth, getD-map, nth-past}
 use Rattle.timer_set.specs.Members.{setOf}
 use Rattle.comparison.specs.Comparison.{codeOf}
 use Rattle.model.specs.Chart.{Test, Transition, Chart, Nth}
@@ -21,11 +21,6 @@ use Rattle.chart_lists.proofs.Tests.{tests-append}
 use Rattle.steps.specs.StepLists.{FirstTests}
 
 module _ {A : Type 0} where
-  nth-past : (l : List A) (i : ℕ) → length l ≤ i → getElem? l i ≡ none
-  nth-past [] i h = refl
-  nth-past (x ∷ l) zero h = absurd (omega arith)
-  nth-past (x ∷ l) (suc i) h = nth-past l i (omega arith)
-
   nth-left : (l m : List A) (i : ℕ) {a : A} → getElem? l i ≡ some a → getElem? (l ++ m) i ≡ some a
   nth-left [] m i e = absurd (Option·none-ne-some _ e)
   nth-left (x ∷ l) m zero e = e

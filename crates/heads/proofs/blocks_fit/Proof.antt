@@ -6,7 +6,7 @@ use borrow.Author.Needs.{needs}
 use borrow.Author.Count.{below-more, below-none}
 use Rattle.lists.specs.Lists.{sumOf}
 use Rattle.controller_model.specs.Parts.{offset}
-use Rattle.heads.proofs.Lengths.{offset-next}
+use Rattle.controller_model.proofs.ListParts.{offset-next}
 use Rattle.heads.proofs.Blocks.{LongAt, blocks-fit, short-block, no-room}
 use Rattle.heads.proofs.blocks_fit.Statement.{statement}
 use Rattle.heads.proofs.blocks_fit.Tie as tie

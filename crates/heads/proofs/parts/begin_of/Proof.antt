@@ -5,7 +5,7 @@ use native.Mathlib.Omega.{arith}
 use borrow.Author.Needs.{needs}
 use Rattle.lists.specs.Lists.{sumOf}
 use Rattle.controller_model.specs.Parts.{offset}
-use Rattle.heads.proofs.Lengths.{offset-next}
+use Rattle.controller_model.proofs.ListParts.{offset-next}
 use Rattle.heads.proofs.parts.begin_of.Statement.{statement}
 use Rattle.heads.proofs.parts.begin_of.Tie as tie
 
