@@ -1,0 +1,52 @@
+-- That the counter board answers as the player: the provisos on the times of a step list, and the claim, on files (document 02, P5). Assumes
+-- nothing.
+use mathlib.Core.Path.{_≡_}
+use mathlib.Core.List.{List, _∷_}
+use Prim.Native.Nat.{ℕ, _-_, _≤_, _<_}
+use lib.ListN.{length, getD, take}
+use Rattle.model.specs.Answer.{Answer, result, then}
+use Rattle.model.specs.Chart.{Chart}
+use Rattle.model.specs.Run.{largestTime}
+use Rattle.model.specs.Player.{Arrival}
+use Rattle.model.specs.PlayerTerms.{CountsAllowed}
+use Rattle.player.specs.Playing.{playAnswer}
+use Rattle.counter_model.specs.Counter.{counterNumbers, readingsAt}
+use Rattle.counter_model.specs.CounterPlayer.{CounterArrival, counterAnswer}
+
+-- ---- the provisos
+
+-- P holds at each step, of the time before it and of its own; before the first step it is tick 0
+abbrev pub EachStep : (times : List ℕ) → (P : (before now : ℕ) → Type 0) → Type 0
+EachStep ts P = (n : ℕ) → n < length ts → P (getD (0 ∷ ts) n 0) (getD ts n 0)
+
+abbrev pub NeverFall : (times : List ℕ) → Type 0
+NeverFall ts = EachStep ts (λ before now. before ≤ now)
+
+-- none is over 16,777,215
+abbrev pub NoneLate : (times : List ℕ) → Type 0
+NoneLate ts = EachStep ts (λ before now. now ≤ largestTime)
+
+-- fewer than 65,536 ticks pass at each step, the first too
+abbrev pub FewTicks : (times : List ℕ) → Type 0
+FewTicks ts = EachStep ts (λ before now. now - before < counterNumbers)
+
+pub record Spaced (times : List ℕ) : Type 0 where
+  pub never-fall : NeverFall times
+  pub none-late : NoneLate times
+  pub few-ticks : FewTicks times
+
+-- ---- the claim
+
+-- an answer of the player but for the time
+unfoldable pub withoutTime : Answer Arrival → Answer CounterArrival
+withoutTime x = then x (λ a. result (record { location = a .location; accepting = a .accepting }))
+
+-- The counter board, called on the file bs′ with the chart c′, answers as the player, called on the file bs with the chart c: from any counts that 12
+-- allows in each, whatever the counter shows at tick 0, for every step list whose times keep the provisos, on the readings at these times. One claim
+-- about whole lists: the same location and acceptance, or the same refusal at the same step.
+pub record CounterAsPlayer (bs : List ℕ) (c : Chart) (bs′ : List ℕ) (c′ : Chart) : Type 0 where
+  pub answers : (v w : List ℕ) (first : ℕ) (is ts : List ℕ) → CountsAllowed c v → CountsAllowed c′ w → Spaced ts
+      → counterAnswer bs′ w is first (readingsAt first ts) ≡ withoutTime (playAnswer bs v is ts)
+  -- and so after each n of its steps: the same steps are taken
+  pub steps : (v w : List ℕ) (first : ℕ) (is ts : List ℕ) → CountsAllowed c v → CountsAllowed c′ w → Spaced ts
+      → (n : ℕ) → counterAnswer bs′ w (take n is) first (take n (readingsAt first ts)) ≡ withoutTime (playAnswer bs v (take n is) (take n ts))

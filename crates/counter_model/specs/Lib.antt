@@ -1,0 +1,4 @@
+pub mod Counter
+pub mod CounterRun
+pub mod CounterPlayer
+pub mod CounterClaim

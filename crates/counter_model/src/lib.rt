@@ -1,0 +1,1 @@
+// The counter board, a board with one free-running counter and no timers. What it answers stands in specs/, that it answers as the player in proofs/.
