@@ -45,8 +45,13 @@ withoutTime x = then x (λ a. result (record { location = a .location; accepting
 -- allows in each, whatever the counter shows at tick 0, for every step list whose times keep the provisos, on the readings at these times. One claim
 -- about whole lists: the same location and acceptance, or the same refusal at the same step.
 pub record CounterAsPlayer (bs : List ℕ) (c : Chart) (bs′ : List ℕ) (c′ : Chart) : Type 0 where
-  pub answers : (v w : List ℕ) (first : ℕ) (is ts : List ℕ) → CountsAllowed c v → CountsAllowed c′ w → Spaced ts
+  pub answers : (v w : List ℕ) (first : ℕ) (is ts : List ℕ) → CountsAllowed c v → CountsAllowed c′ w → first < counterNumbers → Spaced ts
       → counterAnswer bs′ w is first (readingsAt first ts) ≡ withoutTime (playAnswer bs v is ts)
-  -- and so after each n of its steps: the same steps are taken
-  pub steps : (v w : List ℕ) (first : ℕ) (is ts : List ℕ) → CountsAllowed c v → CountsAllowed c′ w → Spaced ts
+  -- and so after each n of its steps: the same ones are taken
+  pub steps : (v w : List ℕ) (first : ℕ) (is ts : List ℕ) → CountsAllowed c v → CountsAllowed c′ w → first < counterNumbers → Spaced ts
       → (n : ℕ) → counterAnswer bs′ w (take n is) first (take n (readingsAt first ts)) ≡ withoutTime (playAnswer bs v (take n is) (take n ts))
+
+-- The counter board, called on two files, answers alike: from any counts that 12 allows in each, whatever the counter shows, at any readings.
+pub record SameOnCounter (bs : List ℕ) (c : Chart) (bs′ : List ℕ) (c′ : Chart) : Type 0 where
+  pub answers : (v w : List ℕ) (first : ℕ) (is rs : List ℕ) → CountsAllowed c v → CountsAllowed c′ w
+      → counterAnswer bs v is first rs ≡ counterAnswer bs′ w is first rs

@@ -2,3 +2,4 @@ pub mod Counter
 pub mod CounterRun
 pub mod CounterPlayer
 pub mod CounterClaim
+pub mod Refusals
