@@ -11,3 +11,4 @@ pub mod Fronts
 pub mod InTurn
 pub mod Copied
 pub mod Partly
+pub mod Large

@@ -6,3 +6,4 @@ pub mod Lent
 pub mod Read
 pub mod Limits
 pub mod Partly
+pub mod Large

@@ -5,9 +5,6 @@ ghost use Rattle.model.specs.Version.{knownVersion, widthOf};
 // The bytes of the largest file that the reader accepts.
 pub const LARGEST_FILE: usize = 62478;
 
-// The largest constant of version 1.
-pub const MOST_IN_VERSION_1: u32 = 65535;
-
 // Whether there is such a version; where there is none, refusal 2 is given.
 pub fn known_version(version: u64) -> bool
     ensures { λ r. ⌜ r ≡ knownVersion version ⌝ }

@@ -16,9 +16,10 @@ use Rattle.model.specs.Answer.{result, refused, nowhere}
 use Rattle.model.specs.Version.{knownVersion, widthOf}
 use Rattle.chart_lists.specs.Lists.{Lists}
 use Rattle.chart_lists.specs.declared.Header.{Header}
+use Rattle.chart_lists.specs.Large.{largeAmong}
 use Rattle.list_judging.specs.FromLists.{entryAt, entryBelow}
 use Rattle.list_judging.specs.Parts.{checkHeader, checkAccepting, checkCode, checkTest, checkTests, checkCount}
-use Rattle.list_judging.specs.Parts.{checkEnds, checkStarts, checkTransition, Sizes, checkTransitions, largeAmong, checkChart}
+use Rattle.list_judging.specs.Parts.{checkEnds, checkStarts, checkTransition, Sizes, checkTransitions, checkChart}
 use Rattle.list_judging.specs.Lent.{transitionLists, testLists}
 use Rattle.list_judging.proofs.ListEntries.{entry-in, entry-out}
 use Rattle.list_judging.proofs.Parts.{acceptingItem, check-test, check-transition}

@@ -2,7 +2,6 @@ pub mod Answers
 pub mod Items
 pub mod ListEntries
 pub mod Parts
-pub mod LargeAmong
 pub mod Judging
 pub mod TransitionOf
 pub mod Turns

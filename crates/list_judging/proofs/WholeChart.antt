@@ -1,9 +1,8 @@
 -- The whole chart by its parts: that some constant is large by the first entries of their list, the length of its file by the sizes of its
--- transitions, and the judgement of all of it. What is hard is that the constants stand in one list, the tests of all transitions one after
--- another. Assumes nothing.
+-- transitions, and the judgement of all of it. Nothing is hard. Assumes nothing.
 use mathlib.Core.Path.{_≡_, refl, sym, ap, _∙_}
-use mathlib.Core.Bool.{Bool, not, _||_, _&&_, or-assoc}
-use mathlib.Core.List.{List, [], _∷_, _++_, map}
+use mathlib.Core.Bool.{not, _&&_}
+use mathlib.Core.List.{List, [], _∷_, map}
 use Prim.Native.Nat.{ℕ, _+_, _*_, _≤_}
 use native.Mathlib.Nat.{mul-add}
 use native.Mathlib.Omega.{arith}
@@ -12,42 +11,26 @@ use lib.ListN.{length, length-map}
 use Rattle.lists.specs.Lists.{anyOf, sumOf}
 use Rattle.model.specs.Answer.{Answer, result, then, unless, nowhere}
 use Rattle.model.specs.Chart.{Test, Transition, Chart}
-use Rattle.model.specs.Version.{widthOf, isLarge, largeTest, largeTransition, largeConstant, largeInVersion1}
+use Rattle.model.specs.Version.{widthOf, largeTransition, largeConstant, largeInVersion1}
 use Rattle.file_format.specs.Body.{recordLength}
 use Rattle.file_format.specs.File.{fileOf}
 use Rattle.file_format.specs.Lengths.{transitionLength, bodyLength, fileLength}
 use Rattle.file_format.proofs.Lengths.{length-file}
 use Rattle.chart_lists.specs.Lists.{Lists, allTests, constantsOf}
 use Rattle.chart_lists.specs.Begins.{Begins}
+use Rattle.chart_lists.specs.Large.{largeAmong}
 use Rattle.chart_lists.specs.declared.Header.{Header}
-use Rattle.chart_lists.proofs.Begins.{begins-take, begins-room}
+use Rattle.chart_lists.proofs.Begins.{begins-room}
+use Rattle.chart_lists.proofs.Large.{large-among}
 use Rattle.chart_lists.proofs.Tests.{tests-sum}
 use Rattle.list_judging.specs.FromLists.{transitionsFrom, chartWith, fieldsFrom, chartFrom}
-use Rattle.list_judging.specs.Parts.{checkHeader, checkAccepting, totalSizes, checkTransitions, largeAmong, checkChart, Sizes}
+use Rattle.list_judging.specs.Parts.{checkHeader, checkAccepting, totalSizes, checkTransitions, checkChart, Sizes}
 use Rattle.list_judging.specs.Lent.{transitionLists}
 use Rattle.list_judging.proofs.Answers.{then-then, then-unless, then-known, kept-result}
 use Rattle.list_judging.proofs.Parts.{transitions-only, transitions-each, transitions-length}
 use Rattle.list_judging.proofs.FromHolds.{tests-begin}
 
 -- ---- large constants
-
-module _ {A : Type 0} (f : A → Bool) where
-  any-append : (xs ys : List A) → anyOf f (xs ++ ys) ≡ (anyOf f xs || anyOf f ys)
-  unfolding anyOf
-  any-append [] ys = refl
-  any-append (x ∷ xs) ys = rw (any-append xs ys) (sym (or-assoc (f x) (anyOf f xs) (anyOf f ys)))
-
--- those of the transitions are those of all their tests
-large-tests : (ts : List Test) → anyOf largeTest ts ≡ anyOf isLarge (constantsOf ts)
-unfolding anyOf
-large-tests [] = refl
-large-tests (t ∷ ts) = rw (large-tests ts)
-
-large-all : (rs : List Transition) → anyOf largeTransition rs
-    ≡ anyOf largeTest (allTests rs)
-unfolding anyOf allTests
-large-all [] = refl
-large-all (r ∷ rs) = rw (large-all rs) (sym (any-append largeTest (r .tests) (allTests rs)))
 
 -- the constants of transitions are the first entries of their list
 module _ (l : Lists) (locations timers n : ℕ) (rs : List Transition) (e : transitionsFrom l locations timers 0 0 n ≡ result rs) where
@@ -64,10 +47,8 @@ module _ (l : Lists) (locations timers n : ℕ) (rs : List Transition) (e : tran
   constants-room : totalSizes rs .tests ≤ length (l .constants)
   constants-room = omega (arith, constants-count, begins-room constants-begin)
 
-  large-among : anyOf largeTransition rs
-      ≡ largeAmong (totalSizes rs .tests) (l .constants)
-  unfolding largeAmong
-  large-among = large-all rs ∙ large-tests (allTests rs) ∙ ap (anyOf isLarge) (sym (begins-take constants-begin constants-count))
+  large-in : anyOf largeTransition rs ≡ largeAmong (totalSizes rs .tests) (l .constants)
+  large-in = large-among rs constants-begin constants-count
 
 pub sizes-room : (l : Lists) (locations timers n : ℕ) {z : Sizes} → checkTransitions l locations timers n ≡ result z
     → z .tests ≤ length (l .constants)
@@ -108,7 +89,7 @@ module _ (m : Header) (l : Lists) where
   unfolding afterFields largeInVersion1 largeConstant
   after-fields xs = then-known (transitionsFrom l (m .locations) (m .timers) 0 0 (m .transitions)) _ _ (λ rs e.
       rw (
-        large-among l (m .locations) (m .timers) (m .transitions) rs e,
+        large-in l (m .locations) (m .timers) (m .transitions) rs e,
         file-length (chartWith m xs rs),
         transitions-length l (m .locations) (m .timers) 0 0 (m .transitions) rs e,
       ))

@@ -4,13 +4,13 @@ use mathlib.Core.Bool.{Bool}
 use mathlib.Core.List.{List, map}
 use Prim.Native.Nat.{ℕ}
 use lib.Dec.{leb, ltb}
-use lib.ListN.{length, take}
-use Rattle.lists.specs.Lists.{anyOf, sumOf}
+use lib.ListN.{length}
+use Rattle.lists.specs.Lists.{sumOf}
 use Rattle.timer_set.specs.Members.{members, allBelow}
 use Rattle.comparison.specs.Comparison.{comparisonOf}
 use Rattle.model.specs.Answer.{Answer, result, then, unless, nowhere}
 use Rattle.model.specs.Chart.{Transition}
-use Rattle.model.specs.Version.{knownVersion, isLarge}
+use Rattle.model.specs.Version.{knownVersion}
 use Rattle.file_format.specs.File.{fileOf}
 use Rattle.chart_lists.specs.Lists.{Lists}
 use Rattle.chart_lists.specs.declared.Header.{Header}
@@ -78,10 +78,6 @@ totalSizes rs = record {
 -- n transitions: their sizes, summed up
 unfoldable pub checkTransitions : Lists → (locations timers n : ℕ) → Answer Sizes
 checkTransitions l locations timers n = then (transitionsFrom l locations timers 0 0 n) (λ rs. result (totalSizes rs))
-
--- one of the first n constants is over 65,535
-unfoldable pub largeAmong : (n : ℕ) → (constants : List ℕ) → Bool
-largeAmong n constants = anyOf isLarge (take n constants)
 
 -- the whole chart: the length of its file
 unfoldable pub checkChart : Header → Lists → Answer ℕ

@@ -6,7 +6,8 @@ ghost use lib.Dec.{eqb};
 ghost use lib.ListN.{length};
 ghost use Rattle.model.specs.Version.{widthOf};
 ghost use Rattle.chart_lists.specs.Lent.{atEntry};
-ghost use Rattle.list_judging.specs.Parts.{checkHeader, checkAccepting, checkTransitions, largeAmong, checkChart};
+ghost use Rattle.list_judging.specs.Parts.{checkHeader, checkAccepting, checkTransitions, checkChart};
+ghost use Rattle.chart_lists.specs.Large.{largeAmong};
 ghost use Rattle.list_judging.specs.Meaning.{judgedAs, entryAs, sizesAs};
 ghost use Rattle.list_judging.specs.Lent.{transitionsAtEntry};
 
@@ -135,14 +136,7 @@ fn too_large(version: u8, constants: &[u32], n: usize) -> bool
     if version != 1 {
         return false;
     }
-    let mut k: usize = 0;
-    while k < n {
-        if constants[k] > file_format::MOST_IN_VERSION_1 {
-            return true;
-        }
-        k += 1;
-    }
-    false
+    chart_lists::large_among(constants, n)
 }
 
 // The length of a file of that version, by what its chart has: accepting locations, transitions, started timers and tests.

@@ -15,7 +15,7 @@ use Rattle.lists.proofs.Bools.{and-left, and-right, same-number}
 use Rattle.lists.proofs.All.{all-have, all-as, none-passes, each-fails}
 use Rattle.lists.proofs.Membership.{any-in, any-out}
 use Rattle.model.specs.Chart.{Test, Transition, Chart}
-use Rattle.model.specs.Version.{knownVersion, widthOf, inVersion, widest, mostInVersion1, isLarge, largeTest, largeTransition}
+use Rattle.model.specs.Version.{knownVersion, widthOf, inVersion, widest, mostInTwoBytes, isLarge, largeTest, largeTransition}
 use Rattle.model.specs.Version.{largeConstant, LargeConstant, largeInVersion1}
 use Rattle.model.specs.Valid.{ValidTest, ValidTransition, Valid, Storable, StorableBy}
 
@@ -104,7 +104,7 @@ small-constants c e =
     (none-passes largeTransition (c .transitions) e)
   where
     small : (t : Test) → isLarge (t .constant) ≡ false → t .constant < 256 ^ 2
-    small t q = omega (arith, ltb-false mostInVersion1 (t .constant) q)
+    small t q = omega (arith, ltb-false mostInTwoBytes (t .constant) q)
 
 -- two bytes hold what four hold if no constant is large, and only then
 pub narrowed : (c : Chart) → largeConstant c ≡ false → Valid widest c → Valid 2 c
@@ -115,7 +115,7 @@ unfolding largeConstant isLarge
 narrow-small c v =
     each-fails largeTransition (ValidTransition 2 (c .locations) (c .timers))
     (λ r x. each-fails largeTest (ValidTest 2 (c .timers))
-    (λ t y. le-ltb mostInVersion1 (t .constant) (omega (arith, y .constant))) (r .tests) (x .tests))
+    (λ t y. le-ltb mostInTwoBytes (t .constant) (omega (arith, y .constant))) (r .tests) (x .tests))
     (c .transitions) (v .transitions)
 
 pub widened : (c : Chart) → Valid 2 c → Valid widest c
@@ -129,7 +129,7 @@ large-iff c = (
   found,
   λ h.
       any-in largeTransition (c .transitions) (h .number) (h .is-nth .there)
-      (any-in largeTest (h .transition .tests) (h .place) (h .is-test) (lt-ltb mostInVersion1 (h .test .constant) (h .over))),
+      (any-in largeTest (h .transition .tests) (h .place) (h .is-test) (lt-ltb mostInTwoBytes (h .test .constant) (h .over))),
 )
   where
     found : largeConstant c ≡ true → LargeConstant c
@@ -143,7 +143,7 @@ large-iff c = (
           place = b .0;
           test = b .1;
           is-test = b .2;
-          over = ltb-true mostInVersion1 (b .1 .constant) (b .3);
+          over = ltb-true mostInTwoBytes (b .1 .constant) (b .3);
         }
 
 -- the limits that a chart has do not speak of its version

@@ -31,13 +31,13 @@ inVersion version c = record {
   transitions = c .transitions;
 }
 
--- the largest constant of version 1, the most that two bytes hold
-abbrev pub mostInVersion1 : ℕ
-mostInVersion1 = 65535
+-- the most that two bytes hold: the largest constant of version 1, and of a chart that the counter board takes (18)
+abbrev pub mostInTwoBytes : ℕ
+mostInTwoBytes = 65535
 
 -- a constant over it
 unfoldable pub isLarge : (constant : ℕ) → Bool
-isLarge constant = ltb mostInVersion1 constant
+isLarge constant = ltb mostInTwoBytes constant
 
 -- a test that has one
 abbrev pub largeTest : Test → Bool
@@ -59,7 +59,7 @@ pub record LargeConstant (c : Chart) : Type 0 where
   pub place : ℕ
   pub test : Test
   pub is-test : getElem? (transition .tests) place ≡ some test
-  pub over : mostInVersion1 < test .constant
+  pub over : mostInTwoBytes < test .constant
 
 -- 17: a chart that has one is to be written as version 1
 unfoldable pub largeInVersion1 : Chart → Bool

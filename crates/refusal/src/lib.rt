@@ -77,6 +77,12 @@ pub const CONSTANT_TOO_LARGE: Refusal = Refusal {
     place: NOWHERE,
 };
 
+// A constant over 65,535 in a chart that the counter board is to play.
+pub const CONSTANT_OVER_COUNTER: Refusal = Refusal {
+    number: 18,
+    place: NOWHERE,
+};
+
 // All numbers of the board are held by earlier families that the next one meets.
 pub const BOARD_TOO_SMALL: Refusal = Refusal {
     number: 20,

@@ -1,12 +1,12 @@
 -- The places where the tests of the transitions begin, found by adding up the numbers of tests, one transition a turn. Nothing is hard: a sum over
 -- a front grows by the next number. Assumes nothing.
-use mathlib.Core.Path.{_≡_, refl, _∙_}
+use mathlib.Core.Path.{_≡_, refl, ap, _∙_}
 use mathlib.Core.List.{List, [], _∷_}
 use Prim.Native.Nat.{ℕ, zero, suc, _+_, _≤_, _<_}
 use native.Mathlib.Numerals.{add-one}
 use native.Mathlib.Omega.{arith}
 use lib.ListN.{length, getD, set, take, drop, length-append, take-append-drop}
-use lib.Seq.{getD-set-same, getD-set-other}
+use lib.Seq.{take-all, getD-set-same, getD-set-other}
 use borrow.Author.Count.{below-more}
 use Rattle.model.specs.Chart.{Transition, Chart}
 use Rattle.chart_lists.specs.Lists.{Lists, allTests, listsOf, testCountsOf}
@@ -59,3 +59,8 @@ module _ {c : Chart} {l : Lists} (h : Holds c l) {i sum : ℕ} {firsts : List �
 pub found-all : {c : Chart} {i n sum : ℕ} {firsts : List ℕ} → FoundTo c i sum firsts → n ≡ length (c .transitions) → n ≤ i → n ≤ length firsts
     → FirstTests c firsts
 found-all f e h r = record { room = omega arith; place = λ k b. f .found k (omega arith) }
+
+-- and the next place is behind all tests
+pub found-number : {c : Chart} {i n sum : ℕ} {firsts : List ℕ} → FoundTo c i sum firsts → n ≡ length (c .transitions) → n ≤ i
+    → sum ≡ length (allTests (c .transitions))
+found-number {c} {i} f e h = f .next ∙ ap (λ (rs : List Transition). length (allTests rs)) (take-all i (c .transitions) (omega arith))

@@ -37,29 +37,31 @@ module _ (w d j x : ℕ) where
 pub none-started : (d j x : ℕ) → countAfter 0 d j x ≡ x + d
 none-started d j x = count-grown 0 d j x (member-empty j)
 
--- ---- grown counts
+-- ---- counts that are changed, one a turn
 
--- of the 64 counts the first i have grown by d, the others are as before
-pub record GrownTo (i d : ℕ) (before after : List ℕ) : Type 0 where
+-- of the 64 counts the first i have been changed by f, the others are as before
+pub record ChangedTo (f : ℕ → ℕ) (i : ℕ) (before after : List ℕ) : Type 0 where
   pub number : length after ≡ 64
-  pub more : (j : ℕ) → j < i → getD after j 0 ≡ getD before j 0 + d
+  pub done : (j : ℕ) → j < i → getD after j 0 ≡ f (getD before j 0)
   pub kept : (j : ℕ) → i ≤ j → getD after j 0 ≡ getD before j 0
 
-module _ (d : ℕ) (before : List ℕ) where
-  pub grown-none : length before ≡ 64 → GrownTo 0 d before before
-  grown-none e = record { number = e; more = λ j h. absurd (omega arith); kept = λ j h. refl }
+module _ (f : ℕ → ℕ) (before : List ℕ) where
+  pub changed-none : length before ≡ 64 → ChangedTo f 0 before before
+  changed-none e = record { number = e; done = λ j h. absurd (omega arith); kept = λ j h. refl }
 
-  pub grown-more : (i : ℕ) (after : List ℕ) → i < 64 → GrownTo i d before after → GrownTo (i + 1) d before (set after i (getD after i 0 + d))
-  grown-more i after h g = record {
+  pub changed-more : (i : ℕ) (after : List ℕ) {x : ℕ} → x ≡ f (getD after i 0) → i < 64 → ChangedTo f i before after
+      → ChangedTo f (i + 1) before (set after i x)
+  changed-more i after {x} e h g = record {
     number = rw length-set (g .number);
-    more = below-more (λ (j : ℕ). getD (set after i (getD after i 0 + d)) j 0 ≡ getD before j 0 + d) i
-        (λ j l. getD-set-other after i j _ 0 (λ p. omega arith) ∙ g .more j l)
-        (getD-set-same after i _ 0 (omega (arith, g .number)) ∙ ap (λ (x : ℕ). x + d) (g .kept i (omega arith)));
+    done = below-more (λ (j : ℕ). getD (set after i x) j 0 ≡ f (getD before j 0)) i
+        (λ j l. getD-set-other after i j _ 0 (λ p. omega arith) ∙ g .done j l)
+        (getD-set-same after i _ 0 (omega (arith, g .number)) ∙ e ∙ ap f (g .kept i (omega arith)));
     kept = λ j l. getD-set-other after i j _ 0 (λ p. omega arith) ∙ g .kept j (omega arith);
   }
 
-  pub grown-all : (i : ℕ) (after : List ℕ) → 64 ≤ i → GrownTo i d before after → MovedOn 0 d before after
-  grown-all i after h g = record { number = g .number; count = λ j l. g .more j (omega arith) ∙ sym (none-started d j _) }
+module _ (d : ℕ) (before : List ℕ) where
+  pub grown-all : (i : ℕ) (after : List ℕ) → 64 ≤ i → ChangedTo (λ x. x + d) i before after → MovedOn 0 d before after
+  grown-all i after h g = record { number = g .number; count = λ j l. g .done j (omega arith) ∙ sym (none-started d j _) }
 
   -- the tests are tried on these
   pub grown-agrees : (after : List ℕ) (v : Counts) → CountsAgree before v → MovedOn 0 d before after → CountsAgree after (grown d v)

@@ -1,72 +1,93 @@
--- A list of steps, one a turn: the state that the turns so far have left, and what the rest comes to from it. Hard: the run's state is not the
--- code's, so it is carried along, shown by the code's. Assumes nothing.
+-- A list of steps, one a turn: the state that the turns so far have left, and what the rest comes to from it. Hard: the definition's state is not the
+-- code's, so it is carried along, shown by the code's; this is said once for every kind of state. Assumes nothing.
 use mathlib.Core.Path.{_≡_, refl, sym, ap, subst, _∙_}
-use mathlib.Core.List.{List}
-use Prim.Native.Nat.{ℕ, suc, _+_, _≤_, _<_}
+use mathlib.Core.Logic.{_⊎_, inl, inr}
+use mathlib.Core.List.{List, [], _∷_}
+use Prim.Native.Nat.{ℕ, suc, _+_, _≤_, _<_, min}
 use native.Mathlib.Numerals.{add-one}
+use native.Mathlib.Omega.{arith}
 use lib.ListN.{length, getD, drop, drop-of-length-le}
 use lib.Seq.{drop-cons}
+use Rattle.lists.proofs.Bools.{lt-or-le}
 use Rattle.model.specs.Answer.{Answer, result, refused, then}
 use Rattle.model.specs.Chart.{Chart}
 use Rattle.model.specs.Run.{State as Run·State, attempt, steps, playerTime}
 use Rattle.model.specs.Player.{stepsOf}
 use Rattle.refusal.specs.declared.Refusal.{Refusal}
-use Rattle.steps.specs.declared.State.{State}
-use Rattle.steps.specs.declared.Stepped.{Stepped}
+use Rattle.steps.specs.declared.Verdict.{Verdict}
 use Rattle.steps.specs.declared.Verdict.the-variants as verdict
-use Rattle.steps.specs.Stepping.{Shows, stepAt, Answered}
+use Rattle.steps.specs.Stepping.{stepAt, Decided}
 use Rattle.steps.proofs.Attempts.{taken-or-not}
 
+-- ---- states of any kind
+
+-- a number of steps: what each comes to when it is tried, and what those from step k on come to
+pub record Turns (S : Type 0) : Type 0 where
+  pub number : ℕ
+  pub tried : (k : ℕ) → S → Answer S
+  pub rest : (k : ℕ) → S → Answer S
+  pub turn : (k : ℕ) (s : S) → k < number → rest k s ≡ then (tried k s) (rest (suc k))
+  pub ended : (k : ℕ) (s : S) → number ≤ k → rest k s ≡ result s
+
 -- k of the steps are taken from s, x shows the state after them, and the rest of the steps decide
-pub record Reached (c : Chart) (is ts : List ℕ) (k : ℕ) (s : Run·State) (x : State) : Type 0 where
-  pub state : Run·State
-  pub shown : Shows x state
-  pub same : steps playerTime c 0 s (stepsOf is ts) ≡ steps playerTime c k state (stepsOf (drop k is) (drop k ts))
+pub record Reached {S X : Type 0} (Shown : X → S → Type 0) (t : Turns S) (k : ℕ) (s : S) (x : X) : Type 0 where
+  pub state : S
+  pub shown : Shown x state
+  pub same : t .rest 0 s ≡ t .rest k state
+
+module _ {S X : Type 0} {Shown : X → S → Type 0} {t : Turns S} where
+  pub reached-start : {s : S} {x : X} → Shown x s → Reached Shown t 0 s x
+  reached-start {s} w = record { state = s; shown = w; same = refl }
+
+  module _ {k : ℕ} {s : S} {x : X} (w : Reached Shown t k s x) where
+    -- no step is left
+    pub reached-end : t .number ≤ k → Decided verdict.Taken (Shown x) (t .rest 0 s)
+    reached-end h = subst (Decided verdict.Taken (Shown x)) (sym (w .same ∙ t .ended k (w .state) h)) (refl, w .shown)
+
+    -- one step is tried, and then the rest
+    module _ (h : k < t .number) (v : Verdict) (y : X) (decided : (s′ : S) → Shown x s′ → Decided v (Shown y) (t .tried k s′)) where
+      all : t .rest 0 s ≡ then (t .tried k (w .state)) (t .rest (suc k))
+      all = w .same ∙ t .turn k (w .state) h
+
+      pub reached-next : v ≡ verdict.Taken → Reached Shown t (k + 1) s y
+      reached-next e = rw add-one (go (t .tried k (w .state)) refl (decided (w .state) (w .shown)))
+        where
+          go : (a : Answer S) → t .tried k (w .state) ≡ a → Decided v (Shown y) a → Reached Shown t (suc k) s y
+          go (result s′) p d = record { state = s′; shown = d .1; same = all ∙ ap (λ (q : Answer S). then q (t .rest (suc k))) p }
+          go (refused n p) q d = absurd (taken-or-not e d)
+
+      pub reached-refused : {f : Refusal} → v ≡ verdict.Refused f → Decided v (Shown y) (t .rest 0 s)
+      reached-refused e = subst (Decided v (Shown y)) (sym all) (go (t .tried k (w .state)) (decided (w .state) (w .shown)))
+        where
+          go : (a : Answer S) → Decided v (Shown y) a → Decided v (Shown y) (then a (t .rest (suc k)))
+          go (result s′) d = absurd (taken-or-not (d .0) e)
+          go (refused n p) d = d
+
+-- ---- the player's
 
 module _ (c : Chart) (is ts : List ℕ) where
-  pub reached-start : (s : Run·State) (x : State) → Shows x s → Reached c is ts 0 s x
-  reached-start s x w = record { state = s; shown = w; same = refl }
+  abbrev pub stepTried : (k : ℕ) → Run·State → Answer Run·State
+  stepTried k s = attempt playerTime c k s (stepAt (getD is k 0) (getD ts k 0))
 
-  -- the next step, and then the rest
-  turn : (k : ℕ) (s : Run·State) → k < length is → k < length ts
-      → steps playerTime c k s (stepsOf (drop k is) (drop k ts))
-      ≡ then (attempt playerTime c k s (stepAt (getD is k 0) (getD ts k 0)))
-      (λ s′. steps playerTime c (suc k) s′ (stepsOf (drop (suc k) is) (drop (suc k) ts)))
+  abbrev pub stepsFrom : (k : ℕ) → Run·State → Answer Run·State
+  stepsFrom k s = steps playerTime c k s (stepsOf (drop k is) (drop k ts))
+
+  pub next-step : (k : ℕ) (s : Run·State) → k < min (length is) (length ts) → stepsFrom k s ≡ then (stepTried k s) (stepsFrom (suc k))
   unfolding steps stepsOf
-  turn k s h l = rw (drop-cons is k 0 h, drop-cons ts k 0 l) refl
+  next-step k s h = rw (drop-cons is k 0 (omega arith), drop-cons ts k 0 (omega arith)) refl
 
-  module _ (k : ℕ) (s : Run·State) (x : State) (h : k < length is) (l : k < length ts) (w : Reached c is ts k s x) (z : Stepped)
-      (answered : (s′ : Run·State) → Shows x s′ → Answered z (attempt playerTime c k s′ (stepAt (getD is k 0) (getD ts k 0)))) where
-    tried : Answer Run·State
-    tried = attempt playerTime c k (w .state) (stepAt (getD is k 0) (getD ts k 0))
-
-    abbrev rest : Run·State → Answer Run·State
-    rest s′ = steps playerTime c (suc k) s′ (stepsOf (drop (suc k) is) (drop (suc k) ts))
-
-    all : steps playerTime c 0 s (stepsOf is ts) ≡ then tried rest
-    unfolding tried
-    all = w .same ∙ turn k (w .state) h l
-
-    pub reached-next : z .verdict ≡ verdict.Taken → Reached c is ts (k + 1) s (z .state)
-    unfolding tried
-    reached-next e = rw add-one (go tried refl (answered (w .state) (w .shown)))
-      where
-        go : (y : Answer Run·State) → tried ≡ y → Answered z y → Reached c is ts (suc k) s (z .state)
-        go (result s′) p a = record { state = s′; shown = a .1; same = all ∙ ap (λ (q : Answer Run·State). then q rest) p }
-        go (refused n p) q a = absurd (taken-or-not e a)
-
-    pub reached-refused : (f : Refusal) → z .verdict ≡ verdict.Refused f → Answered z (steps playerTime c 0 s (stepsOf is ts))
-    unfolding tried
-    reached-refused f e = subst (Answered z) (sym all) (go tried (answered (w .state) (w .shown)))
-      where
-        go : (y : Answer Run·State) → Answered z y → Answered z (then y rest)
-        go (result s′) a = absurd (taken-or-not (a .0) e)
-        go (refused n p) a = a
-
-  pub reached-end : (k : ℕ) (s : Run·State) (x : State) → length is ≤ k → Reached c is ts k s x
-      → Answered (record { verdict = verdict.Taken; state = x }) (steps playerTime c 0 s (stepsOf is ts))
+  -- one of the two lists has come to its end
+  pub none-left : (k : ℕ) (s : Run·State) → min (length is) (length ts) ≤ k → stepsFrom k s ≡ result s
   unfolding steps stepsOf
-  reached-end k s x h w = subst (Answered (record { verdict = verdict.Taken; state = x })) (sym (w .same ∙ ended)) (refl, w .shown)
+  none-left k s h = go (lt-or-le k (length is))
     where
-      ended : steps playerTime c k (w .state) (stepsOf (drop k is) (drop k ts)) ≡ result (w .state)
-      ended = rw (drop-of-length-le is h) refl
+      without-time : (l : List ℕ) → steps playerTime c k s (stepsOf l []) ≡ result s
+      without-time [] = refl
+      without-time (i ∷ l) = refl
+
+      go : (k < length is) ⊎ (length is ≤ k) → stepsFrom k s ≡ result s
+      go (inl l) = let h : length ts ≤ k = omega arith in rw (drop-of-length-le ts h) (without-time (drop k is))
+      go (inr l) = rw (drop-of-length-le is l) refl
+
+  abbrev pub playerTurns : Turns Run·State
+  playerTurns = record { number = min (length is) (length ts); tried = stepTried; rest = stepsFrom; turn = next-step; ended = none-left }

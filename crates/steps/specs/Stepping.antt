@@ -6,6 +6,7 @@ use Rattle.model.specs.Answer.{Answer, result, refused}
 use Rattle.model.specs.Run.{Step, State as Run·State, largestTime}
 use Rattle.refusal.specs.declared.Refusal.{Refusal}
 use Rattle.steps.specs.declared.State.{State}
+use Rattle.steps.specs.declared.Verdict.{Verdict}
 use Rattle.steps.specs.declared.Verdict.the-variants as verdict
 use Rattle.steps.specs.declared.Stepped.{Stepped}
 use Rattle.steps.specs.Counts.{CountsAgree}
@@ -33,7 +34,11 @@ refusedAt k n x = record { verdict = verdict.Refused (record { number = k; place
 pub record Kept (r : Stepped) (x : State) : Type 0 where
   pub state : (f : Refusal) → r .verdict ≡ verdict.Refused f → r .state ≡ x
 
+-- a verdict of the code is the answer of a definition: taken, and the state after the step has P; or the same refusal
+abbrev pub Decided : {S : Type 0} → Verdict → (P : S → Type 0) → Answer S → Type 0
+Decided v P (result s) = (v ≡ verdict.Taken) × P s
+Decided v P (refused k p) = v ≡ verdict.Refused (record { number = k; place = p })
+
 -- the code's answer is that of the run: a state that the code's new state shows, or the same refusal
 abbrev pub Answered : Stepped → Answer Run·State → Type 0
-Answered r (result s) = (r .verdict ≡ verdict.Taken) × Shows (r .state) s
-Answered r (refused k p) = r .verdict ≡ verdict.Refused (record { number = k; place = p })
+Answered r a = Decided (r .verdict) (Shows (r .state)) a

@@ -6,17 +6,20 @@ ghost use Rattle.comparison.specs.declared.Comparison.{Comparison};
 ghost use Rattle.comparison.specs.Comparison.{met, codeOf};
 ghost use Rattle.model.specs.Chart.{Transition, Chart, Nth};
 ghost use Rattle.model.specs.Run.{Counts, enabled as Run·enabled};
+ghost use Rattle.chart_lists.specs.Lists.{allTests};
 ghost use Rattle.chart_lists.specs.Holds.{Holds};
 ghost use Rattle.steps.specs.StepLists.{FirstTests, testLists, countLists};
 ghost use Rattle.steps.specs.Counts.{CountsAgree};
 use comparison::Decoded;
 
-// Where the tests of each of the n transitions begin among all tests.
-pub fn find_firsts(test_counts: &[u8], n: usize, firsts: &mut [u16])
+// Where the tests of each of the n transitions begin among all tests, and how many tests there are.
+pub fn find_firsts(test_counts: &[u8], n: usize, firsts: &mut [u16]) -> u16
     requires { ⌜ ((c : Chart) × (n ≡ length (c .transitions)) × Holds c (countLists c (now «test_counts»))) ⌝ }
     requires { ⌜ n ≤ length (now firsts) ⌝ }
-    ensures { λ _. ⌜ ((c : Chart) → n ≡ length (c .transitions) → Holds c (countLists c (now («test_counts» .entry)))
+    ensures places { λ _. ⌜ ((c : Chart) → n ≡ length (c .transitions) → Holds c (countLists c (now («test_counts» .entry)))
         → FirstTests c (now (firsts .exit))) ⌝ }
+    ensures number { λ r. ⌜ ((c : Chart) → n ≡ length (c .transitions) → Holds c (countLists c (now («test_counts» .entry)))
+        → r ≡ length (allTests (c .transitions))) ⌝ }
 {
     let mut sum: u16 = 0;
     let mut i = 0;
@@ -25,6 +28,7 @@ pub fn find_firsts(test_counts: &[u8], n: usize, firsts: &mut [u16])
         sum += test_counts[i] as u16;
         i += 1;
     }
+    sum
 }
 
 // One test, decided by the table of the comparisons.

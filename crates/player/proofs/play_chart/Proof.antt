@@ -1,34 +1,21 @@
 -- `play_chart` judges 12 and 13, then the steps decide. Nothing is hard: the laws of 12 and 13 take the code's tests as they are. Assumes nothing.
 use mathlib.Core.Path.{_≡_, sym, ap, _∙_}
-use lib.ListN.{length, take}
 use borrow.Author.Needs.{needs}
 use Rattle.model.specs.Answer.{result}
 use Rattle.model.specs.Chart.{Chart}
 use Rattle.model.specs.Player.{countsJudged}
-use Rattle.chart_lists.specs.Lists.{Lists, listsOf}
-use Rattle.chart_lists.specs.Holds.{Holds}
-use Rattle.chart_lists.specs.declared.Header.{Header}
 use Rattle.chart_lists.specs.Header.{headerOf}
-use Rattle.chart_lists.proofs.Begins.{begins-take, begins-part}
-use Rattle.chart_lists.proofs.Fronts.{timers-are, accepting-are}
+use Rattle.chart_lists.proofs.Fronts.{timers-are}
 use Rattle.steps.proofs.Held.{holds-steps}
 use Rattle.player.specs.declared.Judged.{Judged}
 use Rattle.player.specs.Playing.{judgedAs}
+use Rattle.player.proofs.Accepting.{accepting-front, accepting-long}
 use Rattle.player.proofs.Inputs.{after-counts, allowed, lengths-refused, steps-answer}
 use Rattle.player.proofs.play_chart.Statement.{statement}
 use Rattle.player.proofs.play_chart.Tie as tie
 
 abbrev start : tie.After-judge-counts → tie.Start
 start a = a .before .before .before .before .before .before .before .before .before .before .before .before
-
--- the accepting locations are the front of their list
-accepting-front : (ch : Chart) {h : Header} {l : Lists} → h ≡ headerOf ch → Holds ch l → take (h .accepting) (l .accepting) ≡ ch .accepting
-unfolding listsOf
-accepting-front ch e held = begins-take (held .accepting) (accepting-are ch e)
-
-accepting-long : (ch : Chart) {h : Header} {l : Lists} → h ≡ headerOf ch → Holds ch l → h .accepting ≡ length (take (h .accepting) (l .accepting))
-unfolding listsOf
-accepting-long ch e held = sym (begins-part (held .accepting) (accepting-are ch e))
 
 -- what the judgement of the counts says
 counted : (a : tie.After-judge-counts) (ch : Chart) → start a .args .header ≡ headerOf ch → {j : Judged} → a .judge-counts .result ≡ j

@@ -47,7 +47,7 @@ lowest : (a : tie.After-lowest-to-take) (ch : Chart) → let z = entry (growth a
 lowest a ch e h x w =
     let g = growth a in
     let n = transitions-are ch e in
-    let firsts = found g .find-firsts .ensures ch n (holds-counts h) in
+    let firsts = found g .find-firsts .ensures .0 ch n (holds-counts h) in
     a .lowest-to-take .ensures ch n firsts (holds-choice h) x _ (w .location) (grown-shows (entry g .args .head) w (g .grown .ensures))
 
 -- one that is taken is one of the chart
@@ -95,7 +95,7 @@ lowest-to-take-requires c κs =
     let g = c .before .before in
     let p = entry g .pre .0 in
     let n = transitions-are (p .0) (p .1) in
-    ((p .0, n, found g .find-firsts .ensures (p .0) n (holds-counts (p .2)), holds-choice (p .2)), g .grown .ensures .number)
+    ((p .0, n, found g .find-firsts .ensures .0 (p .0) n (holds-counts (p .2)), holds-choice (p .2)), g .grown .ensures .number)
 
 mul-t28 : tie.Need-mul-t28
 mul-t28 c = search needs

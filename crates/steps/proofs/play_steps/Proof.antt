@@ -38,7 +38,7 @@ take-steps-requires c κs =
     let a = s .before .before in
     let p = entry a .pre in
     let q = p .0 in (
-      (q .0, transitions-are (q .0) (q .1), a .find-firsts .ensures (q .0) (transitions-are (q .0) (q .1)) (holds-counts (q .2)), q .2),
+      (q .0, transitions-are (q .0) (q .1), a .find-firsts .ensures .0 (q .0) (transitions-are (q .0) (q .1)) (holds-counts (q .2)), q .2),
       (starting-small (s .starting-counts .ensures) (p .1 .0) _, p .1 .1),
     )
 
@@ -46,7 +46,7 @@ returns : tie.Need-returns
 unfolding outcome
 returns c = λ ch e h.
     let s = c .before .before in
-    let firsts = s .before .before .find-firsts .ensures ch (transitions-are ch e) (holds-counts h) in
+    let firsts = s .before .before .find-firsts .ensures .0 ch (transitions-are ch e) (holds-counts h) in
     c .take-steps .ensures ch (transitions-are ch e) firsts h _ (starting-shows (s .starting-counts .ensures) ch _ (initial-is ch e))
 
 pub play-steps-spec : {M : Type 1} → statement M

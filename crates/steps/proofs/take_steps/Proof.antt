@@ -9,7 +9,7 @@ use Rattle.model.specs.Run.{State as Run·State}
 use Rattle.chart_lists.specs.Holds.{Holds}
 use Rattle.steps.specs.StepLists.{FirstTests, stepLists}
 use Rattle.steps.specs.Stepping.{Shows, Small}
-use Rattle.steps.proofs.StepLists.{Reached, reached-start, reached-next, reached-refused, reached-end}
+use Rattle.steps.proofs.StepLists.{Reached, reached-start, reached-next, reached-refused, reached-end, playerTurns}
 use Rattle.steps.proofs.take_steps.Statement.{statement}
 use Rattle.steps.proofs.take_steps.Tie as tie
 
@@ -20,7 +20,7 @@ Inv-loop sources targets starts test-counts firsts timers codes constants n tran
     × Small state × (length times ≡ length transitions) × (last ≡ length transitions) × (last < 2 ^ 64) × (k ≤ last)
     × ((c : Chart) → n ≡ length (c .transitions) → FirstTests c firsts
     → Holds c (stepLists c sources targets starts test-counts timers codes constants)
-    → (s : Run·State) → Shows state₀ s → Reached c transitions times k s state)
+    → (s : Run·State) → Shows state₀ s → Reached Shows (playerTurns c transitions times) k s state)
 
 abbrev μ-loop : tie.MeasureT-loop
 μ-loop sources targets starts test-counts firsts timers codes constants n transitions times last state₀ k₀ state k = last - k
@@ -34,7 +34,7 @@ turn a = a .before .before .before .before
 
 loop-holds : tie.Need-loop-holds Inv-loop μ-loop
 loop-holds c = let p = start (c .before .before) .pre in
-    (p .0, p .1 .0, p .1 .1, refl, omega arith, omega arith, λ ch n f L s w. reached-start _ _ _ s _ w)
+    (p .0, p .1 .0, p .1 .1, refl, omega arith, omega arith, λ ch n f L s w. reached-start w)
 
 mul-step : tie.Need-mul-step Inv-loop μ-loop
 mul-step c = search needs
@@ -62,7 +62,7 @@ returns c = λ ch n f L s w.
     let a = c .before .before in
     let l = turn a .loop in
     let tried = a .step .ensures .0 ch n f L in
-    reached-refused ch _ _ (l .k) s _ (omega arith) (omega arith) (l .inv .6 ch n f L s w) _ tried _ (c .enum-told2 .given .1)
+    reached-refused (l .inv .6 ch n f L s w) (omega arith) _ _ tried (c .enum-told2 .given .1)
 
 add-k : tie.Need-add-k Inv-loop μ-loop
 add-k c = let i = turn (c .before .before .before) .loop .inv in omega (arith, i .4)
@@ -79,11 +79,11 @@ loop-again c = let a = c .before .before .before in let l = turn a .loop in let 
   l .inv .4,
   omega arith,
   λ ch n f L s w.
-      reached-next ch _ _ (l .k) s _ (omega arith) (omega arith) (l .inv .6 ch n f L s w) _ (e .0 ch n f L) (c .before .enum-told .given .1),
+      reached-next (l .inv .6 ch n f L s w) (omega arith) _ _ (e .0 ch n f L) (c .before .enum-told .given .1),
 )
 
 returns-2 : tie.Need-returns-2 Inv-loop μ-loop
-returns-2 c = λ ch n f L s w. let l = c .before .loop in reached-end ch _ _ (l .k) s _ (omega arith) (l .inv .6 ch n f L s w)
+returns-2 c = λ ch n f L s w. reached-end (c .before .loop .inv .6 ch n f L s w) (omega arith)
 
 pub take-steps-spec : {M : Type 1} → statement M
 take-steps-spec =

@@ -1,20 +1,21 @@
 -- `grown` adds the ticks that passed to one count a turn. Assumes nothing.
-use Prim.Native.Nat.{_-_, _≤_}
+use mathlib.Core.Path.{refl}
+use Prim.Native.Nat.{_+_, _-_, _≤_}
 use native.Mathlib.Omega.{arith}
 use borrow.Author.Needs.{needs}
 use Rattle.steps.specs.Counts.{Room}
-use Rattle.steps.proofs.MovedCounts.{GrownTo, grown-none, grown-more, grown-all}
+use Rattle.steps.proofs.MovedCounts.{ChangedTo, changed-none, changed-more, grown-all}
 use Rattle.steps.proofs.counts.grown.Statement.{statement}
 use Rattle.steps.proofs.counts.grown.Tie as tie
 
 abbrev Inv-loop : tie.InvT-loop
-Inv-loop passed next₀ j₀ next j = (j ≤ 64) × Room next₀ passed × GrownTo j passed next₀ next
+Inv-loop passed next₀ j₀ next j = (j ≤ 64) × Room next₀ passed × ChangedTo (λ x. x + passed) j next₀ next
 
 abbrev μ-loop : tie.MeasureT-loop
 μ-loop passed next₀ j₀ next j = 64 - j
 
 loop-holds : tie.Need-loop-holds Inv-loop μ-loop
-loop-holds c = (omega arith, c .pre, grown-none _ _ (c .pre .number))
+loop-holds c = (omega arith, c .pre, changed-none _ _ (c .pre .number))
 
 mul-next : tie.Need-mul-next Inv-loop μ-loop
 mul-next c = search needs
@@ -38,7 +39,7 @@ loop-less : tie.Need-loop-less Inv-loop μ-loop
 loop-less c = search needs
 
 loop-again : tie.Need-loop-again Inv-loop μ-loop
-loop-again c = let l = c .before .loop in (omega arith, l .inv .1, grown-more _ _ (l .j) _ (omega arith) (l .inv .2))
+loop-again c = let l = c .before .loop in (omega arith, l .inv .1, changed-more _ _ (l .j) _ refl (omega arith) (l .inv .2))
 
 returns : tie.Need-returns Inv-loop μ-loop
 returns c = grown-all _ _ (c .before .loop .j) _ (omega arith) (c .before .loop .inv .2)

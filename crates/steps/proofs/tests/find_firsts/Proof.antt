@@ -7,7 +7,7 @@ use borrow.Author.Needs.{needs}
 use Rattle.model.specs.Chart.{Chart}
 use Rattle.chart_lists.specs.Holds.{Holds}
 use Rattle.steps.specs.StepLists.{countLists}
-use Rattle.steps.proofs.FirstPlaces.{FoundTo, found-none, counts-room, sum-fits, found-more, found-all}
+use Rattle.steps.proofs.FirstPlaces.{FoundTo, found-none, counts-room, sum-fits, found-more, found-all, found-number}
 use Rattle.steps.proofs.tests.find_firsts.Statement.{statement}
 use Rattle.steps.proofs.tests.find_firsts.Tie as tie
 
@@ -64,7 +64,10 @@ same-length : tie.Need-same-length Inv-loop μ-loop
 same-length c = search needs
 
 returns : tie.Need-returns Inv-loop μ-loop
-returns c = let l = c .before .loop in λ ch e h. found-all (l .inv .4 ch e h) e (omega arith) (omega arith)
+returns c = let l = c .before .loop in (
+  λ ch e h. found-all (l .inv .4 ch e h) e (omega arith) (omega arith),
+  λ ch e h. found-number (l .inv .4 ch e h) e (omega arith),
+)
 
 pub find-firsts-spec : {M : Type 1} → statement M
 find-firsts-spec =
