@@ -1,0 +1,3 @@
+pub mod RisenCounts
+pub mod Attempts
+pub mod StepLists
