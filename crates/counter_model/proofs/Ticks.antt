@@ -42,7 +42,13 @@ times-back first t (t′ ∷ ts) up few =
 pub spaced-back : (first : ℕ) (ts : List ℕ) → first < counterNumbers → Spaced ts → timesOf first 0 (readingsAt first ts) ≡ ts
 spaced-back first ts small s = rw (reading-first first small) at (times-back first 0 ts (s .never-fall) (s .few-ticks))
 
--- ---- the first of them
+-- ---- the first n of them
+
+pub readings-front : (first : ℕ) (ts : List ℕ) (n : ℕ) → take n (readingsAt first ts) ≡ readingsAt first (take n ts)
+unfolding readingsAt
+readings-front first ts zero = refl
+readings-front first [] (suc n) = refl
+readings-front first (t ∷ ts) (suc n) = ap (λ (l : List ℕ). readingAt first t ∷ l) (readings-front first ts n)
 
 front : (P : (before now : ℕ) → Type 0) (t : ℕ) (ts : List ℕ) → EachStepFrom t ts P → (n : ℕ) → EachStepFrom t (take n ts) P
 front P t ts h zero k l = absurd (omega arith)
