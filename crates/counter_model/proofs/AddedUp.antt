@@ -41,12 +41,13 @@ no-time c (refused n p) = refl
 
 -- ---- one step
 
+-- how an attempt is judged
 module _ (c : Chart) (n : ℕ) (x : CounterState) (i now : ℕ) where
-  counter-none : getElem? (c .transitions) i ≡ none → counterAttempt c n x i now ≡ refused 14 n
+  pub counter-none : getElem? (c .transitions) i ≡ none → counterAttempt c n x i now ≡ refused 14 n
   unfolding counterAttempt
   counter-none h = rw (h, counterAttempt) refl
 
-  counter-some : {r : Transition} → Nth c i r
+  pub counter-some : {r : Transition} → Nth c i r
       → counterAttempt c n x i now
       ≡ unless (eqb (r .source) (x .location)) 22 n (unless (enabled c r (countsAt x now)) 24 n (result (counterAfter r x now)))
   unfolding counterAttempt

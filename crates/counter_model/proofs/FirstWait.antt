@@ -23,7 +23,7 @@ use Rattle.model.proofs.Steps.{attempt-none, attempt-some}
 use Rattle.counter_model.specs.Counter.{counterNumbers, ticksPassed, readingAt, readingsAt, timesOf}
 use Rattle.counter_model.specs.CounterPlayer.{counterAnswerOf}
 use Rattle.counter_model.specs.CounterClaim.{NeverFall, NoneLate, withoutTime}
-use Rattle.counter_model.proofs.Ticks.{EachStepFrom, times-back}
+use Rattle.counter_model.proofs.Ticks.{NeverFallFrom, FewTicksFrom, times-back}
 use Rattle.counter_model.proofs.AddedUp.{arrivedAt, no-time, added-up}
 use Rattle.counter_model.proofs.Claim.{none-late-own, any-counts}
 
@@ -50,7 +50,7 @@ module _ (first t : ℕ) (below : first < counterNumbers) where
   first-ticks = omega arith
 
   -- but for these, the times are what their readings add up to
-  times-lost : (ts : List ℕ) → EachStepFrom t ts (λ before now. before ≤ now) → EachStepFrom t ts (λ before now. now - before < counterNumbers)
+  times-lost : (ts : List ℕ) → NeverFallFrom t ts → FewTicksFrom t ts
       → later (lost t) (timesOf first 0 (readingsAt first (t ∷ ts))) ≡ t ∷ ts
   unfolding timesOf readingsAt
   times-lost ts up few =
@@ -108,8 +108,7 @@ module _ (c : Chart) (d : ℕ) where
   steps-later [] ts n s z l = l
   steps-later (i ∷ is) [] n s z l = l
   steps-later (i ∷ is) (t ∷ ts) n s z l =
-      match-then (Later d) (Later d) (attempt everyTime c n s (stepAt i t))
-      (attempt everyTime c n z (stepAt i (t + d)))
+      match-then (Later d) (Later d) (attempt everyTime c n s (stepAt i t)) (attempt everyTime c n z (stepAt i (t + d)))
       (λ s. steps everyTime c (suc n) s (stepsOf is ts)) (λ z. steps everyTime c (suc n) z (stepsOf is (later d ts)))
       (steps-later is ts (suc n)) (attempt-later n i t s z l)
 
@@ -125,9 +124,9 @@ module _ (c : Chart) (d : ℕ) where
       (record { location = refl; in-order = λ t. omega arith; counts = λ t j h. omega arith }))
       ∙ sym (no-time c (outcome everyTime c v (stepsOf is (later d ts))))
 
+-- from any counts, and with any first wait that is not late; the steps after it have few ticks
 pub any-first-wait : {W : ℕ} (c : Chart) → Valid W c → judged c ≡ result c → largeConstant c ≡ false → (v w : Counts) (first : ℕ)
-    → first < counterNumbers → (is : List ℕ) (t : ℕ) (ts : List ℕ) → NeverFall (t ∷ ts) → NoneLate (t ∷ ts)
-    → EachStepFrom t ts (λ before now. now - before < counterNumbers)
+    → first < counterNumbers → (is : List ℕ) (t : ℕ) (ts : List ℕ) → NeverFall (t ∷ ts) → NoneLate (t ∷ ts) → FewTicksFrom t ts
     → counterAnswerOf c first w is (readingsAt first (t ∷ ts)) ≡ withoutTime (answerOf playerTime c v (stepsOf is (t ∷ ts)))
 any-first-wait c valid j small v w first below is t ts up on-time few =
     let us = timesOf first 0 (readingsAt first (t ∷ ts)) in

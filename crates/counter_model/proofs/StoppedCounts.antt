@@ -59,14 +59,14 @@ module _ {v w : Counts} (u : UpToMost v w) where
   met-alike [] small = refl
   met-alike (t ∷ ts) small = rw (one, met-alike ts (small .1)) refl
     where
-      least : t .constant ≤ mostInVersion1
-      least = omega (arith, small .0)
+      fits : t .constant ≤ mostInVersion1
+      fits = omega (arith, small .0)
 
       one : met (t .comparison) (v (t .timer)) (t .constant) ≡ met (t .comparison) (w (t .timer)) (t .constant)
       one =
-          sym (met-stopped (t .comparison) (v (t .timer)) (t .constant) least)
+          sym (met-stopped (t .comparison) (v (t .timer)) (t .constant) fits)
           ∙ ap (λ (n : ℕ). met (t .comparison) n (t .constant)) (u .same (t .timer))
-          ∙ met-stopped (t .comparison) (w (t .timer)) (t .constant) least
+          ∙ met-stopped (t .comparison) (w (t .timer)) (t .constant) fits
 
   -- they enable the same transitions of a chart that has no larger constants
   pub same-enabled : (c : Chart) → largeConstant c ≡ false → {i : ℕ} {r : Transition} → Nth c i r → enabled c r v ≡ enabled c r w

@@ -29,9 +29,14 @@ reading-first first small = omega arith
 abbrev pub EachStepFrom : (t : ℕ) → (times : List ℕ) → (P : (before now : ℕ) → Type 0) → Type 0
 EachStepFrom t ts P = (n : ℕ) → n < length ts → P (getD (t ∷ ts) n 0) (getD ts n 0)
 
--- times that are spaced, counted from tick t, are what their readings add up to
-pub times-back : (first t : ℕ) (ts : List ℕ) → EachStepFrom t ts (λ before now. before ≤ now)
-    → EachStepFrom t ts (λ before now. now - before < counterNumbers) → timesOf (readingAt first t) t (readingsAt first ts) ≡ ts
+abbrev pub NeverFallFrom : (t : ℕ) → (times : List ℕ) → Type 0
+NeverFallFrom t ts = EachStepFrom t ts (λ before now. before ≤ now)
+
+abbrev pub FewTicksFrom : (t : ℕ) → (times : List ℕ) → Type 0
+FewTicksFrom t ts = EachStepFrom t ts (λ before now. now - before < counterNumbers)
+
+-- times that keep both are what their readings add up to
+pub times-back : (first t : ℕ) (ts : List ℕ) → NeverFallFrom t ts → FewTicksFrom t ts → timesOf (readingAt first t) t (readingsAt first ts) ≡ ts
 unfolding timesOf readingsAt
 times-back first t [] up few = refl
 times-back first t (t′ ∷ ts) up few =
