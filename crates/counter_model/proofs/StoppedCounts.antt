@@ -13,7 +13,7 @@ use Rattle.lists.specs.Lists.{memb}
 use Rattle.lists.specs.Rising.{All}
 use Rattle.lists.proofs.Bools.{yes-or-no, same-bool}
 use Rattle.model.specs.Chart.{Test, Transition, Chart, Nth}
-use Rattle.model.specs.Version.{mostInVersion1, largeConstant}
+use Rattle.model.specs.Version.{mostInTwoBytes, largeConstant}
 use Rattle.model.specs.Run.{Counts, grown, restarted, allMet, enabled}
 use Rattle.model.proofs.Transitions.{all-nth}
 use Rattle.model.proofs.Versions.{small-constants}
@@ -22,14 +22,14 @@ use Rattle.counter_model.specs.Counter.{mostCount, risen}
 
 -- ---- one test
 
-stopped-iff : (x : Comparison) (n k : ℕ) → k ≤ mostInVersion1 → Met x (min n mostCount) k ↔ Met x n k
+stopped-iff : (x : Comparison) (n k : ℕ) → k ≤ mostInTwoBytes → Met x (min n mostCount) k ↔ Met x n k
 stopped-iff AtMost n k small = omega arith
 stopped-iff Below n k small = omega arith
 stopped-iff AtLeast n k small = omega arith
 stopped-iff Above n k small = omega arith
 stopped-iff Equal n k small = omega arith
 
-pub met-stopped : (x : Comparison) (n k : ℕ) → k ≤ mostInVersion1 → met x (min n mostCount) k ≡ met x n k
+pub met-stopped : (x : Comparison) (n k : ℕ) → k ≤ mostInTwoBytes → met x (min n mostCount) k ≡ met x n k
 met-stopped x n k small =
     let iff = stopped-iff x n k small in
     same-bool _ _ (λ e. met-iff x n k .1 (iff .0 (met-iff x (min n mostCount) k .0 e)))
@@ -59,7 +59,7 @@ module _ {v w : Counts} (u : UpToMost v w) where
   met-alike [] small = refl
   met-alike (t ∷ ts) small = rw (one, met-alike ts (small .1)) refl
     where
-      fits : t .constant ≤ mostInVersion1
+      fits : t .constant ≤ mostInTwoBytes
       fits = omega (arith, small .0)
 
       one : met (t .comparison) (v (t .timer)) (t .constant) ≡ met (t .comparison) (w (t .timer)) (t .constant)

@@ -1,3 +1,4 @@
 pub mod RisenCounts
 pub mod Attempts
 pub mod StepLists
+pub mod LargeConstants

@@ -1,9 +1,10 @@
 -- How a state of the code shows a state of the counter board, and what the code answers to a step. Assumes nothing.
 use mathlib.Core.Path.{_≡_}
 use Prim.Native.Nat.{ℕ}
-use Rattle.model.specs.Answer.{Answer, result, refused}
+use Rattle.model.specs.Answer.{Answer}
 use Rattle.steps.specs.declared.Verdict.the-variants as verdict
 use Rattle.steps.specs.Counts.{CountsAgree}
+use Rattle.steps.specs.Stepping.{Decided}
 use Rattle.counter_model.specs.CounterRun.{CounterState}
 use Rattle.counter_player.specs.declared.stepping.State.{State}
 use Rattle.counter_player.specs.declared.stepping.Stepped.{Stepped}
@@ -20,5 +21,4 @@ refusedAt k n x = record { verdict = verdict.Refused (record { number = k; place
 
 -- the code's answer is the definition's: a state that the code's new state shows, or the same refusal
 abbrev pub Answered : Stepped → Answer CounterState → Type 0
-Answered r (result s) = (r .verdict ≡ verdict.Taken) × Shows (r .state) s
-Answered r (refused k p) = r .verdict ≡ verdict.Refused (record { number = k; place = p })
+Answered r a = Decided (r .verdict) (Shows (r .state)) a

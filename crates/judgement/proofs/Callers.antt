@@ -40,3 +40,11 @@ judged-chart bs {m} e = go (chartIn bs) refl
 pub accepted-in : {bs : List ℕ} {m : Header} → (a : AcceptedChart bs m) → judgedIn bs ≡ result (a .chart)
 unfolding judgedIn
 accepted-in a = rw (a .reads) (a .accepted)
+
+-- a call that goes on by f from the chart that is judged
+module _ {A : Type 0} (f : Chart → Answer A) where
+  pub accepted-then : {bs : List ℕ} {m : Header} (a : AcceptedChart bs m) → f (a .chart) ≡ then (judgedIn bs) f
+  accepted-then a = rw (accepted-in a) refl
+
+  pub refused-then : (bs : List ℕ) {n p : ℕ} → refused n p ≡ judgedHeader bs → refused n p ≡ then (judgedIn bs) f
+  refused-then bs e = rw (judged-refused bs e) refl

@@ -15,7 +15,7 @@ use Rattle.chart_lists.proofs.Begins.{begins-self}
 use Rattle.chart_lists.proofs.Partly.{holds-of}
 use Rattle.judgement.specs.Judging.{judgedIn, judgedHeader}
 use Rattle.judgement.specs.Charts.{AcceptedChart}
-use Rattle.judgement.proofs.Callers.{judged-refused, accepted-in}
+use Rattle.judgement.proofs.Callers.{accepted-then, refused-then}
 use Rattle.player.specs.Playing.{playAnswer, playLists}
 
 -- ---- the answer
@@ -32,10 +32,10 @@ module _ (bs counts is ts : List ℕ) where
 
   pub accepted-answer : {h : Header} (a : AcceptedChart bs h) {y : Answer Arrival} → y ≡ playedOn counts is ts (a .chart)
       → y ≡ playAnswer bs counts is ts
-  accepted-answer a e = e ∙ sym (play-is ∙ rw (accepted-in a) refl)
+  accepted-answer a e = e ∙ accepted-then (playedOn counts is ts) a ∙ sym play-is
 
   pub refused-answer : {n p : ℕ} → refused n p ≡ judgedHeader bs → refused n p ≡ playAnswer bs counts is ts
-  refused-answer e = sym (play-is ∙ rw (judged-refused bs e) refl)
+  refused-answer e = refused-then (playedOn counts is ts) bs e ∙ sym play-is
 
 -- ---- the lists
 

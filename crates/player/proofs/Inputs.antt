@@ -5,13 +5,12 @@ use mathlib.Core.List.{List}
 use Prim.Native.Nat.{ℕ, _≤_, _<_}
 use native.Mathlib.Omega.{arith}
 use lib.Dec.{leb, eqb}
-use lib.ListN.{length, getD}
+use lib.ListN.{length}
 use borrow.Author.Tests.{le-leb, lt-leb, eq-eqb, ne-eqb}
 use Rattle.lists.specs.Lists.{lowest}
 use Rattle.model.specs.Answer.{Answer, result, refused, then, unless, nowhere}
 use Rattle.model.specs.Chart.{Chart}
-use Rattle.model.specs.Run.{playerTime}
-use Rattle.model.specs.Player.{Arrival, answerOf, tooLarge, countsJudged, stepsOf, playedOn}
+use Rattle.model.specs.Player.{tooLarge, countsJudged}
 use Rattle.model.proofs.PlayerLaws.{counts-allowed}
 use Rattle.steps.specs.Counts.{Allowed}
 
@@ -59,11 +58,10 @@ module _ (c : Chart) (counts : List ℕ) where
     allowed few = let a = counts-allowed c counts (result tt) tt (sym e) in let one = a .one-each in
         record { few = omega arith; small = λ j l. a .small j (omega arith) }
 
-    module _ (is ts : List ℕ) where
-      -- lists of unequal length
-      pub lengths-refused : (length is ≡ length ts → ⊥) → refused 13 nowhere ≡ playedOn counts is ts c
+    -- what follows on lists of one length; ts may be times or readings
+    module _ {A : Type 0} (x : Answer A) (is ts : List ℕ) where
+      pub lengths-refused : (length is ≡ length ts → ⊥) → refused 13 nowhere ≡ countsJudged c counts (unless (eqb (length is) (length ts)) 13 nowhere x)
       lengths-refused d = rw (ne-eqb (length is) (length ts) d) (after-counts e _)
 
-      pub steps-answer : {x : Answer Arrival} → length is ≡ length ts → x ≡ answerOf playerTime c (λ j. getD counts j 0) (stepsOf is ts)
-          → x ≡ playedOn counts is ts c
-      steps-answer d f = f ∙ rw (eq-eqb (length is) (length ts) d) (after-counts e _)
+      pub lengths-passed : length is ≡ length ts → x ≡ countsJudged c counts (unless (eqb (length is) (length ts)) 13 nowhere x)
+      lengths-passed d = rw (eq-eqb (length is) (length ts) d) (after-counts e _)

@@ -10,7 +10,7 @@ use Rattle.steps.proofs.Held.{holds-steps}
 use Rattle.player.specs.declared.Judged.{Judged}
 use Rattle.player.specs.Playing.{judgedAs}
 use Rattle.player.proofs.Accepting.{accepting-front, accepting-long}
-use Rattle.player.proofs.Inputs.{after-counts, allowed, lengths-refused, steps-answer}
+use Rattle.player.proofs.Inputs.{after-counts, allowed, lengths-refused, lengths-passed}
 use Rattle.player.proofs.play_chart.Statement.{statement}
 use Rattle.player.proofs.play_chart.Tie as tie
 
@@ -44,7 +44,7 @@ enum-told c = search needs
 
 returns-2 : tie.Need-returns-2
 returns-2 c = λ ch e held. let x = called (c .before) .args in
-    lengths-refused ch _ (passed (c .before) ch e) (x .transitions .now) (x .times .now) (c .if1 .taken)
+    lengths-refused ch _ (passed (c .before) ch e) _ (x .transitions .now) (x .times .now) (c .if1 .taken)
 
 play-steps-requires : tie.Need-play-steps-requires
 play-steps-requires c κs = let p = called (c .before) .pre in
@@ -65,7 +65,7 @@ returns-3 c = λ ch e held.
     let d = s .before in
     let x = called (d .before) .args in
     let out = c .arrived .ensures ch _ _ (accepting-front ch e held) (s .play-steps .ensures ch e (holds-steps held)) in
-    steps-answer ch _ (passed (d .before) ch e) (x .transitions .now) (x .times .now) (d .if1 .left) out
+    out ∙ lengths-passed ch _ (passed (d .before) ch e) _ (x .transitions .now) (x .times .now) (d .if1 .left)
 
 pub play-chart-spec : {M : Type 1} → statement M
 play-chart-spec =
