@@ -1,0 +1,3 @@
+pub mod StepPlaces
+pub mod Inputs
+pub mod Refusals
