@@ -1,3 +1,4 @@
 pub mod StepPlaces
 pub mod Inputs
 pub mod Refusals
+pub mod Cases

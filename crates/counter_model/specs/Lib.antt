@@ -3,3 +3,4 @@ pub mod CounterRun
 pub mod CounterPlayer
 pub mod CounterClaim
 pub mod Refusals
+pub mod Cases
