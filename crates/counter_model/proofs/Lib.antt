@@ -2,3 +2,4 @@ pub mod StepPlaces
 pub mod Inputs
 pub mod Refusals
 pub mod Cases
+pub mod Needed

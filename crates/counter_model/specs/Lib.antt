@@ -4,3 +4,4 @@ pub mod CounterPlayer
 pub mod CounterClaim
 pub mod Refusals
 pub mod Cases
+pub mod Examples
