@@ -3,3 +3,8 @@ pub mod StoppedCounts
 pub mod AddedUp
 pub mod Claim
 pub mod FirstWait
+pub mod StepPlaces
+pub mod Inputs
+pub mod Refusals
+pub mod Cases
+pub mod Needed

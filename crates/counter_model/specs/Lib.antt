@@ -3,3 +3,5 @@ pub mod CounterRun
 pub mod CounterPlayer
 pub mod CounterClaim
 pub mod Refusals
+pub mod Cases
+pub mod Examples
