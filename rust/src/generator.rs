@@ -724,9 +724,11 @@ pub fn lengthen(random: &mut Random, drawing: &Drawing, steps: &mut Steps) {
         let mut time = random.pick(&[last, last, last + 1, last + 2, last + 5, last + 100, early, most + 1]);
         let tests = &drawing.transitions[transition as usize].tests;
         if !tests.is_empty() && random.chance(2, 3) {
-            // A tick before, at or after the one at which the count is the constant, as near as a step may be.
+            // A tick before, at or after the one at which the count is the constant, or the largest constant that the
+            // counter board takes, as near as a step may be.
             let (timer, _, constant) = random.pick(tests);
-            let due = last_start(drawing, steps, timer) + u64::from(constant) + random.below(3);
+            let count = random.pick(&[constant, constant, constant, COUNTER_LARGEST_CONSTANT]);
+            let due = last_start(drawing, steps, timer) + u64::from(count) + random.below(3);
             time = due.saturating_sub(1).clamp(last, most.max(last));
         }
         steps.push(transition, time);

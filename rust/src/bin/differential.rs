@@ -445,8 +445,14 @@ impl ChartTrials {
         let transitions = chart.as_ref().map_or(1, |chart| chart.transitions().len() as u32);
         let random = &mut self.random;
         let mut steps = drawing.map_or(Steps::default(), |drawing| counter_run(random, drawing, most_steps));
-        if let (Some(drawing), true) = (drawing, random.chance(1, 3)) {
+        if let (Some(drawing), true) = (drawing, random.chance(1, 2)) {
+            steps.cut(random);
+            let last = steps.times.last().copied().unwrap_or(0);
             lengthen(random, drawing, &mut steps);
+            if let (Some(time), true) = (steps.times.last_mut(), random.chance(1, 3)) {
+                // As many ticks as can pass, so that counts are likely to stop.
+                *time = last + u64::from(COUNTER_READINGS) - 1;
+            }
         }
         let mut steps = CounterSteps::of(&steps, first_reading(random));
         if drawing.is_none() || random.chance(1, 3) {
