@@ -281,6 +281,11 @@ impl Display for CounterKinds {
     }
 }
 
+/// Whether a chart has a constant that the counter board does not take.
+fn exceeds_counter_board(file: &[u8]) -> bool {
+    Chart::read(file).is_ok_and(|chart| chart.largest_constant() > Some(COUNTER_LARGEST_CONSTANT))
+}
+
 /// How many steps of a list were taken.
 fn steps_taken<T>(answer: &Answer<T>, steps: usize) -> usize {
     match answer {
@@ -397,7 +402,8 @@ impl ChartTrials {
         self.tally.counter_playings[number] += 1;
         let taken = steps_taken(&answer, readings.len());
         self.tally.steps_taken += taken as u64;
-        if let Ok(chart) = Chart::read(file) {
+        if taken > 0 || number == 24 {
+            let chart = Chart::read(file).expect("the chart is accepted");
             self.tally.counter_kinds.count_steps(&chart, steps, taken, number == 24);
         }
         answer
@@ -416,8 +422,7 @@ impl ChartTrials {
         let counted = CounterSteps::of(steps, first_reading(&mut self.random));
         let answer = self.play_counter(file, counts_drawn, &counted);
         let player = player.map(|Playing { location, accepting, .. }| CounterPlaying { location, accepting });
-        let largest = Chart::read(file).ok().and_then(|chart| chart.largest_constant());
-        if largest > Some(COUNTER_LARGEST_CONSTANT) || !keeps_provisos(&steps.times) {
+        if !keeps_provisos(&steps.times) || exceeds_counter_board(file) {
             self.tally.counter_kinds.otherwise += u64::from(answer != player);
             return;
         }
@@ -449,7 +454,7 @@ impl ChartTrials {
             steps.cut(random);
             let last = steps.times.last().copied().unwrap_or(0);
             lengthen(random, drawing, &mut steps);
-            if let (Some(time), true) = (steps.times.last_mut(), random.chance(1, 3)) {
+            if let (Some(time), true) = (steps.times.last_mut(), random.chance(1, 2)) {
                 // As many ticks as can pass, so that counts are likely to stop.
                 *time = last + u64::from(COUNTER_READINGS) - 1;
             }
@@ -542,7 +547,7 @@ impl ChartTrials {
                     differ("the player on the rewritten file", file, &(board, steps), &board_answer, &answer);
                 }
             }
-            if self.random.chance(1, 2) {
+            if self.random.chance(1, 3) {
                 let board = board.as_ref().ok().map(|board| (board.as_slice(), used as usize));
                 self.play_counted(file, &counts_drawn, &steps, answer, board);
             }
@@ -672,23 +677,27 @@ impl ChartTrials {
         assert_eq!(steps.times.len(), 70_000, "the chart's runs do not end");
         let board = self.rewrite(&file, u32::from(MOST_TIMERS), file.len()).expect("the chart fits the largest board");
         let used = self.analyse(&file, 9).map_or(0, |analysis| analysis.used as usize);
-        let is_large = Chart::read(&file).unwrap().largest_constant() > Some(COUNTER_LARGEST_CONSTANT);
+        let exceeds = exceeds_counter_board(&file).then_some(Refusal { number: 18, place: NOWHERE });
         let cut = NOWHERE as usize;
-        for at in [None, Some(cut - 1), Some(cut), Some(cut + 1), Some(69_999)] {
+        let places = [None, Some(cut - 1), Some(cut), Some(cut + 1), Some(69_999)];
+        let on_counter_board = self.random.pick(&places);
+        for at in places {
             let mut steps = steps.clone();
             if let Some(at) = at {
                 steps.transitions[at] = 30;
             }
+            let refusal = at.map(|at| Refusal { number: 14, place: at as u64 });
             for (file, timers) in [(&file, TIMERS), (&board, used)] {
                 let counts = counts(&mut self.random, timers, true);
                 let answer = self.play(file, &counts, &steps);
-                assert_eq!(answer.err(), at.map(|at| Refusal { number: 14, place: at as u64 }));
+                assert_eq!(answer.err(), refusal);
             }
-            let counts = counts(&mut self.random, TIMERS, true);
-            let counted = CounterSteps::of(&steps, first_reading(&mut self.random));
-            let answer = self.play_counter(&file, &counts, &counted);
-            let at = at.map(|at| Refusal { number: 14, place: at as u64 });
-            assert_eq!(answer.err(), if is_large { Some(Refusal { number: 18, place: NOWHERE }) } else { at });
+            if at == on_counter_board {
+                let counts = counts(&mut self.random, TIMERS, true);
+                let counted = CounterSteps::of(&steps, first_reading(&mut self.random));
+                let answer = self.play_counter(&file, &counts, &counted);
+                assert_eq!(answer.err(), exceeds.or(refusal));
+            }
         }
     }
 
