@@ -218,6 +218,15 @@ fn step_rows(repetitions: usize, name: &str, file: &[u8], steps: &Steps, what: &
     times.into_iter().for_each(|times| row(&format!("counter board, {what}"), name, times));
 }
 
+/// A call on a long list of steps, and its time for a step.
+fn long_rows(call: &str, name: &str, steps: &Steps, times: impl Fn(&Steps) -> (f64, f64)) {
+    let (proved, rust) = times(steps);
+    row(&format!("{call}, long list"), name, (proved, rust));
+    let empty = times(&Steps::default());
+    let steps = steps.times.len() as f64;
+    row(&format!("{call}, for a step"), name, ((proved - empty.0) / steps, (rust - empty.1) / steps));
+}
+
 /// The steps of a small chart.
 fn short_list(list: &[(u32, u64)]) -> Steps {
     let mut steps = Steps::default();
@@ -393,18 +402,10 @@ fn main() {
     for (name, drawing) in &charts[1..3] {
         let file = drawing.file();
         let steps = steps_of(drawing, LONG);
-        let on_counter_board =
-            |steps: &Steps| counter_playings(repetitions, &file, steps).expect("the chart's constants are small");
-        let on_player = |steps: &Steps| playings(repetitions, &file, steps);
-        let calls: [(&str, &dyn Fn(&Steps) -> (f64, f64)); 2] =
-            [("player", &on_player), ("counter board", &on_counter_board)];
-        for (call, times) in calls {
-            let (proved, rust) = times(&steps);
-            row(&format!("{call}, long list"), name, (proved, rust));
-            let empty = times(&Steps::default());
-            let step = ((proved - empty.0) / LONG as f64, (rust - empty.1) / LONG as f64);
-            row(&format!("{call}, for a step"), name, step);
-        }
+        long_rows("player", name, &steps, |steps| playings(repetitions, &file, steps));
+        long_rows("counter board", name, &steps, |steps| {
+            counter_playings(repetitions, &file, steps).expect("the chart's constants are small")
+        });
     }
     let large: Vec<Drawing> = (1..=MOST_HEADS as u64).map(|seed| heads::largest(&mut Random::new(seed))).collect();
     println!();
