@@ -1,4 +1,5 @@
-/* Timing charts: analysis, rewriting for a board of K timers, player, controller of several heads. Link libexports.a (`rt staticlib exports`).
+/* Timing charts: analysis, rewriting for a board of K timers, player, controller of several heads, player for a board with a counter and no timers.
+ * Link libexports.a (`rt staticlib exports`).
  *
  * A slice is a pointer and the number of its entries. Slices of one call must not overlap one that the call writes to, and nothing else may read or
  * write that one during the call; this holds for a controller's state too. An empty slice is allowed; its pointer may then be null.
@@ -34,6 +35,10 @@
 /* The largest time of a step or an event, and the largest starting count of a timer. */
 #define CHART_MOST_TICKS 16777215
 
+/* Of the counter board: the largest constant that it takes, and the count at which counts stop rising. */
+#define CHART_COUNTER_LARGEST_CONSTANT 65535
+#define CHART_COUNTER_LARGEST_COUNT 65536
+
 /* The place of a refusal that has no other. Step 65535 has the same number; a refusal of a step always has a place. */
 #define CHART_NOWHERE 65535
 
@@ -58,11 +63,12 @@ typedef enum chart_refusal {
     CHART_REFUSED_UNSTARTED = 10,          /* a test of a timer that some path to it has not started */
     CHART_REFUSED_LIMIT_TOO_LARGE = 11,    /* K over CHART_MOST_TIMERS */
     CHART_REFUSED_WRONG_COUNTS = 12,       /* starting counts not one for each timer, or one over CHART_MOST_TICKS */
-    CHART_REFUSED_UNEQUAL_LISTS = 13,      /* the lists of transitions and of times differ in length */
+    CHART_REFUSED_UNEQUAL_LISTS = 13,      /* the lists of transitions and of times or readings differ in length */
     CHART_REFUSED_NO_SUCH_TRANSITION = 14, /* a step names no transition */
     CHART_REFUSED_TIME_TOO_LARGE = 15,     /* a step's or an event's time is over CHART_MOST_TICKS */
     CHART_REFUSED_INPUT_TOO_LONG = 16,     /* by the program `allocate` alone: its input is over 65536 bytes */
     CHART_REFUSED_CONSTANT_TOO_LARGE = 17, /* by no call below: a constant over 65535 that is to be written as version 1 */
+    CHART_REFUSED_NOT_FOR_COUNTER = 18,    /* a constant over CHART_COUNTER_LARGEST_CONSTANT, by the counter board alone */
 
     /* turned down because of the state */
     CHART_REFUSED_BOARD_TOO_SMALL = 20,    /* K timers do not suffice */
@@ -109,6 +115,14 @@ typedef struct chart_playing {
     uint64_t time;
     uint64_t accepting;
 } chart_playing;
+
+/* Where the steps end on the counter board, which knows no time; accepting is 1 or 0. With no steps, the initial location. */
+typedef struct chart_counter_playing {
+    uint64_t number;
+    uint64_t place;
+    uint64_t location;
+    uint64_t accepting;
+} chart_counter_playing;
 
 /* Where a head stands and at what time. waiting is 0 where no event waits at it, and event and waiting_time then say nothing; else the event of that
  * time waits. A received event is written with waiting 1, and once it is served all three are 0. An event over 255 is no transition's. */
@@ -192,6 +206,11 @@ CHART_FIELD(chart_playing, location, 16);
 CHART_FIELD(chart_playing, time, 24);
 CHART_FIELD(chart_playing, accepting, 32);
 CHART_ASSERT(sizeof(chart_playing) == 40, "chart_playing");
+CHART_FIELD(chart_counter_playing, number, 0);
+CHART_FIELD(chart_counter_playing, place, 8);
+CHART_FIELD(chart_counter_playing, location, 16);
+CHART_FIELD(chart_counter_playing, accepting, 24);
+CHART_ASSERT(sizeof(chart_counter_playing) == 32, "chart_counter_playing");
 CHART_FIELD(chart_head, location, 0);
 CHART_FIELD(chart_head, time, 8);
 CHART_FIELD(chart_head, waiting, 16);
@@ -240,6 +259,21 @@ chart_playing chart_play(
     const uint32_t *counts, size_t counts_length,
     const uint32_t *transitions, size_t transitions_length,
     const uint64_t *times, size_t times_length);
+
+/* Plays a list of steps on a chart file for the counter board, which has no timers but one free-running counter of sixteen bits, from a starting
+ * count for each timer: step i takes transitions[i] when the counter reads readings[i]. The ticks passed at a step are its reading less that of the
+ * step before, modulo 65536; at the first step less first, the reading at tick 0. Counts stop rising at CHART_COUNTER_LARGEST_COUNT.
+ * counts is as for chart_play; transitions and readings have the same length, which has no limit and in which first does not count.
+ * On the readings (first + times[i]) modulo 65536 the answer is that of chart_play, location and accepting or the refusal, if no constant is over
+ * CHART_COUNTER_LARGEST_CONSTANT, the times never fall, none is over CHART_MOST_TICKS, and fewer than 65536 ticks pass at each step, at the first
+ * from tick 0; where readings come otherwise, they are still taken as said above, and none is refused: one lower than the last is 65535 ticks later.
+ * Nothing is written. Refusals: 1 to 10, 12, 13, 18 before the steps; then step by step 14, 22, 24, place is the step. */
+chart_counter_playing chart_play_counter(
+    const uint8_t *file, size_t file_length,
+    const uint32_t *counts, size_t counts_length,
+    const uint32_t *transitions, size_t transitions_length,
+    uint16_t first,
+    const uint16_t *readings, size_t readings_length);
 
 /* Sets a controller up on a board of k timers: it is head 0's turn, and each head stands at its chart's initial location at tick 0, nothing waiting,
  * its timers at its starting counts; all else in the state is 0.

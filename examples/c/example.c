@@ -1,5 +1,5 @@
 /* Analyses charts A and B of document 01 and two with many families, rewrites B for 16 timers and plays it, does the same with a chart of version 2
- * that has a long dwell time, and prints the answers. */
+ * that has a long dwell time, plays B on the counter board, and prints the answers. */
 #include <inttypes.h>
 #include <stdio.h>
 
@@ -106,6 +106,15 @@ static void play(const uint8_t *file, size_t length, const uint32_t *counts, siz
         printf("location %" PRIu64 " time %" PRIu64 " accepting %" PRIu64 "\n", p.location, p.time, p.accepting);
 }
 
+static void play_counter(const uint8_t *file, size_t length, const uint32_t *counts, size_t timers,
+                         const uint32_t *transitions, uint16_t first, const uint16_t *readings, size_t steps) {
+    chart_counter_playing p = chart_play_counter(file, length, counts, timers, transitions, steps, first, readings, steps);
+    if (p.number != CHART_NO_REFUSAL)
+        printf("refused %" PRIu64 " %" PRIu64 "\n", p.number, p.place);
+    else
+        printf("location %" PRIu64 " accepting %" PRIu64 "\n", p.location, p.accepting);
+}
+
 int main(void) {
     analyse(A, sizeof A, 8);
     analyse(B, sizeof B, 8);
@@ -150,5 +159,13 @@ int main(void) {
     play(DWELL, sizeof DWELL, counts, 2, transitions, full_dwell, LENGTH(full_dwell));
     play(board, length, counts, 1, transitions, short_dwell, LENGTH(short_dwell));
     play(board, length, counts, 1, transitions, full_dwell, LENGTH(full_dwell));
+
+    /* B across the wrap of the counter, in time, one tick late, and one tick back, which is 65535 ticks later; then a constant too large */
+    const uint16_t first = 65530, across[] = {65535, 1, 2}, one_late[] = {65535, 2}, one_back[] = {65535, 65534};
+    printf("counter\n");
+    play_counter(B, sizeof B, counts, 2, transitions, first, across, LENGTH(across));
+    play_counter(B, sizeof B, counts, 2, transitions, first, one_late, LENGTH(one_late));
+    play_counter(B, sizeof B, counts, 2, transitions, first, one_back, LENGTH(one_back));
+    play_counter(DWELL, sizeof DWELL, counts, 2, transitions, first, across, LENGTH(across));
     return 0;
 }

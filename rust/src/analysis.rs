@@ -41,6 +41,13 @@ pub fn analyse(file: &[u8], live: &mut [u64]) -> Answer<Analysis> {
     Ok(Analysis { used: u64::from(used), floor: u64::from(timers), searched, rounds: liveness.rounds })
 }
 
+/// Reads a chart file. Judges 1 to 10.
+pub(crate) fn judged_chart(file: &[u8]) -> Answer<Chart> {
+    let chart = Chart::read(file)?;
+    judge(&chart)?;
+    Ok(chart)
+}
+
 /// Judges 9 and 10 and returns the graph that it used.
 pub fn judge(chart: &Chart) -> Answer<Graph> {
     let graph = Graph::of(chart);

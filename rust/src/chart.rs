@@ -132,6 +132,11 @@ impl Chart {
         self.tests.is_empty()
     }
 
+    /// The largest constant of all tests; none if there is no test.
+    pub fn largest_constant(&self) -> Option<u32> {
+        self.tests.iter().map(|test| test.constant).max()
+    }
+
     /// Reads a chart file. Judges 1 to 8.
     pub fn read(file: &[u8]) -> Answer<Chart> {
         let Some((&[version, length @ ..], body)) = file.split_first_chunk::<5>() else {

@@ -6,7 +6,7 @@
 
 use std::ops::Range;
 
-use crate::analysis::judge;
+use crate::analysis::judged_chart;
 use crate::chart::{Chart, Transition};
 use crate::limits::{MOST_HEADS, MOST_TICKS, TIMERS};
 use crate::player::judge_counts;
@@ -177,13 +177,6 @@ impl Heads {
             _ => Err(Refusal::nowhere(25)),
         }
     }
-}
-
-/// Reads a chart file. Judges 1 to 10.
-fn judged_chart(file: &[u8]) -> Answer<Chart> {
-    let chart = Chart::read(file)?;
-    judge(&chart)?;
-    Ok(chart)
 }
 
 /// A head on the board.

@@ -190,6 +190,24 @@ pub fn dwell(code: u8, constant: u32) -> Drawing {
     Drawing::new(3, 1, vec![Arrow::new(0, 1).starts(&[0]), Arrow::new(1, 2).tests(0, code, constant)]).version(2)
 }
 
+/// Four locations, version 2: 0→1 starts 0; 1→2; then 2→3 tests 0 above that constant, 2→3 equal to it, 2→3 at most it;
+/// and 1→1.
+pub fn three_tests(constant: u32) -> Drawing {
+    Drawing::new(
+        4,
+        1,
+        vec![
+            Arrow::new(0, 1).starts(&[0]),
+            Arrow::new(1, 2),
+            Arrow::new(2, 3).tests(0, ABOVE, constant),
+            Arrow::new(2, 3).tests(0, EQUAL, constant),
+            Arrow::new(2, 3).tests(0, AT_MOST, constant),
+            Arrow::new(1, 1),
+        ],
+    )
+    .version(2)
+}
+
 /// First fit uses 3 timers, and 2 would do: families 128, 130, 192 and 193 get 0, 1, 0 and 2.
 pub fn over_floor() -> Drawing {
     Drawing::new(

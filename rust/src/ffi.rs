@@ -36,6 +36,15 @@ pub struct ChartPlaying {
 
 #[repr(C)]
 #[derive(Clone, Copy, Debug)]
+pub struct ChartCounterPlaying {
+    pub number: u64,
+    pub place: u64,
+    pub location: u64,
+    pub accepting: u64,
+}
+
+#[repr(C)]
+#[derive(Clone, Copy, Debug)]
 pub struct ChartCalled {
     pub number: u64,
     pub place: u64,
@@ -74,6 +83,18 @@ unsafe extern "C" {
         times: *const u64,
         times_length: usize,
     ) -> ChartPlaying;
+
+    pub fn chart_play_counter(
+        file: *const u8,
+        file_length: usize,
+        counts: *const u32,
+        counts_length: usize,
+        transitions: *const u32,
+        transitions_length: usize,
+        first: u16,
+        readings: *const u16,
+        readings_length: usize,
+    ) -> ChartCounterPlaying;
 
     pub fn chart_controller_set_up(
         state: *mut State,

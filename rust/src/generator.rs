@@ -2,8 +2,8 @@
 
 use crate::drawing::{chain, looped_chain, Arrow, Drawing, AT_LEAST, AT_MOST, BELOW};
 use crate::limits::{
-    LARGEST_CONSTANT_VERSION_1, MOST_LOCATIONS, MOST_STARTS, MOST_TESTS, MOST_TICKS, MOST_TIMERS, MOST_TRANSITIONS,
-    TIMERS,
+    COUNTER_LARGEST_CONSTANT, COUNTER_READINGS, LARGEST_CONSTANT_VERSION_1, MOST_LOCATIONS, MOST_STARTS, MOST_TESTS,
+    MOST_TICKS, MOST_TIMERS, MOST_TRANSITIONS, TIMERS,
 };
 use crate::version::Version;
 
@@ -230,6 +230,18 @@ pub fn store_large(random: &mut Random, drawing: &mut Drawing, whole: u64) {
     for test in drawing.transitions.iter_mut().flat_map(|transition| &mut transition.tests) {
         if random.chance(1, whole) {
             test.2 = random.pick(&LARGE_CONSTANTS);
+        }
+    }
+}
+
+/// Gives about one in `whole` of a chart's tests a constant about the largest that the counter board takes; a few are
+/// one larger, in version 2, and such a chart is refused there.
+pub fn store_about_counter(random: &mut Random, drawing: &mut Drawing, whole: u64) {
+    let most = COUNTER_LARGEST_CONSTANT;
+    let beyond = most + u32::from(drawing.version == Version::Two as u8 && random.chance(1, 4));
+    for test in drawing.transitions.iter_mut().flat_map(|transition| &mut transition.tests) {
+        if random.chance(1, whole) {
+            test.2 = random.pick(&[most - 1, most, most, beyond]);
         }
     }
 }
@@ -611,6 +623,46 @@ impl Steps {
 /// Steps that a chart takes from the initial location, as far as they are found: at most `most`, with waits of at most
 /// `wait` ticks and, if `due`, often up to a constant of the tests.
 pub fn run(random: &mut Random, drawing: &Drawing, most: usize, wait: u64, due: bool) -> Steps {
+    let time = |random: &mut Random, transition: &Arrow, now: u64, started: &[u64; TIMERS]| {
+        let mut time = now + random.below(wait + 1);
+        if due && !transition.tests.is_empty() && random.chance(2, 3) {
+            time = due_time(random, transition, started).max(now);
+        }
+        time
+    };
+    run_at(random, drawing, most, u64::from(MOST_TICKS), time)
+}
+
+/// Steps that the counter board takes, as far as they are found: at most `most`. Fewer than [`COUNTER_READINGS`] ticks
+/// pass at each, often just so many, none at all, or up to a constant of the tests. Their times have no limit.
+pub fn counter_run(random: &mut Random, drawing: &Drawing, most: usize) -> Steps {
+    let most_ticks = u64::from(COUNTER_READINGS) - 1;
+    let time = |random: &mut Random, transition: &Arrow, now: u64, started: &[u64; TIMERS]| {
+        let any = random.between(0, most_ticks);
+        let mut wait = random.pick(&[0, 0, 1, 5, any, any, most_ticks - 1, most_ticks]);
+        if !transition.tests.is_empty() && random.chance(2, 3) {
+            wait = due_time(random, transition, started).saturating_sub(now).min(most_ticks);
+        }
+        now + wait
+    };
+    run_at(random, drawing, most, u64::MAX, time)
+}
+
+/// The time at which the count of a tested timer is its constant, or one tick later.
+fn due_time(random: &mut Random, transition: &Arrow, started: &[u64; TIMERS]) -> u64 {
+    let (timer, _, constant) = random.pick(&transition.tests);
+    started[usize::from(timer)] + u64::from(constant) + random.below(2)
+}
+
+/// Steps that a chart takes from the initial location, as far as they are found: at most `most`, none later than
+/// `latest`. `time` proposes a time for a transition, from the present one and that at which each timer was started.
+fn run_at(
+    random: &mut Random,
+    drawing: &Drawing,
+    most: usize,
+    latest: u64,
+    time: impl Fn(&mut Random, &Arrow, u64, &[u64; TIMERS]) -> u64,
+) -> Steps {
     let mut leaving = vec![Vec::new(); usize::from(drawing.locations)];
     for (index, transition) in drawing.transitions.iter().enumerate() {
         leaving[usize::from(transition.source)].push(index);
@@ -628,12 +680,7 @@ pub fn run(random: &mut Random, drawing: &Drawing, most: usize, wait: u64, due: 
         for _ in 0..60 {
             let index = random.pick(choices);
             let transition = &drawing.transitions[index];
-            let mut time = now + random.below(wait + 1);
-            if due && !transition.tests.is_empty() && random.chance(2, 3) {
-                let (timer, _, constant) = random.pick(&transition.tests);
-                let due = started[usize::from(timer)] + u64::from(constant) + random.below(2);
-                time = due.max(now);
-            }
+            let time = time(random, transition, now, &started);
             let met = |&(timer, code, constant): &(u8, u8, u32)| {
                 let count = time - started[usize::from(timer)];
                 let constant = u64::from(constant);
@@ -645,7 +692,7 @@ pub fn run(random: &mut Random, drawing: &Drawing, most: usize, wait: u64, due: 
                     _ => count == constant,
                 }
             };
-            if time <= u64::from(MOST_TICKS) && transition.tests.iter().all(met) {
+            if time <= latest && transition.tests.iter().all(met) {
                 for &timer in &transition.starts {
                     started[usize::from(timer)] = time;
                 }
@@ -677,10 +724,12 @@ pub fn lengthen(random: &mut Random, drawing: &Drawing, steps: &mut Steps) {
         let mut time = random.pick(&[last, last, last + 1, last + 2, last + 5, last + 100, early, most + 1]);
         let tests = &drawing.transitions[transition as usize].tests;
         if !tests.is_empty() && random.chance(2, 3) {
-            // A tick before, at or after the one at which the count is the constant, as near as a step may be.
+            // A tick before, at or after the one at which the count is the constant, or the largest constant that the
+            // counter board takes, as near as a step may be.
             let (timer, _, constant) = random.pick(tests);
-            let due = last_start(drawing, steps, timer) + u64::from(constant) + random.below(3);
-            time = due.saturating_sub(1).clamp(last, most);
+            let count = random.pick(&[constant, constant, constant, COUNTER_LARGEST_CONSTANT]);
+            let due = last_start(drawing, steps, timer) + u64::from(count) + random.below(3);
+            time = due.saturating_sub(1).clamp(last, most.max(last));
         }
         steps.push(transition, time);
     }
@@ -719,13 +768,94 @@ pub fn spoil_steps(random: &mut Random, steps: &mut Steps, transitions: u32) {
     }
 }
 
+/// A step list for the counter board: transition numbers and readings of the counter.
+#[derive(Clone, Debug, Default)]
+pub struct CounterSteps {
+    /// The reading at tick 0.
+    pub first: u16,
+    pub transitions: Vec<u32>,
+    pub readings: Vec<u16>,
+}
+
+impl CounterSteps {
+    /// The same steps, as a counter that shows `first` at tick 0 shows their times.
+    pub fn of(steps: &Steps, first: u16) -> CounterSteps {
+        let reading = |&time: &u64| first.wrapping_add(time as u16);
+        CounterSteps {
+            first,
+            transitions: steps.transitions.clone(),
+            readings: steps.times.iter().map(reading).collect(),
+        }
+    }
+
+    pub fn push(&mut self, transition: u32, reading: u16) {
+        self.transitions.push(transition);
+        self.readings.push(reading);
+    }
+
+    /// The reading before a step: that of the step before it or, of the first one, that at tick 0.
+    pub fn before(&self, step: usize) -> u16 {
+        step.checked_sub(1).map_or(self.first, |last| self.readings[last])
+    }
+}
+
+/// Whether the times never fall, none is over [`MOST_TICKS`], and fewer than [`COUNTER_READINGS`] ticks pass at each
+/// step, at the first from tick 0. The counter board is to take the player's steps then.
+pub fn keeps_provisos(times: &[u64]) -> bool {
+    let follows = |(&time, &last): (&u64, &u64)| {
+        time <= u64::from(MOST_TICKS) && (last..last + u64::from(COUNTER_READINGS)).contains(&time)
+    };
+    times.iter().zip([0].iter().chain(times)).all(follows)
+}
+
+/// Delays the steps from some step on, by about the ticks after which a counter shows the same reading again.
+pub fn delay(random: &mut Random, steps: &mut Steps) {
+    let from = random.below(steps.times.len() as u64 + 1) as usize;
+    let around = u64::from(COUNTER_READINGS);
+    let ticks = random.pick(&[around - 1, around, around, around + 1, 2 * around]);
+    steps.times[from..].iter_mut().for_each(|time| *time += ticks);
+}
+
+/// The reading at tick 0: any, or one about the wrap.
+pub fn first_reading(random: &mut Random) -> u16 {
+    let any = random.word() as u16;
+    random.pick(&[any, any, any, 0, 1, u16::MAX - 5, u16::MAX - 1, u16::MAX])
+}
+
+/// Spoils a step list of the counter board, or lengthens it by a step that is likely to be refused.
+pub fn spoil_counter_steps(random: &mut Random, steps: &mut CounterSteps, transitions: u32) {
+    let any = random.below(u64::from(transitions.max(1))) as u32;
+    let any_reading = random.word() as u16;
+    let at = random.below(steps.readings.len() as u64 + 1) as usize;
+    let last = steps.before(steps.readings.len());
+    match random.below(10) {
+        0 => steps.push(any, last.wrapping_add(random.below(5) as u16)),
+        1 => steps.push(random.pick(&[transitions, transitions + 1, (1 << 16) + any, u32::MAX]), any_reading),
+        2 => steps.push(any, random.pick(&[last, last.wrapping_sub(1), any_reading])),
+        3 => drop(steps.readings.pop()),
+        4 => steps.readings.push(any_reading),
+        5 => steps.first = any_reading,
+        6 => (0..at).for_each(|step| steps.readings[step] = random.word() as u16),
+        _ if at == steps.readings.len() => steps.push(any, last),
+        7 => {
+            let reading = steps.readings[at];
+            let before = steps.before(at);
+            let near = [reading.wrapping_add(1), reading.wrapping_sub(1), before.wrapping_sub(1), before, any_reading];
+            steps.readings[at] = random.pick(&near);
+        }
+        8 => steps.transitions[at] = any,
+        _ => steps.transitions[at] = transitions,
+    }
+}
+
 /// Starting counts; a few lists are too short, too long or hold a count that is too large.
 pub fn counts(random: &mut Random, timers: usize, good: bool) -> Vec<u32> {
     let mut counts: Vec<u32> = (0..timers)
-        .map(|_| match random.below(4) {
+        .map(|_| match random.below(5) {
             0 => MOST_TICKS,
             1 => random.below(20) as u32,
             2 => 0,
+            3 => COUNTER_LARGEST_CONSTANT - 1 + random.below(4) as u32,
             _ => random.between(0, u64::from(MOST_TICKS)) as u32,
         })
         .collect();

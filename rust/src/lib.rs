@@ -11,6 +11,7 @@
 //! - [`floor`]: the fewest timers of any plan, or the fullest live set;
 //! - [`rewriting`]: the chart's file for a board of K timers;
 //! - [`player`]: a step list, played on a file;
+//! - [`counter`]: the same on readings of a counter, for a board without timers;
 //! - [`controller`]: one to eight heads, driven by events and turns;
 //! - [`listing`]: the program's text from its whole input;
 //! - [`limits`]: the numbers that limit all of these.
@@ -26,6 +27,7 @@
 pub mod analysis;
 pub mod chart;
 pub mod controller;
+pub mod counter;
 pub mod drawing;
 pub mod floor;
 pub mod generator;

@@ -7,6 +7,7 @@
 
 use crate::analysis::Analysis;
 use crate::controller::{Board, Parts, Report, SetUp, Start, State, Turn};
+use crate::counter::CounterPlaying;
 use crate::ffi;
 use crate::player::Playing;
 use crate::refusal::{Answer, Refusal};
@@ -53,6 +54,32 @@ pub fn play(file: &[u8], counts: &[u32], transitions: &[u32], times: &[u64]) -> 
     };
     let ffi::ChartPlaying { number, place, location, time, accepting } = answered;
     answer(number, place, Playing { location, time, accepting: accepting != 0 })
+}
+
+/// [`crate::counter::play_counter`] by the proved library.
+pub fn play_counter(
+    file: &[u8],
+    counts: &[u32],
+    transitions: &[u32],
+    first: u16,
+    readings: &[u16],
+) -> Answer<CounterPlaying> {
+    // SAFETY: the slices are valid for their lengths during the call.
+    let answered = unsafe {
+        ffi::chart_play_counter(
+            file.as_ptr(),
+            file.len(),
+            counts.as_ptr(),
+            counts.len(),
+            transitions.as_ptr(),
+            transitions.len(),
+            first,
+            readings.as_ptr(),
+            readings.len(),
+        )
+    };
+    let ffi::ChartCounterPlaying { number, place, location, accepting } = answered;
+    answer(number, place, CounterPlaying { location, accepting: accepting != 0 })
 }
 
 /// [`crate::controller::set_up`] by the proved library.
@@ -145,6 +172,32 @@ mod tests {
             let ffi::ChartAnalysis { used, floor, searched, rounds, .. } = answered;
             assert_eq!((answered.number, [used, floor, searched, rounds]), (number, [0; 4]));
         }
+    }
+
+    #[test]
+    fn the_figures_of_a_refused_step_list_are_0() {
+        let (file, counts, transitions) = (chart_b().file(), [0; 2], [0, 1]);
+        let play = |first: u16, readings: &[u16]| {
+            // SAFETY: the slices are valid for their lengths during the call.
+            let answered = unsafe {
+                ffi::chart_play_counter(
+                    file.as_ptr(),
+                    file.len(),
+                    counts.as_ptr(),
+                    counts.len(),
+                    transitions.as_ptr(),
+                    transitions.len(),
+                    first,
+                    readings.as_ptr(),
+                    readings.len(),
+                )
+            };
+            let ffi::ChartCounterPlaying { number, place, location, accepting } = answered;
+            [number, place, location, accepting]
+        };
+        assert_eq!(play(65_530, &[65_535, 2]), [24, 1, 0, 0]);
+        assert_eq!(play(65_530, &[65_535]), [13, 65_535, 0, 0]);
+        assert_eq!(play(65_530, &[65_535, 1]), [0, 0, 2, 0]);
     }
 
     #[test]

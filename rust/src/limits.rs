@@ -1,5 +1,5 @@
 //! The limits that document 01 sets to a chart, its file, its step lists, the program's input and a refusal's place, and
-//! document 02 to the search for the floor, to files of version 2 and to a controller's heads.
+//! document 02 to the search for the floor, to files of version 2, to a controller's heads and to the counter board.
 
 /// The most locations of a chart.
 pub const MOST_LOCATIONS: u16 = 256;
@@ -42,6 +42,15 @@ pub const MOST_SEARCHED: usize = 20;
 
 /// The most heads that a controller drives.
 pub const MOST_HEADS: usize = 8;
+
+/// How many readings the counter board's counter has, 0 first: after so many ticks it shows the same one again.
+pub const COUNTER_READINGS: u32 = 65_536;
+
+/// The largest constant of a test that the counter board takes.
+pub const COUNTER_LARGEST_CONSTANT: u32 = 65_535;
+
+/// The largest count on the counter board: counts stop rising there.
+pub const COUNTER_LARGEST_COUNT: u32 = 65_536;
 
 /// The entries of a table with one for each location that a chart can have.
 pub const LOCATIONS: usize = MOST_LOCATIONS as usize;

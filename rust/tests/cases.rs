@@ -9,6 +9,7 @@ use std::collections::BTreeMap;
 
 use timing_chart::analysis::{self, Analysis};
 use timing_chart::controller::{self, Board, Head, Parts, Report, SetUp, Start, State, Turn};
+use timing_chart::counter::{self, CounterPlaying};
 use timing_chart::limits::{LARGEST_FILE, LOCATIONS};
 use timing_chart::listing::listing;
 use timing_chart::lists::{self, Header, Lists};
@@ -17,8 +18,8 @@ use timing_chart::rewriting::{self, Rewriting};
 use timing_chart::{Answer, Refusal};
 
 /// The cases that hold now: of each file how many there are, and how many of them expect a number of rounds.
-const CASES: [(&str, usize, usize); 4] =
-    [("p01.jsonl", 48, 0), ("p02.jsonl", 125, 0), ("p03.jsonl", 52, 52), ("p04.jsonl", 81, 0)];
+const CASES: [(&str, usize, usize); 5] =
+    [("p01.jsonl", 48, 0), ("p02.jsonl", 125, 0), ("p03.jsonl", 52, 52), ("p04.jsonl", 81, 0), ("p05.jsonl", 86, 0)];
 
 /// JSON as the cases have it: whole numbers, and texts with no escape but `\n`.
 #[derive(Clone, Debug, PartialEq)]
@@ -163,6 +164,7 @@ impl Json {
 type Analyse = fn(&[u8], &mut [u64]) -> Answer<Analysis>;
 type Rewrite = fn(&[u8], u32, &mut [u8]) -> Answer<Rewriting>;
 type Play = fn(&[u8], &[u32], &[u32], &[u64]) -> Answer<Playing>;
+type PlayCounter = fn(&[u8], &[u32], &[u32], u16, &[u16]) -> Answer<CounterPlaying>;
 type Receive = fn(&mut State, &Board, u32, u8, u64) -> Answer<()>;
 type TakeTurn = fn(&mut State, &Board) -> Answer<Turn>;
 type Write = fn(&Header, &Lists, &mut [u8]) -> Answer<usize>;
@@ -172,6 +174,7 @@ struct Calls {
     analyse: Analyse,
     rewrite: Rewrite,
     play: Play,
+    play_counter: PlayCounter,
     set_up: fn(&mut State, &Board, &[u32], &Parts) -> Answer<()>,
     event: Receive,
     turn: TakeTurn,
@@ -188,6 +191,7 @@ impl Calls {
             "analysis" => self.check_analysis(case),
             "rewriting" => self.check_rewriting(case),
             "play" => self.check_play(case),
+            "cheap" => self.check_play_counter(case),
             "controller" => self.check_controller(case),
             "turn" => {
                 self.check_turn(case, case, state_of(case, case.get("state").expect("a state")));
@@ -247,6 +251,18 @@ impl Calls {
         let expected = case.expected(|answer| {
             let (location, time) = (answer.number("location"), answer.number("time"));
             Playing { location, time, accepting: answer.is("accepting") }
+        });
+        assert_eq!(answer, expected);
+    }
+
+    fn check_play_counter(&self, case: &Json) {
+        let (counts, transitions) = (case.numbers::<u32>("counts"), case.numbers::<u32>("transitions"));
+        let (first, readings) = (case.number("first"), case.numbers::<u16>("readings"));
+        let first = u16::try_from(first).expect("a reading has 16 bits");
+        let answer = (self.play_counter)(&case.bytes("file"), &counts, &transitions, first, &readings);
+        let expected = case.expected(|answer| {
+            let location = answer.number("location");
+            CounterPlaying { location, accepting: answer.is("accepting") }
         });
         assert_eq!(answer, expected);
     }
@@ -404,15 +420,17 @@ fn check_write(write: Write, case: &Json) {
 #[test]
 fn this_crate_answers_so() {
     let (analyse, rewrite, play, write) = (analysis::analyse, rewriting::rewrite, player::play, lists::write);
+    let play_counter = counter::play_counter;
     let (set_up, event, turn) = (controller::set_up, controller::event, controller::turn);
-    Calls { analyse, rewrite, play, set_up, event, turn, print: listing, write: Some(write) }.check_all();
+    Calls { analyse, rewrite, play, play_counter, set_up, event, turn, print: listing, write: Some(write) }.check_all();
 }
 
 #[cfg(feature = "library")]
 #[test]
 fn the_proved_library_and_the_program_answer_so() {
-    use timing_chart::library::{analyse, event, play, rewrite, set_up, turn};
-    Calls { analyse, rewrite, play, set_up, event, turn, print: print_by_program, write: None }.check_all();
+    use timing_chart::library::{analyse, event, play, play_counter, rewrite, set_up, turn};
+    let (print, write) = (print_by_program, None);
+    Calls { analyse, rewrite, play, play_counter, set_up, event, turn, print, write }.check_all();
 }
 
 /// What the program prints for an input that is no longer than it reads.

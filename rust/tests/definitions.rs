@@ -5,7 +5,8 @@ use std::collections::BTreeSet;
 
 use timing_chart::analysis::{analyse, Analysis};
 use timing_chart::chart::Chart;
-use timing_chart::drawing::{chart_a, chart_b, chart_c, over_floor, Arrow, Drawing};
+use timing_chart::counter::{play_counter, CounterPlaying};
+use timing_chart::drawing::{chart_a, chart_b, chart_c, dwell, over_floor, self_loop, Arrow, Drawing, AT_LEAST};
 use timing_chart::generator::*;
 use timing_chart::limits::{
     LARGEST_CONSTANT_VERSION_1, LARGEST_FILE, LOCATIONS, MOST_LOCATIONS, MOST_SEARCHED, MOST_TESTS, MOST_TICKS,
@@ -14,6 +15,7 @@ use timing_chart::limits::{
 use timing_chart::lists::{self, Header, LentLists, Lists};
 use timing_chart::player::{play, Playing};
 use timing_chart::rewriting::{rewrite, Rewriting};
+use timing_chart::tally::{number_of, ByNumber};
 use timing_chart::version::Version;
 use timing_chart::{Answer, Refusal, NOWHERE};
 
@@ -187,16 +189,30 @@ impl Planned {
     }
 }
 
-fn played(drawing: &Drawing, counts: &[u32], steps: &Steps) -> Answer<Playing> {
+/// 12 and 13 of a step list whose lists have these lengths.
+fn judged_lists(drawing: &Drawing, counts: &[u32], transitions: usize, times: usize) -> Answer<()> {
     if counts.len() != usize::from(drawing.timers) {
         return Err(Refusal { number: 12, place: NOWHERE });
     }
     if let Some(place) = counts.iter().position(|&count| count > MOST_TICKS) {
         return Err(Refusal { number: 12, place: place as u64 });
     }
-    if steps.transitions.len() != steps.times.len() {
+    if transitions != times {
         return Err(Refusal { number: 13, place: NOWHERE });
     }
+    Ok(())
+}
+
+/// Whether all tests of a transition are met by these counts.
+fn all_met(transition: &Arrow, counts: &[u64]) -> bool {
+    transition.tests.iter().all(|&(timer, code, constant)| {
+        let (count, constant) = (counts[usize::from(timer)], u64::from(constant));
+        [count <= constant, count < constant, count >= constant, count > constant, count == constant][usize::from(code)]
+    })
+}
+
+fn played(drawing: &Drawing, counts: &[u32], steps: &Steps) -> Answer<Playing> {
+    judged_lists(drawing, counts, steps.transitions.len(), steps.times.len())?;
     let mut counts: Vec<u64> = counts.iter().map(|&count| u64::from(count)).collect();
     let (mut location, mut now) = (drawing.initial, 0);
     for (step, (&transition, &time)) in steps.transitions.iter().zip(&steps.times).enumerate() {
@@ -217,12 +233,8 @@ fn played(drawing: &Drawing, counts: &[u32], steps: &Steps) -> Answer<Playing> {
         for count in &mut counts {
             *count += time - now;
         }
-        for &(timer, code, constant) in &transition.tests {
-            let (count, constant) = (counts[usize::from(timer)], u64::from(constant));
-            let met = [count <= constant, count < constant, count >= constant, count > constant, count == constant];
-            if !met[usize::from(code)] {
-                return refused(24);
-            }
+        if !all_met(transition, &counts) {
+            return refused(24);
         }
         for &timer in &transition.starts {
             counts[usize::from(timer)] = 0;
@@ -230,6 +242,55 @@ fn played(drawing: &Drawing, counts: &[u32], steps: &Steps) -> Answer<Playing> {
         (location, now) = (transition.target, time);
     }
     Ok(Playing { location: u64::from(location), time: now, accepting: drawing.accepting.contains(&location) })
+}
+
+/// How often a step's tests read a count that had stopped on the counter board, and were met or were not.
+#[derive(Default)]
+struct Stopped {
+    met: u64,
+    not_met: u64,
+}
+
+/// The counter board: a location, the last reading and the counts.
+fn counter_played(
+    drawing: &Drawing,
+    counts: &[u32],
+    steps: &CounterSteps,
+    stopped: &mut Stopped,
+) -> Answer<CounterPlaying> {
+    judged_lists(drawing, counts, steps.transitions.len(), steps.readings.len())?;
+    if drawing.transitions.iter().flat_map(|transition| &transition.tests).any(|test| test.2 > 65_535) {
+        return Err(Refusal { number: 18, place: NOWHERE });
+    }
+    let mut counts: Vec<u64> = counts.iter().map(|&count| u64::from(count)).collect();
+    let (mut location, mut last) = (drawing.initial, u64::from(steps.first));
+    for (step, (&transition, &reading)) in steps.transitions.iter().zip(&steps.readings).enumerate() {
+        let refused = |number| Err(Refusal { number, place: step as u64 });
+        if transition as usize >= drawing.transitions.len() {
+            return refused(14);
+        }
+        let transition = &drawing.transitions[transition as usize];
+        if transition.source != location {
+            return refused(22);
+        }
+        let now = u64::from(reading);
+        let ticks = (now + 65_536 - last) % 65_536;
+        for count in &mut counts {
+            *count = (*count + ticks).min(65_536);
+        }
+        let is_met = all_met(transition, &counts);
+        if transition.tests.iter().any(|test| counts[usize::from(test.0)] == 65_536) {
+            *(if is_met { &mut stopped.met } else { &mut stopped.not_met }) += 1;
+        }
+        if !is_met {
+            return refused(24);
+        }
+        for &timer in &transition.starts {
+            counts[usize::from(timer)] = 0;
+        }
+        (location, last) = (transition.target, now);
+    }
+    Ok(CounterPlaying { location: u64::from(location), accepting: drawing.accepting.contains(&location) })
 }
 
 /// Random charts, most of them accepted, some with a test or a transition too many or too few.
@@ -264,6 +325,7 @@ fn check_analysis_and_rewriting(random: &mut Random, drawing: &Drawing) -> Optio
         assert_eq!(analyse(&file, &mut live), Err(refusal));
         assert_eq!(rewrite(&file, 99, &mut out), Err(refusal));
         assert_eq!(play(&file, &[], &[], &[0]), Err(refusal));
+        assert_eq!(play_counter(&file, &[], &[], 0, &[0]), Err(refusal));
         assert!(live.iter().all(|&word| word == 5) && out.iter().all(|&byte| byte == 6));
         return None;
     }
@@ -397,6 +459,181 @@ fn the_player_follows_the_definitions_and_boards_play_alike() {
     }
     assert!(taken > 500, "{taken}");
     assert!(large.iter().all(|&count| count > 20), "{large:?}");
+}
+
+/// The counter board of this crate on such a list.
+fn on_counter_board(file: &[u8], counts: &[u32], steps: &CounterSteps) -> Answer<CounterPlaying> {
+    play_counter(file, counts, &steps.transitions, steps.first, &steps.readings)
+}
+
+/// Random charts that pass 1 to 10, half of them with constants about the largest that the counter board takes.
+fn counter_drawings(random: &mut Random, count: usize) -> Vec<Drawing> {
+    let mut drawings: Vec<Drawing> = drawings(random, count, 10).filter(|drawing| judged(drawing).is_ok()).collect();
+    for drawing in drawings.iter_mut().step_by(2) {
+        let whole = random.pick(&[1, 3, 10]);
+        store_about_counter(random, drawing, whole);
+    }
+    drawings
+}
+
+#[test]
+fn the_counter_board_follows_the_definitions() {
+    let mut random = Random::new(10);
+    let (mut numbers, mut stopped) = (ByNumber::default(), Stopped::default());
+    let (mut wrapped, mut long) = (0, 0);
+    for drawing in counter_drawings(&mut random, 2_500) {
+        for _ in 0..4 {
+            let most = random.pick(&[30, 30, 30, 1_000]);
+            let mut steps = if random.chance(2, 3) {
+                counter_run(&mut random, &drawing, most)
+            } else {
+                run(&mut random, &drawing, most, 70_000, true)
+            };
+            match random.below(4) {
+                0 => lengthen(&mut random, &drawing, &mut steps),
+                1 => delay(&mut random, &mut steps),
+                _ => {}
+            }
+            let mut steps = CounterSteps::of(&steps, first_reading(&mut random));
+            if random.chance(1, 3) {
+                spoil_counter_steps(&mut random, &mut steps, drawing.transitions.len() as u32);
+            }
+            let is_good = random.chance(7, 8);
+            let start = counts(&mut random, usize::from(drawing.timers), is_good);
+            let answer = on_counter_board(&drawing.file(), &start, &steps);
+            assert_eq!(answer, counter_played(&drawing, &start, &steps, &mut stopped));
+            numbers[number_of(&answer)] += 1;
+            if answer.is_ok() {
+                let taken = || 0..steps.readings.len();
+                wrapped += taken().filter(|&step| steps.readings[step] < steps.before(step)).count();
+                let ticks = taken().map(|step| u64::from(steps.readings[step].wrapping_sub(steps.before(step))));
+                long += u64::from(ticks.sum::<u64>() > u64::from(MOST_TICKS));
+            }
+        }
+    }
+    let came: Vec<usize> = ByNumber::NUMBERS.filter(|&number| numbers[number] > 20).collect();
+    assert_eq!(came, [0, 12, 13, 14, 18, 22, 24], "{numbers:?}");
+    let Stopped { met, not_met } = stopped;
+    assert!(wrapped > 1_000 && long > 100 && met > 1_000 && not_met > 50, "{wrapped} {long} {met} {not_met}");
+}
+
+/// The answer of the player as the counter board gives it: without the time.
+fn without_time(answer: Answer<Playing>) -> Answer<CounterPlaying> {
+    answer.map(|Playing { location, accepting, .. }| CounterPlaying { location, accepting })
+}
+
+#[test]
+fn within_the_provisos_the_counter_board_takes_the_players_steps() {
+    let mut random = Random::new(11);
+    let (mut numbers, mut over, mut boards) = (ByNumber::default(), 0, 0);
+    for drawing in counter_drawings(&mut random, 2_500) {
+        let file = drawing.file();
+        let mut board = vec![0; file.len()];
+        let used = rewrite(&file, 64, &mut board).map(|Rewriting { used, length }| {
+            board.truncate(length as usize);
+            used as usize
+        });
+        let large = Chart::read(&file).unwrap().largest_constant() > Some(65_535);
+        for _ in 0..4 {
+            let mut steps = if random.chance(1, 2) {
+                counter_run(&mut random, &drawing, 200)
+            } else {
+                run(&mut random, &drawing, 200, 65_535, true)
+            };
+            if random.chance(1, 2) {
+                steps.cut(&mut random);
+                lengthen(&mut random, &drawing, &mut steps);
+            }
+            if random.chance(1, 4) {
+                spoil_steps(&mut random, &mut steps, drawing.transitions.len() as u32);
+            }
+            if !keeps_provisos(&steps.times) {
+                continue;
+            }
+            let mut start = || counts(&mut random, usize::from(drawing.timers), true);
+            let (for_player, for_counter) = (start(), start());
+            let answer = without_time(play(&file, &for_player, &steps.transitions, &steps.times));
+            let counter_steps = CounterSteps::of(&steps, first_reading(&mut random));
+            let counter_answer = on_counter_board(&file, &for_counter, &counter_steps);
+            if large {
+                let unequal = steps.transitions.len() != steps.times.len();
+                let number = if unequal { 13 } else { 18 };
+                assert_eq!(counter_answer, Err(Refusal { number, place: NOWHERE }));
+                over += 1;
+                continue;
+            }
+            assert_eq!(counter_answer, answer);
+            numbers[number_of(&answer)] += u64::from(!steps.times.is_empty());
+            if let Ok(used) = used {
+                let for_board = counts(&mut random, used, true);
+                assert_eq!(on_counter_board(&board, &for_board, &counter_steps), answer);
+                boards += 1;
+            }
+        }
+    }
+    // 15 and 23 cannot come: the provisos exclude them.
+    let came: Vec<usize> = ByNumber::NUMBERS.filter(|&number| numbers[number] > 20).collect();
+    assert_eq!(came, [0, 13, 14, 22, 24], "{numbers:?}");
+    assert!(over > 100 && boards > 1_000 && numbers[0] > 1_000, "{over} {boards} {numbers:?}");
+}
+
+#[test]
+fn each_proviso_is_needed() {
+    let both = |drawing: &Drawing, transitions: &[u32], times: &[u64]| {
+        let steps = Steps { transitions: transitions.to_vec(), times: times.to_vec() };
+        let counts = vec![0; usize::from(drawing.timers)];
+        let file = drawing.file();
+        let counter = on_counter_board(&file, &counts, &CounterSteps::of(&steps, 65_530));
+        (without_time(play(&file, &counts, transitions, times)), counter)
+    };
+    let refused = |number, place| Err(Refusal { number, place });
+    let ends = Ok(CounterPlaying { location: 2, accepting: true });
+    // A time falls.
+    assert_eq!(both(&dwell(AT_LEAST, 1), &[0, 1], &[5, 4]), (refused(23, 1), ends));
+    // A time is over 16,777,215, though never more than 65,535 ticks pass.
+    let late: Vec<u64> = (1..=257).map(|step| 65_535 * step).collect();
+    let stays = Ok(CounterPlaying { location: 0, accepting: true });
+    assert_eq!(both(&self_loop(), &[0; 256], &late[..256]), (stays, stays));
+    assert_eq!(both(&self_loop(), &[0; 257], &late), (refused(15, 256), stays));
+    // 65,536 ticks pass at a step, which look like none.
+    assert_eq!(both(&dwell(AT_LEAST, 1), &[0, 1], &[5, 65_540]), (ends, ends));
+    assert_eq!(both(&dwell(AT_LEAST, 1), &[0, 1], &[5, 65_541]), (ends, refused(24, 1)));
+    // A constant is over 65,535, here on a step that takes two waits.
+    let mut waits = dwell(AT_LEAST, 65_536);
+    waits.transitions.push(Arrow::new(1, 1));
+    assert_eq!(both(&waits, &[0, 2, 1], &[5, 10, 65_541]), (ends, refused(18, NOWHERE)));
+    waits.transitions[1].tests[0].2 = 65_535;
+    assert_eq!(both(&waits, &[0, 2, 1], &[5, 10, 65_541]), (ends, ends));
+}
+
+#[test]
+fn the_wait_before_the_first_step_may_be_anything() {
+    let mut random = Random::new(12);
+    let mut taken = 0;
+    for drawing in counter_drawings(&mut random, 1_000) {
+        // Nothing was started there, so that a test would be unstarted (10).
+        let leaves = |transition: &&Arrow| transition.source == drawing.initial;
+        assert!(drawing.transitions.iter().filter(leaves).all(|transition| transition.tests.is_empty()));
+        let mut steps = counter_run(&mut random, &drawing, 30);
+        lengthen(&mut random, &drawing, &mut steps);
+        let mut counter_steps = CounterSteps::of(&steps, 0);
+        let start = counts(&mut random, usize::from(drawing.timers), true);
+        let answer = on_counter_board(&drawing.file(), &start, &counter_steps);
+        for _ in 0..4 {
+            counter_steps.first = first_reading(&mut random);
+            assert_eq!(on_counter_board(&drawing.file(), &start, &counter_steps), answer);
+        }
+        // The player takes them as well, however late they come.
+        if keeps_provisos(&steps.times) && number_of(&answer) != 18 {
+            let late = u64::from(MOST_TICKS) - steps.times.last().unwrap_or(&0);
+            let late = random.between(0, late);
+            steps.times.iter_mut().for_each(|time| *time += late);
+            let played = play(&drawing.file(), &start, &steps.transitions, &steps.times);
+            assert_eq!(without_time(played), answer);
+            taken += u64::from(answer.is_ok() && late > 65_535);
+        }
+    }
+    assert!(taken > 100, "{taken}");
 }
 
 /// Whether a transition has tests, all of them with large constants: version 1 does not hold them.

@@ -2,6 +2,7 @@
 
 use timing_chart::analysis::{self, analyse, Analysis};
 use timing_chart::chart::{Chart, Comparison};
+use timing_chart::counter::{play_counter, CounterPlaying};
 use timing_chart::drawing::*;
 use timing_chart::generator::{
     five_groups, hardest_floor, longest, many_numbers, meetings, pairs, sixty_five_numbers, Random,
@@ -228,6 +229,157 @@ fn places_of_steps_are_not_cut() {
     transitions[65_535] = 0;
     transitions[69_999] = 1;
     assert_eq!(play(&drawing.file(), &[], &transitions, &times), refused(14, 69_999));
+}
+
+/// Where a step list ends on the counter board.
+fn at(location: u64, accepting: bool) -> Answer<CounterPlaying> {
+    Ok(CounterPlaying { location, accepting })
+}
+
+#[test]
+fn chart_b_is_played_by_the_counter_board() {
+    let file = chart_b().file();
+    let board = rewritten(&chart_b(), 1).unwrap();
+    for (file, counts) in [(&file, vec![0, 0]), (&file, vec![16_777_215; 2]), (&board, vec![16_777_215])] {
+        let played = |transitions: &[u32], first: u16, readings: &[u16]| {
+            play_counter(file, &counts, transitions, first, readings)
+        };
+        // Ticks 5, 2 and 1, whatever the counter shows at tick 0.
+        assert_eq!(played(&[0, 1, 2], 0, &[5, 7, 8]), at(3, true));
+        assert_eq!(played(&[0, 1, 2], 65_530, &[65_535, 1, 2]), at(3, true));
+        assert_eq!(played(&[0, 1, 2], 65_531, &[0, 2, 3]), at(3, true));
+        assert_eq!(played(&[0, 1, 2], 65_528, &[65_533, 65_535, 0]), at(3, true));
+        assert_eq!(played(&[0, 1], 0, &[5, 8]), refused(24, 1));
+        assert_eq!(played(&[0, 1], 65_530, &[65_535, 2]), refused(24, 1));
+        assert_eq!(played(&[0, 1, 2], 65_530, &[65_535, 1, 1]), refused(24, 2));
+        // A reading one lower than the last is 65,535 ticks later. (The player refuses times that fall.)
+        assert_eq!(played(&[0, 1], 0, &[5, 4]), refused(24, 1));
+        assert_eq!(played(&[0, 1, 2], 0, &[5, 7, 6]), at(3, true));
+        // The reading at tick 0 is no entry of the list.
+        assert_eq!(played(&[], 7, &[]), at(0, false));
+        assert_eq!(played(&[0], 7, &[]), refused(13, NOWHERE));
+        assert_eq!(played(&[0], 7, &[7, 8]), refused(13, NOWHERE));
+        assert_eq!(played(&[0], 7, &[8]), at(1, false));
+    }
+}
+
+#[test]
+fn the_counter_board_judges_as_the_player_without_15_and_23() {
+    let file = chart_b().file();
+    let played =
+        |counts: &[u32], transitions: &[u32], readings: &[u16]| play_counter(&file, counts, transitions, 0, readings);
+    assert_eq!(played(&[16_777_216, 0], &[], &[]), refused(12, 0));
+    assert_eq!(played(&[16_777_216], &[], &[]), refused(12, NOWHERE));
+    assert_eq!(played(&[0, 0, 0], &[], &[]), refused(12, NOWHERE));
+    assert_eq!(played(&[0, u32::MAX], &[0], &[]), refused(12, 1));
+    assert_eq!(played(&[0, 0], &[9], &[]), refused(13, NOWHERE));
+    assert_eq!(played(&[0, 0], &[3], &[0]), refused(14, 0));
+    assert_eq!(played(&[0, 0], &[u32::MAX], &[0]), refused(14, 0));
+    assert_eq!(played(&[0, 0], &[0, 0], &[5, 5]), refused(22, 1));
+    // 22 comes before 24, and a later step is not looked at before its turn.
+    assert_eq!(played(&[0, 0], &[0, 2], &[5, 5]), refused(22, 1));
+    assert_eq!(played(&[0, 0], &[1, 99], &[5, 5]), refused(22, 0));
+    assert_eq!(played(&[0, 0], &[0, 1, 99], &[5, 8, 9]), refused(24, 1));
+    // 1 to 10 come before the counts.
+    assert_eq!(play_counter(&[], &[], &[0], 0, &[]), refused(1, NOWHERE));
+    assert_eq!(play_counter(&chart_b().version(3).file(), &[], &[0], 0, &[]), refused(2, NOWHERE));
+    assert_eq!(play_counter(&never_started().file(), &[], &[0], 0, &[]), refused(10, 1));
+}
+
+#[test]
+fn counts_of_the_counter_board_stop_at_65_536() {
+    // The last step takes one of the transitions that test above, equal and at most 65,535.
+    let played = |readings: [u16; 3]| {
+        [2, 3, 4].map(|last| {
+            let [one, two] = [1, 2].map(|version| {
+                let file = three_tests(65_535).version(version).file();
+                play_counter(&file, &[16_777_215], &[0, 1, last], 0, &readings)
+            });
+            assert_eq!(one, two);
+            one
+        })
+    };
+    let (taken, not_met) = (at(3, true), refused(24, 2));
+    assert_eq!(played([0, 65_535, 65_535]), [not_met, taken, taken]);
+    assert_eq!(played([0, 65_534, 65_534]), [not_met, not_met, taken]);
+    assert_eq!(played([0, 65_535, 0]), [taken, not_met, not_met]);
+    // 80,000 ticks in two steps.
+    assert_eq!(played([0, 40_000, 14_464]), [taken, not_met, not_met]);
+    assert_eq!(played([0, 65_535, 65_534]), [taken, not_met, not_met]);
+    // 65,536 ticks in one step look like none.
+    assert_eq!(played([9, 9, 9]), [not_met, not_met, taken]);
+}
+
+#[test]
+fn counts_of_the_counter_board_stay_where_they_stop() {
+    let file = three_tests(65_535).file();
+    for around in [2, 3, 255, 256, 257, 258, 259, 513, 514, 515, 65_537, 70_000] {
+        for wait in [0, 1, 5] {
+            // 65,535 ticks each time around; the transition after them is tried `wait` ticks later.
+            let mut transitions = vec![5; around];
+            transitions.splice(0..0, [0]);
+            transitions.push(1);
+            let mut readings: Vec<u16> = (0..=around).map(|step| 0_u16.wrapping_sub(step as u16)).collect();
+            readings.push(readings[around].wrapping_add(wait));
+            let last = |transition: u32| {
+                let (mut transitions, mut readings) = (transitions.clone(), readings.clone());
+                transitions.push(transition);
+                readings.push(readings[around + 1]);
+                play_counter(&file, &[0], &transitions, 0, &readings)
+            };
+            let not_met = refused(24, around as u64 + 2);
+            assert_eq!([2, 3, 4].map(last), [at(3, true), not_met, not_met], "{around} {wait}");
+        }
+    }
+}
+
+#[test]
+fn a_constant_over_65_535_is_18_on_the_counter_board() {
+    for constant in [65_536, 65_537, 131_072, 16_777_216, 4_294_967_295] {
+        let file = three_tests(constant).file();
+        let played = |counts: &[u32], transitions: &[u32], readings: &[u16]| {
+            play_counter(&file, counts, transitions, 0, readings)
+        };
+        assert_eq!(played(&[0], &[], &[]), refused(18, NOWHERE));
+        // It comes before the steps, after 12 and 13.
+        assert_eq!(played(&[0], &[99], &[0]), refused(18, NOWHERE));
+        assert_eq!(played(&[0], &[0], &[]), refused(13, NOWHERE));
+        assert_eq!(played(&[], &[0], &[]), refused(12, NOWHERE));
+        assert_eq!(played(&[16_777_216], &[0], &[]), refused(12, 0));
+        // One such constant is enough, wherever it stands.
+        for transition in [2, 3, 4] {
+            let mut drawing = three_tests(65_535);
+            drawing.transitions[transition].tests[0].2 = constant;
+            assert_eq!(play_counter(&drawing.file(), &[0], &[0], 0, &[0]), refused(18, NOWHERE));
+        }
+    }
+    // 10 comes before it, and the player knows no such limit.
+    let unstarted = Drawing::new(2, 1, vec![Arrow::new(0, 1).tests(0, AT_LEAST, 65_536)]).version(2);
+    assert_eq!(play_counter(&unstarted.file(), &[0], &[], 0, &[]), refused(10, 0));
+    assert_eq!(play_counter(&three_tests(65_535).file(), &[0], &[], 0, &[]), at(0, false));
+    let end = Playing { location: 0, time: 0, accepting: false };
+    assert_eq!(play(&three_tests(65_536).file(), &[0], &[], &[]), Ok(end));
+}
+
+#[test]
+fn starting_counts_of_the_counter_board_have_the_players_limit() {
+    let file = three_tests(65_535).file();
+    for count in [0, 65_535, 65_536, 65_537, 16_777_215] {
+        assert_eq!(play_counter(&file, &[count], &[0], 100, &[50]), at(1, false));
+    }
+    assert_eq!(play_counter(&file, &[16_777_216], &[0], 100, &[50]), refused(12, 0));
+}
+
+#[test]
+fn places_of_steps_are_not_cut_on_the_counter_board() {
+    let file = Drawing::new(1, 0, vec![Arrow::new(0, 0)]).file();
+    let mut transitions = vec![0; 70_000];
+    let readings: Vec<u16> = (0..70_000).map(|step| (step * 3) as u16).collect();
+    assert_eq!(play_counter(&file, &[], &transitions, 9, &readings), at(0, true));
+    for step in [69_999, 65_536, 65_535] {
+        transitions[step] = 1;
+        assert_eq!(play_counter(&file, &[], &transitions, 9, &readings), refused(14, step as u64));
+    }
 }
 
 #[test]

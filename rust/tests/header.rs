@@ -35,11 +35,13 @@ fn limits() {
     assert_eq!(defined("CHART_MOST_HEADS"), MOST_HEADS as u64);
     assert!(library().contains(&format!("pub const MOST_HEADS: usize = {MOST_HEADS};")));
     assert_eq!(defined("CHART_MOST_TICKS"), u64::from(MOST_TICKS));
+    assert_eq!(defined("CHART_COUNTER_LARGEST_CONSTANT"), u64::from(COUNTER_LARGEST_CONSTANT));
+    assert_eq!(defined("CHART_COUNTER_LARGEST_COUNT"), u64::from(COUNTER_LARGEST_COUNT));
     assert_eq!(defined("CHART_NOWHERE"), NOWHERE);
 }
 
 /// The documents' numbers with the names that they have in C.
-const REFUSALS: [(&str, u64); 26] = [
+const REFUSALS: [(&str, u64); 27] = [
     ("CHART_NO_REFUSAL", 0),
     ("CHART_REFUSED_WRONG_LENGTH", 1),
     ("CHART_REFUSED_WRONG_VERSION", 2),
@@ -58,6 +60,7 @@ const REFUSALS: [(&str, u64); 26] = [
     ("CHART_REFUSED_TIME_TOO_LARGE", 15),
     ("CHART_REFUSED_INPUT_TOO_LONG", 16),
     ("CHART_REFUSED_CONSTANT_TOO_LARGE", 17),
+    ("CHART_REFUSED_NOT_FOR_COUNTER", 18),
     ("CHART_REFUSED_BOARD_TOO_SMALL", 20),
     ("CHART_REFUSED_NO_ROOM", 21),
     ("CHART_REFUSED_WRONG_SOURCE", 22),

@@ -5,11 +5,12 @@
 
 use timing_chart::analysis::Analysis;
 use timing_chart::controller::{Head, Report, Start, State, Turn};
+use timing_chart::counter::CounterPlaying;
 use timing_chart::drawing::{
     chain, chart_a, chart_a_continued, chart_b, dwell, looped_chain, never_started, over_floor, self_loop, Drawing,
     AT_LEAST, AT_MOST,
 };
-use timing_chart::library::{analyse, play, rewrite, Controller};
+use timing_chart::library::{analyse, play, play_counter, rewrite, Controller};
 use timing_chart::player::Playing;
 use timing_chart::rewriting::Rewriting;
 use timing_chart::{Refusal, NOWHERE};
@@ -64,6 +65,32 @@ fn player() {
     assert_eq!(play(&file, &counts, &[0], &[1 << 32]), Err(Refusal { number: 15, place: 0 }));
     assert_eq!(play(&file, &counts, &[0], &[]), Err(Refusal { number: 13, place: NOWHERE }));
     assert_eq!(play(&file, &[16_777_216, 0], &[], &[]), Err(Refusal { number: 12, place: 0 }));
+}
+
+#[test]
+fn counter_board() {
+    let file = chart_b().file();
+    let played = |transitions: &[u32], first, readings: &[u16]| {
+        play_counter(&file, &[16_777_215; 2], transitions, first, readings)
+    };
+    let ends = |location, accepting| Ok(CounterPlaying { location, accepting });
+    assert_eq!(played(&[0, 1, 2], 65_530, &[65_535, 1, 2]), ends(3, true));
+    assert_eq!(played(&[], 65_530, &[]), ends(0, false));
+    assert_eq!(played(&[0, 1], 0, &[5, 8]), Err(Refusal { number: 24, place: 1 }));
+    // A reading one lower than the last is a wait of 65,535 ticks.
+    assert_eq!(played(&[0, 1], 0, &[5, 4]), Err(Refusal { number: 24, place: 1 }));
+    assert_eq!(played(&[0, 0], 0, &[5, 5]), Err(Refusal { number: 22, place: 1 }));
+    assert_eq!(played(&[3], 0, &[5]), Err(Refusal { number: 14, place: 0 }));
+    assert_eq!(played(&[0], 0, &[]), Err(Refusal { number: 13, place: NOWHERE }));
+    assert_eq!(play_counter(&file, &[16_777_216, 0], &[], 0, &[]), Err(Refusal { number: 12, place: 0 }));
+
+    // Counts stop at 65,536, and no constant is larger than 65,535.
+    let ends_or = |code, constant, readings: &[u16]| {
+        play_counter(&dwell(code, constant).file(), &[0], &[0, 1], 0, readings).map(|end| end.location)
+    };
+    assert_eq!(ends_or(AT_MOST, 65_535, &[1, 0]), Ok(2));
+    assert_eq!(ends_or(AT_LEAST, 65_535, &[1, 65_535]), Err(Refusal { number: 24, place: 1 }));
+    assert_eq!(ends_or(AT_LEAST, 65_536, &[1, 0]), Err(Refusal { number: 18, place: NOWHERE }));
 }
 
 #[test]

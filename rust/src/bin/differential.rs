@@ -4,10 +4,10 @@
 //! usage: differential [TRIALS] [SEED] [--without-program]
 //!
 //! Exit status 0 if all agree and every refusal number, every kind of floor, of number of rounds, of version and
-//! constant and of what a controller meets came; 1 at the first difference, or where a controller breaks a promise or
-//! gives a refusal that its call does not have, with the input in hex; 2 if one that should come never did, or the
-//! program is missing. What no call can answer, such as a transition that is taken with no event served, ends it by a
-//! panic. A thousand trials bring all.
+//! constant, of step on the counter board and of what a controller meets came; 1 at the first difference, or where a
+//! controller or the counter board breaks a promise or gives a refusal that its call does not have, with the input in
+//! hex; 2 if one that should come never did, or the program is missing. What no call can answer, such as a transition
+//! that is taken with no event served, ends it by a panic. A thousand trials bring all.
 
 use std::fmt::{Debug, Display, Formatter};
 use std::io::{ErrorKind, Write};
@@ -16,14 +16,15 @@ use std::process::{exit, Command, Stdio};
 
 use timing_chart::analysis::{self, Analysis};
 use timing_chart::chart::{Chart, Comparison, Test};
+use timing_chart::counter::{self, CounterPlaying};
 use timing_chart::drawing::*;
 use timing_chart::generator::*;
 use timing_chart::limits::{
-    LARGEST_CONSTANT_VERSION_1, MOST_INPUT, MOST_LOCATIONS, MOST_STARTS, MOST_TESTS, MOST_TICKS, MOST_TIMERS, NOWHERE,
-    TIMERS,
+    COUNTER_LARGEST_CONSTANT, COUNTER_LARGEST_COUNT, COUNTER_READINGS, LARGEST_CONSTANT_VERSION_1, MOST_INPUT,
+    MOST_LOCATIONS, MOST_STARTS, MOST_TESTS, MOST_TICKS, MOST_TIMERS, NOWHERE, TIMERS,
 };
 use timing_chart::listing::listing;
-use timing_chart::player;
+use timing_chart::player::{self, Playing};
 use timing_chart::rewriting::{self, Rewriting};
 use timing_chart::tally::{number_of, ByNumber};
 use timing_chart::trials::{Calls, Trials};
@@ -34,7 +35,10 @@ use timing_chart::{library, Answer, Refusal};
 /// 17 is not among them: it is the writer's, which may be handed a chart of version 1 with a constant over 65,535. The
 /// library's calls read their chart from a file, and in a file of version 1 a constant has two bytes; so none of them
 /// can meet it.
-const EXPECTED: [usize; 20] = [1, 2, 3, 4, 5, 6, 7, 8, 9, 10, 11, 12, 13, 14, 15, 20, 21, 22, 23, 24];
+const EXPECTED: [usize; 21] = [1, 2, 3, 4, 5, 6, 7, 8, 9, 10, 11, 12, 13, 14, 15, 18, 20, 21, 22, 23, 24];
+
+/// The refusals of the counter board: all of these must come from it, and no others.
+const OF_COUNTER_BOARD: [usize; 16] = [1, 2, 3, 4, 5, 6, 7, 8, 9, 10, 12, 13, 18, 14, 22, 24];
 
 /// The most calls from a controller's set-up on.
 const CALLS: u64 = 60;
@@ -49,11 +53,13 @@ struct Tally {
     analyses: ByNumber,
     rewritings: ByNumber,
     playings: ByNumber,
+    counter_playings: ByNumber,
     /// The program's, the number taken from its text.
     listings: ByNumber,
     floors: Floors,
     live_rounds: LiveRounds,
     versions: Versions,
+    counter_kinds: CounterKinds,
     /// Texts of the program with either word.
     printed_floor: u64,
     printed_seen: u64,
@@ -209,9 +215,89 @@ impl Display for Versions {
     }
 }
 
+/// How often what came on the counter board.
+#[derive(Default)]
+struct CounterKinds {
+    /// Steps taken at a lower reading than that before.
+    wrapped: u64,
+    /// Steps with a test of a count that has stopped rising: taken, and refused.
+    stopped: u64,
+    stopped_refused: u64,
+    /// The same for counts one below.
+    last: u64,
+    last_refused: u64,
+    /// Lists with steps taken on which the counter board is to answer as the player does: on the file as drawn, and on
+    /// the rewritten one.
+    as_player: u64,
+    as_player_rewritten: u64,
+    /// Lists on which the two answer otherwise: some proviso does not hold.
+    otherwise: u64,
+}
+
+impl CounterKinds {
+    /// Counts the steps that were tried: so many were taken and, if `refused`, the next one was refused by a test.
+    fn count_steps(&mut self, chart: &Chart, steps: &CounterSteps, taken: usize, refused: bool) {
+        let (most, mut tick) = (u64::from(COUNTER_LARGEST_COUNT), 0);
+        // A timer is only tested once it was started.
+        let mut started = [0; TIMERS];
+        for step in 0..taken + usize::from(refused) {
+            let transition = &chart.transitions()[steps.transitions[step] as usize];
+            let (reading, before) = (steps.readings[step], steps.before(step));
+            tick += u64::from(reading.wrapping_sub(before));
+            let reads = |is: &dyn Fn(u64) -> bool| {
+                chart.tests(transition).iter().any(|test| is(tick - started[usize::from(test.timer)]))
+            };
+            let (stopped, last) = (reads(&|count| count >= most), reads(&|count| count == most - 1));
+            let is_taken = step < taken;
+            self.wrapped += u64::from(is_taken && reading < before);
+            self.stopped += u64::from(is_taken && stopped);
+            self.stopped_refused += u64::from(!is_taken && stopped);
+            self.last += u64::from(is_taken && last);
+            self.last_refused += u64::from(!is_taken && last);
+            transition.starts.into_iter().for_each(|timer| started[usize::from(timer)] = tick);
+        }
+    }
+
+    /// Whether each came.
+    fn all_came(&self) -> bool {
+        let CounterKinds { wrapped, stopped, stopped_refused, last, last_refused, .. } = *self;
+        let lists = [self.as_player, self.as_player_rewritten, self.otherwise];
+        [wrapped, stopped, stopped_refused, last, last_refused].iter().chain(&lists).all(|&count| count > 0)
+    }
+}
+
+impl Display for CounterKinds {
+    fn fmt(&self, f: &mut Formatter<'_>) -> std::fmt::Result {
+        let CounterKinds { wrapped, stopped, stopped_refused, last, last_refused, .. } = self;
+        let CounterKinds { as_player, as_player_rewritten, otherwise, .. } = self;
+        let most = COUNTER_LARGEST_COUNT;
+        write!(
+            f,
+            "on the counter board: steps across the wrap: {wrapped}; steps with tests of a count that stopped at "
+        )?;
+        write!(f, "{most}, taken: {stopped}, refused: {stopped_refused}, of one at {}, taken: {last}, ", most - 1)?;
+        write!(f, "refused: {last_refused}; lists answered as by the player: {as_player}, on the rewritten file: ")?;
+        write!(f, "{as_player_rewritten}; lists without the provisos, answered otherwise: {otherwise}")
+    }
+}
+
+/// Whether a chart has a constant that the counter board does not take.
+fn exceeds_counter_board(file: &[u8]) -> bool {
+    Chart::read(file).is_ok_and(|chart| chart.largest_constant() > Some(COUNTER_LARGEST_CONSTANT))
+}
+
+/// How many steps of a list were taken.
+fn steps_taken<T>(answer: &Answer<T>, steps: usize) -> usize {
+    match answer {
+        Ok(_) => steps,
+        Err(Refusal { number: 14 | 15 | 22..=24, place }) => *place as usize,
+        Err(_) => 0,
+    }
+}
+
 impl Tally {
-    fn all(&self) -> [&ByNumber; 4] {
-        [&self.analyses, &self.rewritings, &self.playings, &self.listings]
+    fn all(&self) -> [&ByNumber; 5] {
+        [&self.analyses, &self.rewritings, &self.playings, &self.counter_playings, &self.listings]
     }
 
     /// Whether some call brought the number.
@@ -287,23 +373,99 @@ impl ChartTrials {
         Ok(rust)
     }
 
-    fn play(&mut self, file: &[u8], counts: &[u32], steps: &Steps) -> Answer<player::Playing> {
+    fn play(&mut self, file: &[u8], counts: &[u32], steps: &Steps) -> Answer<Playing> {
         let proved = library::play(file, counts, &steps.transitions, &steps.times);
         let answer = player::play(file, counts, &steps.transitions, &steps.times);
         if proved != answer {
             differ("player", file, &(counts, &steps.transitions, &steps.times), &proved, &answer);
         }
         self.tally.playings[number_of(&answer)] += 1;
-        let taken = match answer {
-            Ok(_) => steps.times.len(),
-            Err(Refusal { number: 14 | 15 | 22..=24, place }) => place as usize,
-            Err(_) => 0,
-        };
+        let taken = steps_taken(&answer, steps.times.len());
         self.tally.steps_taken += taken as u64;
         if let Ok(chart) = Chart::read(file) {
             self.tally.versions.count_steps(&chart, steps, taken, number_of(&answer) == 24);
         }
         answer
+    }
+
+    fn play_counter(&mut self, file: &[u8], counts: &[u32], steps: &CounterSteps) -> Answer<CounterPlaying> {
+        let CounterSteps { first, transitions, readings } = steps;
+        let proved = library::play_counter(file, counts, transitions, *first, readings);
+        let answer = counter::play_counter(file, counts, transitions, *first, readings);
+        let number = number_of(&answer);
+        if proved != answer {
+            differ("counter board", file, &(counts, steps), &proved, &answer);
+        }
+        if answer.is_err() && !OF_COUNTER_BOARD.contains(&number) {
+            differ("counter board, no refusal of it", file, &(counts, steps), &proved, &answer);
+        }
+        self.tally.counter_playings[number] += 1;
+        let taken = steps_taken(&answer, readings.len());
+        self.tally.steps_taken += taken as u64;
+        if taken > 0 || number == 24 {
+            let chart = Chart::read(file).expect("the chart is accepted");
+            self.tally.counter_kinds.count_steps(&chart, steps, taken, number == 24);
+        }
+        answer
+    }
+
+    /// The counter board on the readings of a step list that the player has answered. Where the provisos hold, it is to
+    /// answer alike, and on the rewritten file too, from any counts.
+    fn play_counted(
+        &mut self,
+        file: &[u8],
+        counts_drawn: &[u32],
+        steps: &Steps,
+        player: Answer<Playing>,
+        board: Option<(&[u8], usize)>,
+    ) {
+        let counted = CounterSteps::of(steps, first_reading(&mut self.random));
+        let answer = self.play_counter(file, counts_drawn, &counted);
+        let player = player.map(|Playing { location, accepting, .. }| CounterPlaying { location, accepting });
+        if !keeps_provisos(&steps.times) || exceeds_counter_board(file) {
+            self.tally.counter_kinds.otherwise += u64::from(answer != player);
+            return;
+        }
+        let with = (counts_drawn, &counted, &steps.times);
+        if answer != player {
+            differ("the counter board and the player", file, &with, &answer, &player);
+        }
+        let any_taken = u64::from(steps_taken(&answer, steps.times.len()) > 0);
+        self.tally.counter_kinds.as_player += any_taken;
+        if let (Some((board, used)), true) = (board, number_of(&answer) != 12) {
+            let counts_board = counts(&mut self.random, used, true);
+            let board_answer = self.play_counter(board, &counts_board, &counted);
+            if board_answer != player {
+                differ("the counter board on the rewritten file", file, &(board, with), &board_answer, &player);
+            }
+            self.tally.counter_kinds.as_player_rewritten += any_taken;
+        }
+    }
+
+    /// The counter board on a list of its own, whose times have no limit and whose waits are less than the counter's
+    /// readings; some lists are spoilt.
+    fn play_counter_run(&mut self, file: &[u8], drawing: Option<&Drawing>, most_steps: usize) {
+        let chart = Chart::read(file);
+        let timers = chart.as_ref().map_or(1, |chart| usize::from(chart.timers()));
+        let transitions = chart.as_ref().map_or(1, |chart| chart.transitions().len() as u32);
+        let random = &mut self.random;
+        let mut steps = drawing.map_or(Steps::default(), |drawing| counter_run(random, drawing, most_steps));
+        if let (Some(drawing), true) = (drawing, random.chance(1, 2)) {
+            steps.cut(random);
+            let last = steps.times.last().copied().unwrap_or(0);
+            lengthen(random, drawing, &mut steps);
+            if let (Some(time), true) = (steps.times.last_mut(), random.chance(1, 2)) {
+                // As many ticks as can pass, so that counts are likely to stop.
+                *time = last + u64::from(COUNTER_READINGS) - 1;
+            }
+        }
+        let mut steps = CounterSteps::of(&steps, first_reading(random));
+        if drawing.is_none() || random.chance(1, 3) {
+            spoil_counter_steps(random, &mut steps, transitions);
+        }
+        let good = random.chance(7, 8);
+        let counts = counts(random, timers, good);
+        let _ = self.play_counter(file, &counts, &steps);
     }
 
     /// Runs the program on an input and compares what it prints.
@@ -352,7 +514,7 @@ impl ChartTrials {
         for _ in 0..3 {
             let mut steps = match drawing {
                 Some(drawing) => {
-                    let wait = self.random.pick(&[0, 2, 20, 70_000, 1 << 20]);
+                    let wait = self.random.pick(&[0, 2, 20, u64::from(COUNTER_READINGS) - 1, 70_000, 1 << 20]);
                     let mut steps = run(&mut self.random, drawing, most_steps, wait, true);
                     if self.random.chance(1, 2) {
                         if self.random.chance(1, 2) {
@@ -361,8 +523,11 @@ impl ChartTrials {
                         lengthen(&mut self.random, drawing, &mut steps);
                     }
                     if self.random.chance(1, 8) {
+                        delay(&mut self.random, &mut steps);
+                    }
+                    if self.random.chance(1, 8) {
                         // The same steps as late as can be.
-                        let late = u64::from(MOST_TICKS) - steps.times.last().unwrap_or(&0);
+                        let late = u64::from(MOST_TICKS).saturating_sub(*steps.times.last().unwrap_or(&0));
                         steps.times.iter_mut().for_each(|time| *time += late);
                     }
                     steps
@@ -382,7 +547,12 @@ impl ChartTrials {
                     differ("the player on the rewritten file", file, &(board, steps), &board_answer, &answer);
                 }
             }
+            if self.random.chance(1, 3) {
+                let board = board.as_ref().ok().map(|board| (board.as_slice(), used as usize));
+                self.play_counted(file, &counts_drawn, &steps, answer, board);
+            }
         }
+        self.play_counter_run(file, drawing, most_steps);
     }
 
     /// One trial: a file of some kind, and all calls on it.
@@ -417,6 +587,8 @@ impl ChartTrials {
                 || lone_families(21),
                 || looped_chain(MOST_LOCATIONS),
                 || looped_chain(MOST_LOCATIONS).last_to_first(),
+                || three_tests(COUNTER_LARGEST_CONSTANT),
+                || three_tests(COUNTER_LARGEST_CONSTANT + 1),
             ])(),
             80..=85 => {
                 let shape = Shape::random(random, MOST_LOCATIONS);
@@ -447,6 +619,9 @@ impl ChartTrials {
         if random.chance(1, 4) {
             let whole = random.pick(&[1, 4, 20]);
             store_large(random, &mut drawing, whole);
+        } else if random.chance(1, 4) {
+            let whole = random.pick(&[1, 4, 20]);
+            store_about_counter(random, &mut drawing, whole);
         }
         if !drawing.transitions.is_empty() && random.chance(1, 4) {
             // One transition is changed: often 9 or 10 then applies, or the families are others.
@@ -502,16 +677,26 @@ impl ChartTrials {
         assert_eq!(steps.times.len(), 70_000, "the chart's runs do not end");
         let board = self.rewrite(&file, u32::from(MOST_TIMERS), file.len()).expect("the chart fits the largest board");
         let used = self.analyse(&file, 9).map_or(0, |analysis| analysis.used as usize);
+        let exceeds = exceeds_counter_board(&file).then_some(Refusal { number: 18, place: NOWHERE });
         let cut = NOWHERE as usize;
-        for at in [None, Some(cut - 1), Some(cut), Some(cut + 1), Some(69_999)] {
+        let places = [None, Some(cut - 1), Some(cut), Some(cut + 1), Some(69_999)];
+        let on_counter_board = self.random.pick(&places);
+        for at in places {
             let mut steps = steps.clone();
             if let Some(at) = at {
                 steps.transitions[at] = 30;
             }
+            let refusal = at.map(|at| Refusal { number: 14, place: at as u64 });
             for (file, timers) in [(&file, TIMERS), (&board, used)] {
                 let counts = counts(&mut self.random, timers, true);
                 let answer = self.play(file, &counts, &steps);
-                assert_eq!(answer.err(), at.map(|at| Refusal { number: 14, place: at as u64 }));
+                assert_eq!(answer.err(), refusal);
+            }
+            if at == on_counter_board {
+                let counts = counts(&mut self.random, TIMERS, true);
+                let counted = CounterSteps::of(&steps, first_reading(&mut self.random));
+                let answer = self.play_counter(&file, &counts, &counted);
+                assert_eq!(answer.err(), exceeds.or(refusal));
             }
         }
     }
@@ -590,14 +775,16 @@ fn main() {
     println!("analyses with {}", tally.floors);
     println!("{}", tally.live_rounds);
     println!("{}", tally.versions);
+    println!("{}", tally.counter_kinds);
     println!("{}", controllers.tally);
     println!("texts with floor: {}, with seen: {}", tally.printed_floor, tally.printed_seen);
     println!("how often each answer came (0: a result)");
-    let [analyses, rewritings, playings, listings] = tally.all();
+    let [analyses, rewritings, playings, counter_playings, listings] = tally.all();
     let columns = [
         ("analysis", analyses),
         ("rewriting", rewritings),
         ("player", playings),
+        ("counter", counter_playings),
         ("program", listings),
         ("set-up", &controllers.tally.set_ups),
         ("event", &controllers.tally.events),
@@ -616,13 +803,16 @@ fn main() {
     let program = charts.program.is_some().then_some(OF_PROGRAM);
     let missing: Vec<usize> = EXPECTED.into_iter().chain(program).filter(|&number| !tally.came(number)).collect();
     let words_came = charts.program.is_none() || tally.printed_floor > 0 && tally.printed_seen > 0;
-    let Tally { floors, live_rounds, versions, .. } = tally;
-    let kinds_came = floors.all_came() && live_rounds.all_came() && versions.all_came();
+    let Tally { floors, live_rounds, versions, counter_kinds, .. } = tally;
+    let kinds_came = floors.all_came() && live_rounds.all_came() && versions.all_came() && counter_kinds.all_came();
+    let of_counter: Vec<usize> =
+        OF_COUNTER_BOARD.into_iter().chain([0]).filter(|&number| counter_playings[number] == 0).collect();
     let of_controllers = controllers.tally.missing();
-    if !missing.is_empty() || !kinds_came || !words_came || !of_controllers.is_empty() {
-        println!("never came with a controller: {of_controllers:?}");
+    let all_came = missing.is_empty() && of_counter.is_empty() && of_controllers.is_empty() && kinds_came && words_came;
+    if !all_came {
+        println!("never came with a controller: {of_controllers:?}; with the counter board: {of_counter:?}");
         print!("never came: {missing:?}, or one of: {floors}; or one of: {live_rounds}; or one of: {versions}; ");
-        println!("or a word of the program");
+        println!("or one of: {counter_kinds}; or a word of the program");
         exit(2);
     }
     let calls: u64 = columns.iter().map(|(_, numbers)| numbers.total()).sum();

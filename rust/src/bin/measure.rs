@@ -1,6 +1,7 @@
-//! Measures the proved library beside this crate: analysis, rewriting and player on small, typical and largest charts,
-//! the larger ones as version 2 too, the analysis where there are most numbers or rounds or the floor is hard to find,
-//! growth by transitions, the player's time for a step, and the controller's calls with one and with eight heads.
+//! Measures the proved library beside this crate: analysis, rewriting, player and counter board on small, typical and
+//! largest charts, the larger ones as version 2 too, the analysis where there are most numbers or rounds or the floor is
+//! hard to find, growth by transitions, the player's and the counter board's time for a step, and the controller's calls
+//! with one and with eight heads.
 //!
 //! usage: measure [REPETITIONS]
 
@@ -9,10 +10,15 @@ use std::hint::black_box;
 use timing_chart::analysis::{self, Analysis};
 use timing_chart::chart::Chart;
 use timing_chart::controller::{Report, SetUp, State, Turn};
+use timing_chart::counter::{self, CounterPlaying};
 use timing_chart::drawing::{chart_a, chart_b, looped_chain, Arrow, Drawing, AT_LEAST};
-use timing_chart::generator::{accepted, five_groups, hardest_floor, longest, many_numbers, run, Random, Shape, Steps};
+use timing_chart::generator::{
+    accepted, five_groups, hardest_floor, longest, many_numbers, run, CounterSteps, Random, Shape, Steps,
+};
 use timing_chart::heads::{self, DrawnHeads};
-use timing_chart::limits::{LOCATIONS, MOST_HEADS, MOST_LOCATIONS, MOST_TIMERS, MOST_TRANSITIONS};
+use timing_chart::limits::{
+    COUNTER_LARGEST_CONSTANT, LOCATIONS, MOST_HEADS, MOST_LOCATIONS, MOST_TIMERS, MOST_TRANSITIONS,
+};
 use timing_chart::player::{self, Playing};
 use timing_chart::rewriting::{self, Rewriting};
 use timing_chart::version::Version;
@@ -27,6 +33,7 @@ const K: u32 = MOST_TIMERS as u32;
 type Analyse = fn(&[u8], &mut [u64]) -> Answer<Analysis>;
 type Rewrite = fn(&[u8], u32, &mut [u8]) -> Answer<Rewriting>;
 type Play = fn(&[u8], &[u32], &[u32], &[u64]) -> Answer<Playing>;
+type PlayCounter = fn(&[u8], &[u32], &[u32], u16, &[u16]) -> Answer<CounterPlaying>;
 
 /// One implementation of the calls.
 #[derive(Clone, Copy)]
@@ -34,6 +41,7 @@ struct Calls {
     analyse: Analyse,
     rewrite: Rewrite,
     play: Play,
+    play_counter: PlayCounter,
     controller: trials::Calls,
 }
 
@@ -41,12 +49,14 @@ const PROVED: Calls = Calls {
     analyse: library::analyse,
     rewrite: library::rewrite,
     play: library::play,
+    play_counter: library::play_counter,
     controller: trials::Calls::PROVED,
 };
 const RUST: Calls = Calls {
     analyse: analysis::analyse,
     rewrite: rewriting::rewrite,
     play: player::play,
+    play_counter: counter::play_counter,
     controller: trials::Calls::RUST,
 };
 
@@ -102,12 +112,12 @@ fn median(mut times: Vec<f64>) -> f64 {
 
 fn row(call: &str, chart: &str, (proved, rust): (f64, f64)) {
     let ratio = proved / rust;
-    println!("{call:<22} {chart:<28} {:>12.3} {:>12.3} {ratio:>8.2}", proved / 1_000.0, rust / 1_000.0);
+    println!("{call:<26} {chart:<28} {:>12.3} {:>12.3} {ratio:>8.2}", proved / 1_000.0, rust / 1_000.0);
 }
 
 fn heading(title: &str) {
     println!("\n{title}");
-    println!("{:<22} {:<28} {:>12} {:>12} {:>8}", "call", "chart", "proved µs", "Rust µs", "ratio");
+    println!("{:<26} {:<28} {:>12} {:>12} {:>8}", "call", "chart", "proved µs", "Rust µs", "ratio");
 }
 
 /// A chart of the shape that fits the board.
@@ -184,6 +194,44 @@ fn playings(repetitions: usize, file: &[u8], steps: &Steps) -> (f64, f64) {
         let played = (calls.play)(black_box(file), &counts, black_box(&steps.transitions), black_box(&steps.times));
         black_box(played.expect("the list is a run"));
     })
+}
+
+/// The counter board on the same steps; none if it does not take the chart's constants.
+fn counter_playings(repetitions: usize, file: &[u8], steps: &Steps) -> Option<(f64, f64)> {
+    let chart = Chart::read(file).expect("the chart is accepted");
+    if chart.largest_constant() > Some(COUNTER_LARGEST_CONSTANT) {
+        return None;
+    }
+    let counts = vec![7; usize::from(chart.timers())];
+    let CounterSteps { first, transitions, readings } = CounterSteps::of(steps, u16::MAX);
+    Some(medians(repetitions, |calls| {
+        let played =
+            (calls.play_counter)(black_box(file), &counts, black_box(&transitions), first, black_box(&readings));
+        black_box(played.expect("the list is a run"));
+    }))
+}
+
+/// The player on a list of steps, and the counter board where it takes the chart.
+fn step_rows(repetitions: usize, name: &str, file: &[u8], steps: &Steps, what: &str) {
+    row(&format!("player, {what}"), name, playings(repetitions, file, steps));
+    let times = counter_playings(repetitions, file, steps);
+    times.into_iter().for_each(|times| row(&format!("counter board, {what}"), name, times));
+}
+
+/// A call on a long list of steps, and its time for a step.
+fn long_rows(call: &str, name: &str, steps: &Steps, times: impl Fn(&Steps) -> (f64, f64)) {
+    let (proved, rust) = times(steps);
+    row(&format!("{call}, long list"), name, (proved, rust));
+    let empty = times(&Steps::default());
+    let steps = steps.times.len() as f64;
+    row(&format!("{call}, for a step"), name, ((proved - empty.0) / steps, (rust - empty.1) / steps));
+}
+
+/// The steps of a small chart.
+fn short_list(list: &[(u32, u64)]) -> Steps {
+    let mut steps = Steps::default();
+    list.iter().for_each(|&(transition, time)| steps.push(transition, time));
+    steps
 }
 
 /// Steps that the chart takes, mostly without a wait; as many as are asked for.
@@ -312,21 +360,20 @@ fn main() {
         check(&file);
         row("analysis", name, analyses(repetitions, &file));
         row("rewriting", name, rewritings(repetitions, &file));
-        row("player, no steps", name, playings(repetitions, &file, &Steps::default()));
+        step_rows(repetitions, name, &file, &Steps::default(), "no steps");
     }
     for (name, drawing) in &figures {
         let file = drawing.file();
         check(&file);
         row("analysis", name, analyses(repetitions, &file));
     }
-    let mut steps = Steps::default();
-    for (transition, time) in [(0, 1), (1, 2), (2, 5), (4, 6), (6, 8)] {
-        steps.push(transition, time);
-    }
-    row("player, 5 steps", charts[0].0, playings(repetitions, &charts[0].1.file(), &steps));
+    let steps = short_list(&[(0, 1), (1, 2), (2, 5), (4, 6), (6, 8)]);
+    step_rows(repetitions, charts[0].0, &charts[0].1.file(), &steps, "5 steps");
+    let steps = short_list(&[(0, 5), (1, 7), (2, 8)]);
+    step_rows(repetitions, "small (chart B)", &chart_b().file(), &steps, "3 steps");
 
     heading("Growth: locations half the transitions, 64 timers, 8 tests where 10 allows");
-    let mut before: Option<[(f64, f64); 3]> = None;
+    let mut before: Option<[(f64, f64); 4]> = None;
     for transitions in [8, 4, 2, 1].map(|part| MOST_TRANSITIONS / part) {
         let drawing = largest(transitions);
         let file = drawing.file();
@@ -335,26 +382,30 @@ fn main() {
             analyses(repetitions, &file),
             rewritings(repetitions, &file),
             playings(repetitions, &file, &Steps::default()),
+            counter_playings(repetitions, &file, &Steps::default()).expect("the chart's constants are small"),
         ];
         let chart = format!("{transitions} transitions");
-        for (index, call) in ["analysis", "rewriting", "player, no steps"].into_iter().enumerate() {
+        let calls = ["analysis", "rewriting", "player, no steps", "counter board, no steps"];
+        for (index, call) in calls.into_iter().enumerate() {
             row(call, &chart, times[index]);
             if let Some(before) = before {
                 let (proved, rust) = (times[index].0 / before[index].0, times[index].1 / before[index].1);
-                println!("{:<22} {:<28} {proved:>11.2}x {rust:>11.2}x", "", "  to half of it");
+                println!("{:<26} {:<28} {proved:>11.2}x {rust:>11.2}x", "", "  to half of it");
             }
         }
         before = Some(times);
     }
 
-    heading(&format!("The player on {LONG} steps; for a step: the time less that of no steps, by the steps"));
+    heading(&format!(
+        "The player and the counter board on {LONG} steps; for a step: the time less that of no steps, by the steps"
+    ));
     for (name, drawing) in &charts[1..3] {
         let file = drawing.file();
         let steps = steps_of(drawing, LONG);
-        let (proved, rust) = playings(repetitions, &file, &steps);
-        row("player, long list", name, (proved, rust));
-        let empty = playings(repetitions, &file, &Steps::default());
-        row("player, for a step", name, ((proved - empty.0) / LONG as f64, (rust - empty.1) / LONG as f64));
+        long_rows("player", name, &steps, |steps| playings(repetitions, &file, steps));
+        long_rows("counter board", name, &steps, |steps| {
+            counter_playings(repetitions, &file, steps).expect("the chart's constants are small")
+        });
     }
     let large: Vec<Drawing> = (1..=MOST_HEADS as u64).map(|seed| heads::largest(&mut Random::new(seed))).collect();
     println!();
