@@ -1,5 +1,6 @@
--- On an accepted chart the wait before the first step may be of any length: only the ticks between two steps have to be fewer than 65,536. Hard: the
--- readings add up to times that are all too early by some multiple of 65,536. Assumes nothing.
+-- On an accepted chart the wait before the first step may be of any length: only the ticks between two steps have to be fewer than 65,536, and neither
+-- the counts nor the reading at tick 0 decide anything. Hard: the readings add up to times that are all too early by some multiple of 65,536. Assumes
+-- nothing.
 use mathlib.Core.Path.{_≡_, refl, sym, ap, ap₂, _∙_, fun-ext}
 use mathlib.Core.Logic.{_↔_}
 use mathlib.Core.Bool.{false}
@@ -22,10 +23,10 @@ use Rattle.model.proofs.Answers.{Matching, match-unless, match-then, match-same
 use Rattle.model.proofs.Steps.{attempt-none, attempt-some}
 use Rattle.counter_model.specs.Counter.{counterNumbers, ticksPassed, readingAt, readingsAt, timesOf}
 use Rattle.counter_model.specs.CounterPlayer.{counterAnswerOf}
-use Rattle.counter_model.specs.CounterClaim.{NeverFall, NoneLate, withoutTime}
-use Rattle.counter_model.proofs.Ticks.{NeverFallFrom, FewTicksFrom, times-back}
+use Rattle.counter_model.specs.CounterClaim.{NeverFallFrom, FewTicksFrom, NeverFall, FewTicksAfterFirst, SpacedAfterFirst, withoutTime}
+use Rattle.counter_model.proofs.Ticks.{times-back}
 use Rattle.counter_model.proofs.AddedUp.{arrivedAt, no-time, added-up}
-use Rattle.counter_model.proofs.Claim.{none-late-own, any-counts}
+use Rattle.counter_model.proofs.ChartClaim.{none-late-own, any-counts}
 
 -- all times later by d
 abbrev later : ℕ → List ℕ → List ℕ
@@ -58,6 +59,29 @@ module _ (first t : ℕ) (below : first < counterNumbers) where
       (sym (times-later (lost t) (readingAt first t) (0 + ticksPassed first (readingAt first t)) (readingsAt first ts))
       ∙ ap (λ (x : ℕ). timesOf (readingAt first t) x (readingsAt first ts)) first-ticks
       ∙ times-back first t ts up few)
+
+-- without a first reading there is nothing
+none-later : (d first : ℕ) → later d (timesOf first 0 (readingsAt first [])) ≡ []
+unfolding timesOf readingsAt
+none-later d first = refl
+
+-- from a first reading on
+some-later : (d first now : ℕ) (rs : List ℕ) → let t = 0 + ticksPassed first now + d in later d (timesOf first 0 (now ∷ rs)) ≡ t ∷ timesOf now t rs
+unfolding timesOf
+some-later d first now rs =
+    let t : ℕ = 0 + ticksPassed first now in
+    ap (λ (l : List ℕ). (t + d) ∷ l) (sym (times-later d now t rs))
+
+-- whatever the counter shows at tick 0, the times are the same but for a wait before the first step
+same-later : (first first′ : ℕ) (rs : List ℕ)
+    → (d d′ : ℕ) × (later d (timesOf first 0 rs) ≡ later d′ (timesOf first′ 0 rs))
+unfolding timesOf
+same-later first first′ [] = (0, 0, refl)
+same-later first first′ (now ∷ rs) =
+    let d : ℕ = ticksPassed first′ now in
+    let d′ : ℕ = ticksPassed first now in
+    let e : 0 + d′ + d ≡ 0 + d + d′ = omega arith in
+    (d, d′, some-later d first now rs ∙ ap (λ (t : ℕ). t ∷ timesOf now t rs) e ∙ sym (some-later d′ first′ now rs))
 
 -- ---- the steps
 
@@ -124,13 +148,31 @@ module _ (c : Chart) (d : ℕ) where
       (record { location = refl; in-order = λ t. omega arith; counts = λ t j h. omega arith }))
       ∙ sym (no-time c (outcome everyTime c v (stepsOf is (later d ts))))
 
--- from any counts, and with any first wait that is not late; the steps after it have few ticks
-pub any-first-wait : {W : ℕ} (c : Chart) → Valid W c → judged c ≡ result c → largeConstant c ≡ false → (v w : Counts) (first : ℕ)
-    → first < counterNumbers → (is : List ℕ) (t : ℕ) (ts : List ℕ) → NeverFall (t ∷ ts) → NoneLate (t ∷ ts) → FewTicksFrom t ts
-    → counterAnswerOf c first w is (readingsAt first (t ∷ ts)) ≡ withoutTime (answerOf playerTime c v (stepsOf is (t ∷ ts)))
-any-first-wait c valid j small v w first below is t ts up on-time few =
-    let us = timesOf first 0 (readingsAt first (t ∷ ts)) in
-    added-up c small w first is (readingsAt first (t ∷ ts))
-    ∙ ap withoutTime (any-counts c valid j .0 w (grown (lost t) v) (stepsOf is us))
-    ∙ answer-later c (lost t) v is us
-    ∙ rw (times-lost first t below ts (λ n l. up (suc n) (omega arith)) few, none-late-own c v is (t ∷ ts) on-time) refl
+-- ---- an accepted chart
+
+module _ {W : ℕ} (c : Chart) (valid : Valid W c) (accepted : judged c ≡ result c) (small : largeConstant c ≡ false) where
+  -- the board, from any counts, against the step list at times that are later by d
+  played-later : (d first : ℕ) (v w : Counts) (is rs ts : List ℕ) → later d (timesOf first 0 rs) ≡ ts
+      → counterAnswerOf c first w is rs ≡ withoutTime (answerOf everyTime c v (stepsOf is ts))
+  played-later d first v w is rs ts e =
+      added-up c small w first is rs
+      ∙ ap withoutTime (any-counts c valid accepted .0 w (grown d v) (stepsOf is (timesOf first 0 rs)))
+      ∙ answer-later c d v is (timesOf first 0 rs)
+      ∙ ap (λ (us : List ℕ). withoutTime (answerOf everyTime c v (stepsOf is us))) e
+
+  -- it answers as the player, whatever the wait before the first step
+  pub accepted-claim : (v w : Counts) (first : ℕ) → first < counterNumbers → (is ts : List ℕ) → SpacedAfterFirst ts
+      → counterAnswerOf c first w is (readingsAt first ts) ≡ withoutTime (answerOf playerTime c v (stepsOf is ts))
+  accepted-claim v w first below is ts s =
+      go ts (s .never-fall) (s .few-ticks) ∙ ap withoutTime (sym (none-late-own c v is ts (s .none-late)))
+    where
+      go : (us : List ℕ) → NeverFall us → FewTicksAfterFirst us
+          → counterAnswerOf c first w is (readingsAt first us) ≡ withoutTime (answerOf everyTime c v (stepsOf is us))
+      go [] up few = played-later 0 first v w is _ [] (none-later 0 first)
+      go (t ∷ us) up few = played-later (lost t) first v w is _ _ (times-lost first t below us (λ n l. up (suc n) (omega arith)) few)
+
+  -- and from any counts alike, whatever the counter shows at tick 0
+  pub same-from-any : (v w : Counts) (first first′ : ℕ) (is rs : List ℕ) → counterAnswerOf c first v is rs ≡ counterAnswerOf c first′ w is rs
+  same-from-any v w first first′ is rs =
+      let x = same-later first first′ rs in
+      played-later (x .0) first v v is rs _ (x .2) ∙ sym (played-later (x .1) first′ v w is rs _ refl)

@@ -1,10 +1,10 @@
 pub mod Ticks
 pub mod StoppedCounts
 pub mod AddedUp
-pub mod Claim
+pub mod ChartClaim
 pub mod FirstWait
+pub mod FileClaim
 pub mod StepPlaces
-pub mod Inputs
 pub mod Refusals
 pub mod Cases
 pub mod Needed

@@ -31,7 +31,7 @@ use Rattle.player.specs.Playing.{playAnswer}
 use Rattle.counter_model.specs.Counter.{counterNumbers, ticksPassed, readingAt, readingsAt, risen}
 use Rattle.counter_model.specs.CounterRun.{countsAt, counterAfter, counterAttempt, counterSteps, counterBegin, counterOutcome}
 use Rattle.counter_model.specs.CounterPlayer.{CounterArrival, counterArrival, counterAnswerOf, counterAnswer}
-use Rattle.counter_model.specs.CounterClaim.{EachStep, NeverFall, NoneLate, FewTicks, Spaced, withoutTime}
+use Rattle.counter_model.specs.CounterClaim.{EachStepFrom, NeverFall, NoneLate, FewTicks, Spaced, withoutTime}
 use Rattle.counter_model.specs.Cases.{arrived, threeTests}
 use Rattle.counter_model.specs.Examples.{Example, boardCalled, playerCalled, boardSteps, playerSteps, Callable, SmallConstants}
 use Rattle.counter_model.specs.Examples.{falling, late, longWait, longFirstWait, large}
@@ -116,7 +116,7 @@ few-ticks : (ts : List ℕ) → Along (λ b t. t - b < counterNumbers) 0 ts → 
 few-ticks ts a = each-step (λ b t. t - b < counterNumbers) 0 ts a
 
 -- the times of `late` are 65,535 ticks apart
-late-steps : (P : (before now : ℕ) → Type 0) → ((n : ℕ) → P (65535 * n) (65535 * suc n)) → EachStep (late .times) P
+late-steps : (P : (before now : ℕ) → Type 0) → ((n : ℕ) → P (65535 * n) (65535 * suc n)) → EachStepFrom 0 (late .times) P
 unfolding late
 late-steps P h n l = rw (before n small, getD-upTo time 257 n 0 small) (h n)
   where

@@ -12,7 +12,7 @@ use lib.ListN.{length, getD}
 use borrow.Author.Tests.{lt-ltb, eq-eqb}
 use Rattle.lists.specs.Lists.{memb, anyOf}
 use Rattle.lists.proofs.Bools.{not-both, not-true, same-number, lt-or-le}
-use Rattle.lists.proofs.Membership.{any-memb-in}
+use Rattle.lists.proofs.Membership.{any-memb-in, memb-least}
 use Rattle.model.specs.Answer.{Answer, result, refused, then, unless, nowhere}
 use Rattle.model.specs.Chart.{Chart}
 use Rattle.model.specs.Version.{widthOf, largeConstant}
@@ -37,31 +37,18 @@ use Rattle.player.specs.Refusals.RefusalOfPlay.{of-step as play-step}
 use Rattle.player.proofs.Files.{play-is}
 use Rattle.player.proofs.Refusals.{play-judged, refusals-of-play}
 use Rattle.counter_model.specs.CounterPlayer.{CounterArrival, counterAnswerOf, counterAnswer}
-use Rattle.counter_model.specs.Refusals.{RefusalOfCounter, ConstantRefused}
+use Rattle.counter_model.specs.Refusals.{RefusalOfCounter, ConstantRefused, CounterArrived}
 use Rattle.counter_model.specs.Refusals.RefusalOfCounter.{of-judgement, of-counts, of-lengths, of-constants, of-step}
-use Rattle.counter_model.proofs.StepPlaces.{AtStep, answer-place}
-use Rattle.counter_model.proofs.Inputs.{inputsJudged, inputs-first, early, inputs-refused, inputs-result}
-
--- what a result says of what is handed in: nothing is refused before the steps, and it is what the steps come to
-pub record Arrived (bs counts is : List ℕ) (first : ℕ) (rs : List ℕ) (a : CounterArrival) : Type 0 where
-  pub chart : Chart
-  pub accepts : Accepts bs chart
-  pub counts-allowed : CountsAllowed chart counts
-  pub one-length : length is ≡ length rs
-  pub small-constants : largeConstant chart ≡ false
-  pub steps : counterAnswerOf chart first (λ j. getD counts j 0) is rs ≡ result a
-
--- what is in a list none of which is below b
-at-least : (b n : ℕ) (l : List ℕ) → anyOf (λ x. ltb x b) l ≡ false → memb n l ≡ true → b ≤ n
-at-least b n l none m = go (lt-or-le n b)
-  where
-    go : (n < b) ⊎ (b ≤ n) → b ≤ n
-    go (inl h) = absurd (not-both (any-memb-in (λ x. ltb x b) n l m (lt-ltb n b h)) none)
-    go (inr h) = h
+use Rattle.counter_model.proofs.StepPlaces.{counterStepNumbers, answer-place}
+use Rattle.player.proofs.InputsJudged.{inputsJudged, inputs-first, early, inputs-refused, inputs-result}
 
 -- ---- the board's and the player's answers
 
 module _ (bs counts is : List ℕ) (first : ℕ) (rs : List ℕ) where
+  -- one of the steps' numbers, with the number of a step
+  abbrev AtStep : (n p : ℕ) → Type 0
+  AtStep n p = (memb n counterStepNumbers ≡ true) × ((0 ≤ p) × (p < length is))
+
   -- after 13: 18, then the steps
   abbrev afterInputs : Chart → Answer CounterArrival
   afterInputs c = unless (not (largeConstant c)) 18 nowhere (counterAnswerOf c first (λ j. getD counts j 0) is rs)
@@ -71,11 +58,11 @@ module _ (bs counts is : List ℕ) (first : ℕ) (rs : List ℕ) where
   answer-is = inputs-first bs counts (eqb (length is) (length rs)) afterInputs
 
   after-refused : (c : Chart) {n p : ℕ} → afterInputs c ≡ refused n p
-      → ((largeConstant c ≡ true) × (n ≡ 18) × (p ≡ nowhere)) ⊎ AtStep 0 (length is) n p
+      → ((largeConstant c ≡ true) × (n ≡ 18) × (p ≡ nowhere)) ⊎ AtStep n p
   after-refused c {n} {p} = go (largeConstant c)
     where
       go : (b : Bool) → unless (not b) 18 nowhere (counterAnswerOf c first (λ j. getD counts j 0) is rs) ≡ refused n p
-          → ((b ≡ true) × (n ≡ 18) × (p ≡ nowhere)) ⊎ AtStep 0 (length is) n p
+          → ((b ≡ true) × (n ≡ 18) × (p ≡ nowhere)) ⊎ AtStep n p
       go true e = inl (refl, sym (refused-same e .0), sym (refused-same e .1))
       go false e = inr (answer-place c first _ is rs e)
 
@@ -83,9 +70,9 @@ module _ (bs counts is : List ℕ) (first : ℕ) (rs : List ℕ) where
   unfolding anyOf
   late c {n} {p} e = go (after-refused c e)
     where
-      go : ((largeConstant c ≡ true) × (n ≡ 18) × (p ≡ nowhere)) ⊎ AtStep 0 (length is) n p → 14 ≤ n
+      go : ((largeConstant c ≡ true) × (n ≡ 18) × (p ≡ nowhere)) ⊎ AtStep n p → 14 ≤ n
       go (inl h) = omega (arith, h .1)
-      go (inr h) = at-least 14 n _ refl (h .number)
+      go (inr h) = memb-least 14 n _ refl (h .0)
 
   -- up to 13 the board judges as the player, called with as many times as there are readings
   pub judges-as-player : (ts : List ℕ) → length ts ≡ length rs → (n p : ℕ) → n ≤ 13
@@ -109,7 +96,7 @@ module _ (bs counts is : List ℕ) (first : ℕ) (rs : List ℕ) where
       numbers = 14 ∷ 15 ∷ 22 ∷ 23 ∷ 24 ∷ []
 
       player-late : (c : Chart) → played c ≡ refused n p → 14 ≤ n
-      player-late c e = at-least 14 n numbers refl
+      player-late c e = memb-least 14 n numbers refl
           (number-is numbers (played c) (answer-numbers numbers playerTime (λ t e. refl) (refl, refl, refl, refl) c _ _) e)
 
   -- 1 to 10 come exactly where the judgement of the file gives them
@@ -130,7 +117,7 @@ module _ (bs counts is : List ℕ) (first : ℕ) (rs : List ℕ) where
     data Refused (n p : ℕ) : Type 0 where
       by-inputs : n ≤ 13 → RefusalOfPlay (length is) n p → Refused n p
       by-constant : ConstantRefused bs counts is rs → n ≡ 18 → p ≡ nowhere → Refused n p
-      by-step : AtStep 0 (length is) n p → Refused n p
+      by-step : AtStep n p → Refused n p
 
     counter-refused : (n p : ℕ) → counterAnswer bs counts is first rs ≡ refused n p → Refused n p
     counter-refused n p e = go (then-refused (inputsJudged bs counts same) afterInputs (sym answer-is ∙ e))
@@ -139,7 +126,7 @@ module _ (bs counts is : List ℕ) (first : ℕ) (rs : List ℕ) where
         same = eqb (length is) (length rs)
 
         later : (c : Chart) → inputsJudged bs counts same ≡ result c
-            → ((largeConstant c ≡ true) × (n ≡ 18) × (p ≡ nowhere)) ⊎ AtStep 0 (length is) n p → Refused n p
+            → ((largeConstant c ≡ true) × (n ≡ 18) × (p ≡ nowhere)) ⊎ AtStep n p → Refused n p
         later c f (inl h) =
             let w = inputs-result bs counts same bytes c .0 f in
             by-constant (record {
@@ -166,12 +153,12 @@ module _ (bs counts is : List ℕ) (first : ℕ) (rs : List ℕ) where
         as-play l (play-judgement h) = of-judgement h
         as-play l (play-counts h q) = of-counts h q
         as-play l (play-lengths h q) = of-lengths h q
-        as-play l (play-step h q) = absurd (omega (arith, at-least 14 n _ refl h))
+        as-play l (play-step h q) = absurd (omega (arith, memb-least 14 n _ refl h))
 
         go : Refused n p → RefusalOfCounter (length is) n p
         go (by-inputs l h) = as-play l h
         go (by-constant h q r) = of-constants q r
-        go (by-step h) = of-step (h .number) (h .below)
+        go (by-step h) = of-step (h .0) (h .1 .1)
 
     -- what is left where all that is handed in passes
     passed : (c : Chart) → Accepts bs c → CountsAllowed c counts → length is ≡ length rs → counterAnswer bs counts is first rs ≡ afterInputs c
@@ -185,7 +172,7 @@ module _ (bs counts is : List ℕ) (first : ℕ) (rs : List ℕ) where
         out : Refused 18 p → (p ≡ nowhere) × ConstantRefused bs counts is rs
         out (by-inputs l h) = absurd (omega arith)
         out (by-constant h q r) = (r, h)
-        out (by-step h) = absurd (true≢false (sym (h .number)))
+        out (by-step h) = absurd (true≢false (sym (h .0)))
 
         back : (p ≡ nowhere) × ConstantRefused bs counts is rs → counterAnswer bs counts is first rs ≡ refused 18 p
         back h =
@@ -204,7 +191,7 @@ module _ (bs counts is : List ℕ) (first : ℕ) (rs : List ℕ) where
         not-one k h q = not-both (rw q at m) h
 
         go : RefusalOfCounter (length is) n p → ⊥
-        go (of-judgement h) = omega (arith, judged-numbers h .1, at-least 11 n never refl m)
+        go (of-judgement h) = omega (arith, judged-numbers h .1, memb-least 11 n never refl m)
         go (of-counts h q) = not-one 12 refl h
         go (of-lengths h q) = not-one 13 refl h
         go (of-constants h q) = not-one 18 refl h
@@ -222,11 +209,11 @@ module _ (bs counts is : List ℕ) (first : ℕ) (rs : List ℕ) where
     -- ---- a result
 
     -- exactly where all refusals before the steps pass, and the steps come to it
-    pub counter-result : (a : CounterArrival) → (counterAnswer bs counts is first rs ≡ result a) ↔ Arrived bs counts is first rs a
+    pub counter-result : (a : CounterArrival) → (counterAnswer bs counts is first rs ≡ result a) ↔ CounterArrived bs counts is first rs a
     counter-result a =
         (out, λ w. passed (w .chart) (w .accepts) (w .counts-allowed) (w .one-length) ∙ rw (w .small-constants) (w .steps))
       where
-        out : counterAnswer bs counts is first rs ≡ result a → Arrived bs counts is first rs a
+        out : counterAnswer bs counts is first rs ≡ result a → CounterArrived bs counts is first rs a
         out e =
             let same = eqb (length is) (length rs) in
             let x = then-result (inputsJudged bs counts same) afterInputs (sym answer-is ∙ e) in

@@ -1,8 +1,7 @@
 -- A step list on the counter board is refused with 14, 22 or 24, at the number of one of its steps. Nothing is hard: the bounds widen step by step.
 -- Assumes nothing.
-use mathlib.Core.Path.{_≡_, refl, sym}
-use mathlib.Core.Logic.{_⊎_, inl, inr}
-use mathlib.Core.Bool.{Bool, true, false}
+use mathlib.Core.Path.{_≡_, refl, subst}
+use mathlib.Core.Bool.{true}
 use mathlib.Core.Option.{Option, none, some}
 use mathlib.Core.List.{List, [], _∷_}
 use Prim.Native.Nat.{ℕ, suc, _+_, _≤_, _<_}
@@ -10,60 +9,42 @@ use native.Mathlib.Omega.{arith}
 use lib.Dec.{eqb}
 use lib.ListN.{length, getElem?}
 use Rattle.lists.specs.Lists.{memb}
-use Rattle.model.specs.Answer.{Answer, result, refused, unless}
+use Rattle.model.specs.Answer.{refused, result}
 use Rattle.model.specs.Chart.{Transition, Chart}
 use Rattle.model.specs.Run.{Counts, enabled}
-use Rattle.model.proofs.Answers.{not-result, refused-same, then-refused}
+use Rattle.player.proofs.StepPlaces.{StepRefusal, unless-place, steps-more, ended-place}
 use Rattle.counter_model.specs.CounterRun.{CounterState, countsAt, counterAfter, counterAttempt, counterSteps, counterBegin, counterOutcome}
 use Rattle.counter_model.specs.CounterPlayer.{counterArrival, counterAnswerOf}
+use Rattle.counter_model.proofs.AddedUp.{counter-none, counter-some}
 
--- a refusal with one of the steps' numbers, and a place from lo on, below hi
-pub record AtStep (lo hi n p : ℕ) : Type 0 where
-  pub number : memb n (14 ∷ 22 ∷ 24 ∷ []) ≡ true
-  pub from : lo ≤ p
-  pub below : p < hi
+abbrev pub counterStepNumbers : List ℕ
+counterStepNumbers = 14 ∷ 22 ∷ 24 ∷ []
 
-module _ (c : Chart) {n p : ℕ} where
-  attempt-place : (k : ℕ) (s : CounterState) (i now : ℕ) → counterAttempt c k s i now ≡ refused n p → AtStep k (suc k) n p
-  unfolding memb counterAttempt
-  attempt-place k s i now = go (getElem? (c .transitions) i)
+module _ (c : Chart) where
+  attempt-place : (k : ℕ) (s : CounterState) (i now : ℕ) → StepRefusal counterStepNumbers k (suc k) (counterAttempt c k s i now)
+  unfolding memb
+  attempt-place k s i now = go (getElem? (c .transitions) i) refl
     where
-      at : (m : ℕ) → memb m (14 ∷ 22 ∷ 24 ∷ []) ≡ true → _≡_ {A = Answer CounterState} (refused m k) (refused n p) → AtStep k (suc k) n p
-      at m h e = let z = refused-same e in record { number = rw (← z .0) h; from = omega (arith, z .1); below = omega (arith, z .1) }
+      go : (o : Option Transition) → getElem? (c .transitions) i ≡ o → StepRefusal counterStepNumbers k (suc k) (counterAttempt c k s i now)
+      go none h = rw (counter-none c k s i now h) (refl, (omega arith, omega arith))
+      go (some r) h =
+          rw (counter-some c k s i now (record { there = h }))
+          (unless-place counterStepNumbers k (eqb (r .source) (s .location)) 22 _ refl
+          (unless-place counterStepNumbers k (enabled c r (countsAt s now)) 24 (result (counterAfter r s now)) refl tt))
 
-      two-tests : (leaves met : Bool) (s′ : CounterState) → unless leaves 22 k (unless met 24 k (result s′)) ≡ refused n p → AtStep k (suc k) n p
-      two-tests false met s′ e = at 22 refl e
-      two-tests true false s′ e = at 24 refl e
-      two-tests true true s′ e = absurd (not-result (sym e))
-
-      tried : Option Transition → Answer CounterState
-      tried o = elim o [
-        | none ↦ refused 14 k
-        | some r ↦ unless (eqb (r .source) (s .location)) 22 k (unless (enabled c r (countsAt s now)) 24 k (result (counterAfter r s now)))
-      ]
-
-      go : (o : Option Transition) → tried o ≡ refused n p → AtStep k (suc k) n p
-      go none e = at 14 refl e
-      go (some r) e = two-tests (eqb (r .source) (s .location)) (enabled c r (countsAt s now)) (counterAfter r s now) e
-
-  steps-place : (is rs : List ℕ) (k : ℕ) (s : CounterState) → counterSteps c k s is rs ≡ refused n p → AtStep k (k + length is) n p
+  steps-place : (is rs : List ℕ) (k : ℕ) (s : CounterState) → StepRefusal counterStepNumbers k (k + length is) (counterSteps c k s is rs)
   unfolding counterSteps
-  steps-place [] rs k s e = absurd (not-result (sym e))
-  steps-place (i ∷ is) [] k s e = absurd (not-result (sym e))
-  steps-place (i ∷ is) (now ∷ rs) k s e = go (then-refused (counterAttempt c k s i now) _ e) (λ (s′ : CounterState). steps-place is rs (suc k) s′)
-    where
-      go : (counterAttempt c k s i now ≡ refused n p)
-          ⊎ ((s′ : CounterState) × (counterAttempt c k s i now ≡ result s′) × (counterSteps c (suc k) s′ is rs ≡ refused n p))
-          → ((s′ : CounterState) → counterSteps c (suc k) s′ is rs ≡ refused n p → AtStep (suc k) (suc k + length is) n p)
-          → AtStep k (k + suc (length is)) n p
-      go (inl h) later = let w = attempt-place k s i now h in record { number = w .number; from = omega arith; below = omega arith }
-      go (inr h) later = let w = later (h .0) (h .2) in record { number = w .number; from = omega arith; below = omega arith }
+  steps-place [] rs k s = tt
+  steps-place (i ∷ is) [] k s = tt
+  steps-place (i ∷ is) (now ∷ rs) k s =
+      steps-more counterStepNumbers k (length is) (counterAttempt c k s i now) _ (attempt-place k s i now) (λ s′. steps-place is rs (suc k) s′)
 
-  pub answer-place : (first : ℕ) (v : Counts) (is rs : List ℕ) → counterAnswerOf c first v is rs ≡ refused n p → AtStep 0 (length is) n p
+  answer-places : (first : ℕ) (v : Counts) (is rs : List ℕ) → StepRefusal counterStepNumbers 0 (length is) (counterAnswerOf c first v is rs)
   unfolding counterAnswerOf counterOutcome counterArrival
-  answer-place first v is rs e = go (then-refused (counterOutcome c first v is rs) (counterArrival c) e)
-    where
-      go : (counterOutcome c first v is rs ≡ refused n p)
-          ⊎ ((s : CounterState) × (counterOutcome c first v is rs ≡ result s) × (counterArrival c s ≡ refused n p)) → AtStep 0 (length is) n p
-      go (inl h) = let w = steps-place is rs 0 (counterBegin c first v) h in record { number = w .number; from = omega arith; below = omega arith }
-      go (inr h) = absurd (not-result (sym (h .2)))
+  answer-places first v is rs =
+      ended-place counterStepNumbers (length is) (counterOutcome c first v is rs) (counterArrival c)
+      (steps-place is rs 0 (counterBegin c first v)) (λ s. tt)
+
+  pub answer-place : (first : ℕ) (v : Counts) (is rs : List ℕ) {n p : ℕ} → counterAnswerOf c first v is rs ≡ refused n p
+      → (memb n counterStepNumbers ≡ true) × ((0 ≤ p) × (p < length is))
+  answer-place first v is rs e = subst (StepRefusal counterStepNumbers 0 (length is)) e (answer-places first v is rs)

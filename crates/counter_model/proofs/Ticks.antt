@@ -6,7 +6,7 @@ use native.Mathlib.Omega.{arith}
 use lib.ListN.{length, getD, take}
 use Rattle.model.specs.Run.{largestTime}
 use Rattle.counter_model.specs.Counter.{counterNumbers, ticksPassed, readingAt, readingsAt, timesOf}
-use Rattle.counter_model.specs.CounterClaim.{Spaced}
+use Rattle.counter_model.specs.CounterClaim.{EachStepFrom, NeverFallFrom, FewTicksFrom, FewTicks, FewTicksAfterFirst, Spaced, SpacedAfterFirst}
 
 -- ---- two readings
 
@@ -25,17 +25,7 @@ reading-first first small = omega arith
 
 -- ---- a list of them
 
--- P holds at each step, of the time before it and of its own; before the first step it is tick t
-abbrev pub EachStepFrom : (t : ℕ) → (times : List ℕ) → (P : (before now : ℕ) → Type 0) → Type 0
-EachStepFrom t ts P = (n : ℕ) → n < length ts → P (getD (t ∷ ts) n 0) (getD ts n 0)
-
-abbrev pub NeverFallFrom : (t : ℕ) → (times : List ℕ) → Type 0
-NeverFallFrom t ts = EachStepFrom t ts (λ before now. before ≤ now)
-
-abbrev pub FewTicksFrom : (t : ℕ) → (times : List ℕ) → Type 0
-FewTicksFrom t ts = EachStepFrom t ts (λ before now. now - before < counterNumbers)
-
--- times that keep both are what their readings add up to
+-- times that never fall and have few ticks between them are what their readings add up to
 pub times-back : (first t : ℕ) (ts : List ℕ) → NeverFallFrom t ts → FewTicksFrom t ts → timesOf (readingAt first t) t (readingsAt first ts) ≡ ts
 unfolding timesOf readingsAt
 times-back first t [] up few = refl
@@ -61,9 +51,22 @@ front P t [] h (suc n) k l = absurd (omega arith)
 front P t (t′ ∷ ts) h (suc n) zero l = h 0 (omega arith)
 front P t (t′ ∷ ts) h (suc n) (suc k) l = front P t′ ts (λ m b. h (suc m) (omega arith)) n k (omega arith)
 
-pub spaced-front : (ts : List ℕ) → Spaced ts → (n : ℕ) → Spaced (take n ts)
+pub spaced-front : (ts : List ℕ) → SpacedAfterFirst ts → (n : ℕ) → SpacedAfterFirst (take n ts)
 spaced-front ts s n = record {
   never-fall = front (λ before now. before ≤ now) 0 ts (s .never-fall) n;
   none-late = front (λ before now. now ≤ largestTime) 0 ts (s .none-late) n;
-  few-ticks = front (λ before now. now - before < counterNumbers) 0 ts (s .few-ticks) n;
+  few-ticks = after-first ts (s .few-ticks) n;
 }
+  where
+    after-first : (us : List ℕ) → FewTicksAfterFirst us → (m : ℕ) → FewTicksAfterFirst (take m us)
+    after-first us h zero = tt
+    after-first [] h (suc m) = tt
+    after-first (t ∷ us) h (suc m) = front (λ before now. now - before < counterNumbers) t us h m
+
+-- the provisos of document 02 are more
+pub spaced-after-first : (ts : List ℕ) → Spaced ts → SpacedAfterFirst ts
+spaced-after-first ts s = record { never-fall = s .never-fall; none-late = s .none-late; few-ticks = go ts (s .few-ticks) }
+  where
+    go : (us : List ℕ) → FewTicks us → FewTicksAfterFirst us
+    go [] h = tt
+    go (t ∷ us) h = λ n l. h (suc n) (omega arith)

@@ -42,7 +42,7 @@ demand-of c c′ s j alike s′ j′ = record {
   alike = alike;
   storable = s′;
   judged-so = j′;
-  plays = λ v w is ts a b. rw (chart-survives c s, chart-survives c′ s′) (alike-played c c′ alike j j′ v w a b is ts);
+  plays = λ v w is ts a b. rw (chart-survives c s, chart-survives c′ s′) (alike-played c c′ (alike .plays) j j′ v w a b is ts);
   answers = file-answers c s j;
   answers′ = file-answers c′ s′ j′;
 }

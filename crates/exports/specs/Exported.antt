@@ -6,9 +6,11 @@ use Rattle.model.specs.Answer.{Answer, result, refused}
 use Rattle.model.specs.Player.{Arrival}
 use Rattle.analysis.specs.Analysing as analysis
 use Rattle.rewriting.specs.Rewriting as rewriting
+use Rattle.counter_model.specs.CounterPlayer.{CounterArrival}
 use Rattle.exports.specs.declared.chart_analysis.{«chart_analysis»}
 use Rattle.exports.specs.declared.chart_rewriting.{«chart_rewriting»}
 use Rattle.exports.specs.declared.chart_playing.{«chart_playing»}
+use Rattle.exports.specs.declared.chart_counter_playing.{«chart_counter_playing»}
 
 abbrev pub bit : Bool → ℕ
 bit b = cond b 1 0
@@ -24,3 +26,7 @@ rewritingOf (refused n p) = record { number = n; place = p; used = 0; length = 0
 abbrev pub playingOf : Answer Arrival → «chart_playing»
 playingOf (result x) = record { number = 0; place = 0; location = x .location; time = x .time; accepting = bit (x .accepting) }
 playingOf (refused n p) = record { number = n; place = p; location = 0; time = 0; accepting = 0 }
+
+abbrev pub counterPlayingOf : Answer CounterArrival → «chart_counter_playing»
+counterPlayingOf (result x) = record { number = 0; place = 0; location = x .location; accepting = bit (x .accepting) }
+counterPlayingOf (refused n p) = record { number = n; place = p; location = 0; accepting = 0 }

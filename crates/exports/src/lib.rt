@@ -6,6 +6,7 @@ ghost use Rattle.chart_lists.specs.Lists.{overwritten};
 ghost use Rattle.analysis.specs.Analysing.{analysedIn, analyseAnswer};
 ghost use Rattle.rewriting.specs.Rewriting.{newFile, rewriteInto, rewriteAnswer};
 ghost use Rattle.player.specs.Playing.{playAnswer};
+ghost use Rattle.counter_model.specs.CounterPlayer.{counterAnswer};
 ghost use Rattle.controller_model.specs.Controlling.{
   setUp,
   event as Call·event,
@@ -17,13 +18,14 @@ ghost use Rattle.controller_model.specs.Controlling.{
   reported,
 };
 ghost use Rattle.controller_answers.specs.Answered.{calledOf, turnedOf};
-ghost use Rattle.exports.specs.Exported.{analysisOf, rewritingOf, playingOf};
+ghost use Rattle.exports.specs.Exported.{analysisOf, rewritingOf, playingOf, counterPlayingOf};
 use analysis::Analysis;
 use controller_answers::chart_called;
 use controller_answers::chart_turned;
 use controller_model::Controller;
 use controller_model::Heads;
 use controller_model::Parts;
+use counter_player::CounterPlayed;
 use player::Played;
 use rewriting::Rewritten;
 
@@ -55,6 +57,15 @@ pub struct chart_playing {
     pub place: u64,
     pub location: u64,
     pub time: u64,
+    pub accepting: u64,
+}
+
+// A refusal's number and place, or 0 and 0 with where the steps end; accepting is 1 or 0.
+#[repr(C)]
+pub struct chart_counter_playing {
+    pub number: u64,
+    pub place: u64,
+    pub location: u64,
     pub accepting: u64,
 }
 
@@ -143,6 +154,38 @@ pub extern "C" fn chart_play(
             place: f.place,
             location: 0,
             time: 0,
+            accepting: 0,
+        },
+    }
+}
+
+// The counter board's player, called on a chart file: each step's transition with the counter's reading, which was `first` at tick 0.
+#[no_mangle]
+pub extern "C" fn chart_play_counter(
+    file: &[u8],
+    counts: &[u32],
+    transitions: &[u32],
+    first: u16,
+    readings: &[u16],
+) -> chart_counter_playing
+    ensures answer { λ r. ⌜ r
+        ≡ counterPlayingOf (counterAnswer (now (file .entry)) (now (counts .entry)) (now (transitions .entry)) first (now (readings .entry))) ⌝ }
+{
+    let a = counter_player::play_counter(file, counts, transitions, first, readings);
+    match a {
+        CounterPlayed::Arrived {
+            location,
+            accepting,
+        } => chart_counter_playing {
+            number: 0,
+            place: 0,
+            location: location as u64,
+            accepting: accepting as u64,
+        },
+        CounterPlayed::Refused(f) => chart_counter_playing {
+            number: f.number as u64,
+            place: f.place,
+            location: 0,
             accepting: 0,
         },
     }

@@ -7,11 +7,11 @@ use mathlib.Core.Option.{none, some, Option·some-injective, Option·none-ne-som
 use mathlib.Core.List.{List, [], _∷_, _++_, map}
 use Prim.Native.Nat.{ℕ, zero, suc, _<_, _≤_}
 use native.Mathlib.Omega.{arith}
-use lib.Dec.{eqb}
+use lib.Dec.{ltb, eqb}
 use lib.ListN.{length, getElem?}
-use borrow.Author.Tests.{eq-eqb}
+use borrow.Author.Tests.{eq-eqb, lt-ltb}
 use Rattle.lists.specs.Lists.{memb, anyOf, firstOf, top}
-use Rattle.lists.proofs.Bools.{or-cases, or-left, or-right, same-number, lt-or-le}
+use Rattle.lists.proofs.Bools.{or-cases, or-left, or-right, same-number, lt-or-le, not-both}
 
 pub memb-cases : (k x : ℕ) (xs : List ℕ) → memb k (x ∷ xs) ≡ true → (k ≡ x) ⊎ (memb k xs ≡ true)
 unfolding memb
@@ -120,6 +120,14 @@ any-memb-in f x l m t = any-in f l (memb-nth l x m .0) (memb-nth l x m .1) t
 
 pub any-memb-out : (f : ℕ → Bool) (l : List ℕ) → anyOf f l ≡ true → (x : ℕ) × (memb x l ≡ true) × (f x ≡ true)
 any-memb-out f l h = let r = any-out f l h in (r .1, nth-memb l (r .0) (r .2), r .3)
+
+-- what is in a list none of which is below b
+pub memb-least : (b n : ℕ) (l : List ℕ) → anyOf (λ x. ltb x b) l ≡ false → memb n l ≡ true → b ≤ n
+memb-least b n l high m = go (lt-or-le n b)
+  where
+    go : (n < b) ⊎ (b ≤ n) → b ≤ n
+    go (inl h) = absurd (not-both (any-memb-in (λ x. ltb x b) n l m (lt-ltb n b h)) high)
+    go (inr h) = h
 
 -- ---- one more than the largest
 

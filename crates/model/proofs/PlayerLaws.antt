@@ -1,4 +1,4 @@
--- The player on two charts that behave alike gives one answer, from any counts that 12 allows, and 12 allows just these. Nothing is hard. Assumes
+-- The player on two charts whose step lists have the same answers gives one answer, from any counts that 12 allows, and 12 allows just these. Nothing is hard. Assumes
 -- nothing.
 use mathlib.Core.Path.{_≡_, refl, sym, ap, _∙_}
 use mathlib.Core.Bool.{not}
@@ -15,7 +15,7 @@ use Rattle.model.specs.Chart.{Chart}
 use Rattle.model.specs.Run.{playerTime, largestTime}
 use Rattle.model.specs.Judge.{judged}
 use Rattle.model.specs.Player.{answerOf, tooLarge, countsJudged, stepsOf, played}
-use Rattle.model.specs.Equivalence.{Alike}
+use Rattle.model.specs.Equivalence.{SameAnswers}
 use Rattle.model.proofs.Answers.{unless-result}
 use Rattle.model.proofs.PlayerNumbers.{played-judged}
 pub use Rattle.model.specs.PlayerTerms.{CountsAllowed}
@@ -53,9 +53,9 @@ module _ (c : Chart) (counts : List ℕ) where
       → played c counts is ts ≡ answerOf playerTime c (λ j. getD counts j 0) (stepsOf is ts)
   played-answer e a is ts l = played-steps e a is ts ∙ rw (eq-eqb (length is) (length ts) l) refl
 
-module _ (c c′ : Chart) (alike : Alike c c′) (judged-c : judged c ≡ result c) (judged-c′ : judged c′ ≡ result c′) where
+module _ (c c′ : Chart) (same : SameAnswers playerTime c c′) (judged-c : judged c ≡ result c) (judged-c′ : judged c′ ≡ result c′) where
   pub alike-played : (v w : List ℕ) → CountsAllowed c v → CountsAllowed c′ w → (is ts : List ℕ) → played c v is ts ≡ played c′ w is ts
   alike-played v w a a′ is ts =
       played-steps c v judged-c a is ts
-      ∙ ap (unless (eqb (length is) (length ts)) 13 nowhere) (alike .plays (λ j. getD v j 0) (λ j. getD w j 0) (stepsOf is ts))
+      ∙ ap (unless (eqb (length is) (length ts)) 13 nowhere) (same (λ j. getD v j 0) (λ j. getD w j 0) (stepsOf is ts))
       ∙ sym (played-steps c′ w judged-c′ a′ is ts)

@@ -64,4 +64,4 @@ module _ (K : ℕ) (c : Chart) (plan : Plan c (numbering (board c))) (fits-unblo
   -- the player, from counts that 12 allows for each, gives one answer
   pub rewriting-played : judged (x .chart) ≡ result (x .chart) → (v w : List ℕ) → CountsAllowed c v → CountsAllowed (x .chart) w → (is ts : List ℕ)
       → played c v is ts ≡ played (x .chart) w is ts
-  rewriting-played accepted = alike-played c (x .chart) (rewriting-alike .alike) (rewriting-is K c x made .accepted) accepted
+  rewriting-played accepted = alike-played c (x .chart) (rewriting-alike .alike .plays) (rewriting-is K c x made .accepted) accepted

@@ -5,3 +5,4 @@ pub mod Accepting
 pub mod TooLarge
 pub mod StepPlaces
 pub mod Refusals
+pub mod InputsJudged

@@ -9,10 +9,10 @@ use native.Mathlib.Omega.{arith}
 use lib.Dec.{leb, eqb}
 use lib.ListN.{length, getD}
 use borrow.Author.Tests.{leb-false}
-use Rattle.lists.specs.Lists.{memb, lowest}
+use Rattle.lists.specs.Lists.{memb, anyOf, lowest}
 use Rattle.lists.specs.Rising.{All}
 use Rattle.file_format.specs.Parse.{Bytes}
-use Rattle.lists.proofs.Membership.{memb-nil, memb-cases, memb-tail}
+use Rattle.lists.proofs.Membership.{memb-least, memb-tail}
 use Rattle.model.specs.Answer.{Answer, result, refused, then, unless, nowhere}
 use Rattle.model.specs.Chart.{Chart}
 use Rattle.model.specs.Run.{playerTime}
@@ -28,22 +28,12 @@ use Rattle.player.specs.Playing.{playAnswer}
 use Rattle.player.specs.Refusals.{RefusalOfPlay}
 use Rattle.player.specs.Refusals.RefusalOfPlay.{of-judgement, of-counts, of-lengths, of-step}
 use Rattle.player.proofs.Files.{play-is}
-use Rattle.player.proofs.StepPlaces.{StepRefusal, answer-place, length-stepsOf}
-
--- what is in a list is at least what all of it is
-least : (b n : ℕ) (l : List ℕ) → All (λ x. b ≤ x) l → memb n l ≡ true → b ≤ n
-least b n [] h m = absurd (memb-nil n m)
-least b n (x ∷ l) h m = go (memb-cases n x l m) (least b n l (h .1))
-  where
-    go : (n ≡ x) ⊎ (memb n l ≡ true) → (memb n l ≡ true → b ≤ n) → b ≤ n
-    go (inl e) f = omega (arith, h .0)
-    go (inr q) f = f q
+use Rattle.player.proofs.StepPlaces.{StepRefusal, playerNumbers, answer-place, length-stepsOf}
 
 module _ (bs counts is ts : List ℕ) where
   after-judgement : (c : Chart) (n p : ℕ) → playedOn counts is ts c ≡ refused n p → 12 ≤ n
-  after-judgement c n p e =
-      least 12 n _ (omega arith, (omega arith, (omega arith, (omega arith, (omega arith, (omega arith, (omega arith, tt)))))))
-      (number-is _ _ (after-numbers counts is ts c) e)
+  unfolding anyOf
+  after-judgement c n p e = memb-least 12 n _ refl (number-is _ _ (after-numbers counts is ts c) e)
 
   -- 1 to 10 come exactly where the judgement of the file gives them
   pub play-judged : (n p : ℕ) → n ≤ 10 → (playAnswer bs counts is ts ≡ refused n p) ↔ (judgedIn bs ≡ refused n p)
@@ -72,8 +62,8 @@ module _ (bs counts is ts : List ℕ) where
 
     of-answer : answer ≡ refused n p → RefusalOfPlay (length is) n p
     of-answer e =
-        let h : (memb n (14 ∷ 15 ∷ 22 ∷ 23 ∷ 24 ∷ []) ≡ true) × ((0 ≤ p) × (p < length (stepsOf is ts))) =
-        subst (StepRefusal 0 (length (stepsOf is ts))) e (answer-place c (λ j. getD counts j 0) (stepsOf is ts)) in
+        let h : (memb n playerNumbers ≡ true) × ((0 ≤ p) × (p < length (stepsOf is ts))) =
+        subst (StepRefusal playerNumbers 0 (length (stepsOf is ts))) e (answer-place c (λ j. getD counts j 0) (stepsOf is ts)) in
         of-step (h .0) (omega (arith, h .1 .1, length-stepsOf is ts))
 
     of-call : (same : Bool) → unless same 13 nowhere answer ≡ refused n p → RefusalOfPlay (length is) n p
