@@ -8,3 +8,4 @@ pub mod StepPlaces
 pub mod Refusals
 pub mod Cases
 pub mod Needed
+pub mod RewrittenConstants

@@ -56,7 +56,8 @@ plan-demand c N s j P few =
 -- a file, the chart that it holds, and what the rewriting returns for it
 module _ (K room : ℕ) (bs : List ℕ) (bytes : Bytes bs) (c : Chart) (reads : chartIn bs ≡ result c) (x : Rewriting)
     (e : rewriteInto K room bs ≡ result x) where
-  made : rewriting K c ≡ result x
+  -- it is the rewriting of that chart
+  pub made : rewriting K c ≡ result x
   made = let o = rewriting-of K room bs x e in
       subst (λ (d : Chart). rewriting K d ≡ result x) (result-same (sym (o .reads) ∙ reads)) (o .made)
 

@@ -3,3 +3,4 @@ pub mod RewrittenFile
 pub mod Points
 pub mod OnFiles
 pub mod AnyVersion
+pub mod CounterHolds
