@@ -62,10 +62,11 @@ module _ (room : ℕ) (bs : List ℕ) where
         go (is-short c e l f) = let s = refused-same (sym f ∙ x) in of-short-list (sym (s .0)) (sym (s .1))
         go (is-found c e l f) = absurd (not-result (sym x ∙ f))
 
-    pub never-17 : (p : ℕ) → analyseAnswer room bs ≡ refused 17 p → ⊥
-    never-17 p x = go (refusals-of-analysis 17 p x)
+    -- 17 is the writer's, 18 the counter board's
+    pub never-17-or-18 : (n p : ℕ) → 17 ≤ n → n ≤ 18 → analyseAnswer room bs ≡ refused n p → ⊥
+    never-17-or-18 n p lo hi x = go (refusals-of-analysis n p x)
       where
-        go : RefusalOfAnalysis 17 p → ⊥
+        go : RefusalOfAnalysis n p → ⊥
         go (of-judgement r) = omega (arith, judged-numbers r .1)
         go (of-short-list e f) = omega (arith, e)
 

@@ -1,16 +1,19 @@
 -- Which refusals set-up and the calls give, whatever is handed in: each judgement is taken apart from its front, and every way in which it is refused
 -- is told with what passed before. Nothing is hard. Assumes nothing.
-use mathlib.Core.Path.{_≡_, sym, ap, _∙_}
+use mathlib.Core.Path.{_≡_, refl, sym, ap, _∙_}
 use mathlib.Core.Logic.{_⊎_, inl, inr, _↔_}
-use mathlib.Core.Bool.{true, false, true≢false}
+use mathlib.Core.Bool.{true, false, _&&_}
 use mathlib.Core.Option.{some}
 use mathlib.Core.List.{List}
 use Prim.Native.Nat.{ℕ, _≤_, _<_}
 use native.Mathlib.Omega.{arith}
 use lib.Dec.{leb}
-use Rattle.lists.specs.Lists.{memb, upTo}
+use borrow.Author.Tests.{le-leb}
+use Rattle.lists.specs.Lists.{memb, anyOf, upTo}
 use Rattle.model.specs.Answer.{Answer, result, refused, then, unless, nowhere}
 use Rattle.model.specs.Chart.{Chart}
+use Rattle.lists.proofs.Bools.{not-both}
+use Rattle.lists.proofs.Membership.{any-memb-in}
 use Rattle.lists.proofs.Nth.{upTo-nth, nth-upTo}
 use Rattle.model.proofs.Answers.{not-result, unless-refused, then-refused}
 use Rattle.file_format.specs.Parse.{Bytes}
@@ -239,25 +242,26 @@ module _ (files : List ℕ) (hs : Heads) (K : ℕ) where
   pub refusals-of-called : (s : Controller) (k : Call) → Bytes files → (n p : ℕ) → called files hs K s k ≡ refused n p → RefusalOfCall k n p
   refusals-of-called s k bytes n p e = of-call files hs n p K s k bytes e
 
-  -- ---- 17 is the writer's
+  -- ---- 17 is the writer's, 18 the counter board's
 
-  heads-never-17 : {p : ℕ} → RefusalOfHeads 17 p → ⊥
-  heads-never-17 (of-number-or-blocks q r) = omega (arith, q)
-  heads-never-17 (of-chart r) = omega (arith, judged-numbers r .1)
-  heads-never-17 (of-board q r) = omega (arith, q)
+  module _ (n p : ℕ) (lo : 17 ≤ n) (hi : n ≤ 18) where
+    not-of-heads : RefusalOfHeads n p → ⊥
+    not-of-heads (of-number-or-blocks q r) = omega (arith, q)
+    not-of-heads (of-chart r) = omega (arith, judged-numbers r .1)
+    not-of-heads (of-board q r) = omega (arith, q)
 
-  pub set-up-never-17 : (counts : List ℕ) (ns : Parts) → Bytes files → (p : ℕ) → setUp files hs K counts ns ≡ refused 17 p → ⊥
-  set-up-never-17 counts ns bytes p e = go (refusals-of-setUp counts ns bytes 17 p e)
-    where
-      go : RefusalOfSetUp 17 p → ⊥
-      go (of-heads r) = heads-never-17 r
-      go (of-counts q r) = omega (arith, q)
+    pub set-up-never-17-or-18 : (counts : List ℕ) (ns : Parts) → Bytes files → setUp files hs K counts ns ≡ refused n p → ⊥
+    set-up-never-17-or-18 counts ns bytes e = go (refusals-of-setUp counts ns bytes n p e)
+      where
+        go : RefusalOfSetUp n p → ⊥
+        go (of-heads r) = not-of-heads r
+        go (of-counts q r) = omega (arith, q)
 
-  pub called-never-17 : (s : Controller) (k : Call) → Bytes files → (p : ℕ) → called files hs K s k ≡ refused 17 p → ⊥
-  unfolding memb
-  called-never-17 s k bytes p e = go (refusals-of-called s k bytes 17 p e)
-    where
-      go : RefusalOfCall k 17 p → ⊥
-      go (of-heads-again r) = heads-never-17 r
-      go (of-state q r) = omega (arith, q)
-      go (of-event i m q) = true≢false (sym m)
+    pub called-never-17-or-18 : (s : Controller) (k : Call) → Bytes files → called files hs K s k ≡ refused n p → ⊥
+    unfolding anyOf
+    called-never-17-or-18 s k bytes e = go (refusals-of-called s k bytes n p e)
+      where
+        go : RefusalOfCall k n p → ⊥
+        go (of-heads-again r) = not-of-heads r
+        go (of-state q r) = omega (arith, q)
+        go (of-event i m q) = not-both (any-memb-in (λ x. leb 17 x && leb x 18) n _ m (rw (le-leb 17 n lo, le-leb n 18 hi) refl)) refl

@@ -85,7 +85,7 @@ fn play_steps<'a>(
     let mut firsts = [0u16; MOST_TRANSITIONS];
     let tests = find_firsts(test_counts, n, &mut firsts);
     if chart_lists::large_among(constants, tests as usize) {
-        return CounterPlayed::Refused(refusal::CONSTANT_OVER_COUNTER);
+        return CounterPlayed::Refused(refusal::NOT_FOR_COUNTER);
     }
     let begin = State {
         location: header.initial,

@@ -100,10 +100,11 @@ refusals-shown (K ∷ file) b n p hn hp e = go (lt-or-le largestInput (length (K
     go (inl l) = same (of-size refl refl) n p hn hp (sym (text-16 (K ∷ file) l) ∙ e)
     go (inr l) = of-file-after K file (b .1) n p hn hp (sym (text-accepted K file l) ∙ e)
 
-pub never-17 : (input : List ℕ) → Bytes input → (p : ℕ) → p < 10 ^ 20 → textOf input ≡ refusedText 17 p → ⊥
-never-17 input b p hp e = go (refusals-shown input b 17 p (omega arith) hp e)
+-- 17 is the writer's, 18 the counter board's
+pub never-17-or-18 : (input : List ℕ) → Bytes input → (n p : ℕ) → 17 ≤ n → n ≤ 18 → p < 10 ^ 20 → textOf input ≡ refusedText n p → ⊥
+never-17-or-18 input b n p lo hi hp e = go (refusals-shown input b n p (omega arith) hp e)
   where
-    go : RefusalShown 17 p → ⊥
+    go : RefusalShown n p → ⊥
     go (of-judgement r) = omega (arith, judged-numbers r .1)
     go (of-limit f h) = omega (arith, f)
     go (of-size f h) = omega (arith, f)

@@ -2,17 +2,18 @@
 -- up to 10 comes from the judgement, since all later ones are at least 12. Assumes nothing.
 use mathlib.Core.Path.{_≡_, refl, sym, ap₂, subst, _∙_}
 use mathlib.Core.Logic.{_⊎_, inl, inr, _↔_}
-use mathlib.Core.Bool.{Bool, true, false, true≢false}
+use mathlib.Core.Bool.{Bool, true, false, _&&_}
 use mathlib.Core.List.{List, [], _∷_}
 use Prim.Native.Nat.{ℕ, _≤_, _<_}
 use native.Mathlib.Omega.{arith}
 use lib.Dec.{leb, eqb}
 use lib.ListN.{length, getD}
-use borrow.Author.Tests.{leb-false}
+use borrow.Author.Tests.{leb-false, le-leb}
 use Rattle.lists.specs.Lists.{memb, anyOf, lowest}
 use Rattle.lists.specs.Rising.{All}
 use Rattle.file_format.specs.Parse.{Bytes}
-use Rattle.lists.proofs.Membership.{memb-least, memb-tail}
+use Rattle.lists.proofs.Bools.{not-both}
+use Rattle.lists.proofs.Membership.{any-memb-in, memb-least, memb-tail}
 use Rattle.model.specs.Answer.{Answer, result, refused, then, unless, nowhere}
 use Rattle.model.specs.Chart.{Chart}
 use Rattle.model.specs.Run.{playerTime}
@@ -107,10 +108,11 @@ play-numbers bs counts is ts bytes n p e = go (refusals-of-play bs counts is ts 
     go (of-lengths h q) = inr (rw h refl)
     go (of-step m l) = inr (memb-tail n 12 (13 ∷ 14 ∷ 15 ∷ 22 ∷ 23 ∷ 24 ∷ []) (memb-tail n 13 (14 ∷ 15 ∷ 22 ∷ 23 ∷ 24 ∷ []) m))
 
-pub never-17 : (bs counts is ts : List ℕ) → Bytes bs → (p : ℕ) → playAnswer bs counts is ts ≡ refused 17 p → ⊥
-unfolding memb
-never-17 bs counts is ts bytes p e = go (play-numbers bs counts is ts bytes 17 p e)
+-- 17 is the writer's, 18 the counter board's
+pub never-17-or-18 : (bs counts is ts : List ℕ) → Bytes bs → (n p : ℕ) → 17 ≤ n → n ≤ 18 → playAnswer bs counts is ts ≡ refused n p → ⊥
+unfolding anyOf
+never-17-or-18 bs counts is ts bytes n p lo hi e = go (play-numbers bs counts is ts bytes n p e)
   where
-    go : ((1 ≤ 17) × (17 ≤ 10)) ⊎ (memb 17 (12 ∷ 13 ∷ 14 ∷ 15 ∷ 22 ∷ 23 ∷ 24 ∷ []) ≡ true) → ⊥
+    go : ((1 ≤ n) × (n ≤ 10)) ⊎ (memb n (12 ∷ 13 ∷ 14 ∷ 15 ∷ 22 ∷ 23 ∷ 24 ∷ []) ≡ true) → ⊥
     go (inl h) = omega (arith, h .1)
-    go (inr h) = true≢false (sym h)
+    go (inr h) = not-both (any-memb-in (λ k. leb 17 k && leb k 18) n _ h (rw (le-leb 17 n lo, le-leb n 18 hi) refl)) refl

@@ -3,7 +3,7 @@ use mathlib.Core.Path.{_≡_, refl, _∙_}
 use mathlib.Core.Logic.{inl, inr}
 use mathlib.Core.Bool.{Bool, true, false}
 use mathlib.Core.List.{List}
-use Prim.Native.Nat.{ℕ}
+use Prim.Native.Nat.{ℕ, _≤_}
 use native.Mathlib.Omega.{arith}
 use Rattle.model.specs.Answer.{Answer, result, refused, then, unless, nowhere}
 use Rattle.model.specs.Chart.{Chart}
@@ -37,9 +37,10 @@ module _ (l : Lists) (bs : List ℕ) (n p : ℕ) where
       go (result c) k e = absurd (result-refused refl e)
       go (refused m q) k e = let a : m ≡ n = cc in let b : q ≡ p = cc in into-refused (rw (← a, ← b) k)
 
-pub never-17 : (l : Lists) (bs : List ℕ) (p : ℕ) → readAnswer l bs ≡ refused 17 p → ⊥
-never-17 l bs p e = go (refusals-of-reading l bs 17 p e)
+-- 17 is the writer's, 18 the counter board's
+pub never-17-or-18 : (l : Lists) (bs : List ℕ) (n p : ℕ) → 17 ≤ n → n ≤ 18 → readAnswer l bs ≡ refused n p → ⊥
+never-17-or-18 l bs n p lo hi e = go (refusals-of-reading l bs n p e)
   where
-    go : RefusalOfReading 17 p → ⊥
+    go : RefusalOfReading n p → ⊥
     go (inl r) = omega (arith, r .last-number)
     go (inr h) = omega (arith, h .0)

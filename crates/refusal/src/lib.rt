@@ -78,7 +78,7 @@ pub const CONSTANT_TOO_LARGE: Refusal = Refusal {
 };
 
 // A constant over 65,535 in a chart that the counter board is to play.
-pub const CONSTANT_OVER_COUNTER: Refusal = Refusal {
+pub const NOT_FOR_COUNTER: Refusal = Refusal {
     number: 18,
     place: NOWHERE,
 };

@@ -53,10 +53,11 @@ module _ (K room : ℕ) (bs : List ℕ) where
         go e (is-stopped c s f h g) = let k = refused-same (sym e ∙ g) in refusal-of-stop s (k .0) (k .1)
         go e (is-returned x g) = absurd (result-refused g e)
 
-    pub never-17 : (p : ℕ) → rewriteAnswer K room bs ≡ refused 17 p → ⊥
-    never-17 p e = go (refusals-of-rewriteAnswer 17 p e)
+    -- 17 is the writer's, 18 the counter board's
+    pub never-17-or-18 : (n p : ℕ) → 17 ≤ n → n ≤ 18 → rewriteAnswer K room bs ≡ refused n p → ⊥
+    never-17-or-18 n p lo hi e = go (refusals-of-rewriteAnswer n p e)
       where
-        go : RefusalOfRewriting 17 p → ⊥
+        go : RefusalOfRewriting n p → ⊥
         go (of-judgement r) = omega (arith, judged-numbers r .1)
         go (of-limit f h) = omega (arith, f)
         go (of-used f h) = omega (arith, f)

@@ -181,6 +181,18 @@ unfolding writeAnswer
 write-refusals space m l =
     refuses-then (writeInto space m l) _ (into-refuses space m l) (λ c e. refuses-result (length (fileOf c))) .only
 
+-- 18 is the counter board's
+pub write-never-18 : (space : ℕ) (m : Header) (l : Lists) (n p : ℕ) → n ≡ 18 → writeAnswer space m l ≡ refused n p → ⊥
+write-never-18 space m l n p q e = go n p q (write-refusals space m l n p e)
+  where
+    go : (k i : ℕ) → k ≡ 18 → WriteRefusal k i → ⊥
+    go k i q version = omega (arith, q)
+    go k i q cut = omega (arith, q)
+    go k i q constant = omega (arith, q)
+    go k i q room = omega (arith, q)
+    go k i q (header lo hi) = omega (arith, q)
+    go k i q (transition lo hi b) = omega (arith, q)
+
 -- ---- exactly when 2, and exactly when 17
 
 -- a last test with the refusal k leaves the other refusals as they are
