@@ -174,13 +174,13 @@ pub extern "C" fn chart_play_counter(
     let a = counter_player::play_counter(file, counts, transitions, first, readings);
     match a {
         CounterPlayed::Arrived {
-            location,
-            accepting,
+            location: end,
+            accepting: accepts,
         } => chart_counter_playing {
             number: 0,
             place: 0,
-            location: location as u64,
-            accepting: accepting as u64,
+            location: end as u64,
+            accepting: accepts as u64,
         },
         CounterPlayed::Refused(f) => chart_counter_playing {
             number: f.number as u64,
