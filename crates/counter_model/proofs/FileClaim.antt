@@ -1,5 +1,5 @@
--- The claim on files: the counter board answers as the player, on a file and on another that the player answers alike on; and alike on both. Nothing is
--- hard: both calls judge alike up to 13, and then the laws of charts decide. Assumes nothing.
+-- The claim on files: the counter board answers as the player, on a file and on another that the player answers alike on; and alike on both. Nothing
+-- is hard: both calls judge alike up to 13, and then the laws of charts decide. Assumes nothing.
 use mathlib.Core.Path.{_≡_, refl, sym, ap, _∙_}
 use mathlib.Core.Logic.{⊎-elim}
 use mathlib.Core.Bool.{Bool, true, false, not}
@@ -119,7 +119,8 @@ file-claim bs bytes c reads small =
     (λ h. with-fronts (λ v w first is ts a b below s. rw (reads, h .2, played-refused c v is ts (h .2)) refl)) (judged-either c)
 
 -- document 02's provisos are more
-pub with-first : {bs : List ℕ} {c : Chart} {bs′ : List ℕ} {c′ : Chart} → CounterAsPlayer SpacedAfterFirst bs c bs′ c′ → CounterAsPlayer Spaced bs c bs′ c′
+pub with-first : {bs : List ℕ} {c : Chart} {bs′ : List ℕ} {c′ : Chart} → CounterAsPlayer SpacedAfterFirst bs c bs′ c′
+    → CounterAsPlayer Spaced bs c bs′ c′
 with-first x = record {
   answers = λ v w first is ts a b below s. x .answers v w first is ts a b below (spaced-after-first ts s);
   steps = λ v w first is ts a b below s. x .steps v w first is ts a b below (spaced-after-first ts s);

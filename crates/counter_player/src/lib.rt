@@ -159,7 +159,13 @@ fn play_chart<'a>(
 }
 
 // The counter board's player, called on a chart file: each step's transition with the counter's reading, which was `first` at tick 0.
-pub fn play_counter(file: &[u8], counts: &[u32], transitions: &[u32], first: u16, readings: &[u16]) -> CounterPlayed
+pub fn play_counter(
+    file: &[u8],
+    counts: &[u32],
+    transitions: &[u32],
+    first: u16,
+    readings: &[u16],
+) -> CounterPlayed
     ensures { λ r. ⌜ counterPlayedAs r
         ≡ counterAnswer (now (file .entry)) (now (counts .entry)) (now (transitions .entry)) first (now (readings .entry)) ⌝ }
 {

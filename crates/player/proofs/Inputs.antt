@@ -60,7 +60,8 @@ module _ (c : Chart) (counts : List ℕ) where
 
     -- what follows on lists of one length; ts may be times or readings
     module _ {A : Type 0} (x : Answer A) (is ts : List ℕ) where
-      pub lengths-refused : (length is ≡ length ts → ⊥) → refused 13 nowhere ≡ countsJudged c counts (unless (eqb (length is) (length ts)) 13 nowhere x)
+      pub lengths-refused : (length is ≡ length ts → ⊥)
+          → refused 13 nowhere ≡ countsJudged c counts (unless (eqb (length is) (length ts)) 13 nowhere x)
       lengths-refused d = rw (ne-eqb (length is) (length ts) d) (after-counts e _)
 
       pub lengths-passed : length is ≡ length ts → x ≡ countsJudged c counts (unless (eqb (length is) (length ts)) 13 nowhere x)

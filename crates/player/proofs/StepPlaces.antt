@@ -22,7 +22,8 @@ StepRefusal l lo hi (refused n p) = (memb n l ≡ true) × ((lo ≤ p) × (p < h
 
 module _ (l : List ℕ) {A : Type 0} where
   -- a test of step k before the rest
-  pub unless-place : (k : ℕ) (b : Bool) (n : ℕ) (x : Answer A) → memb n l ≡ true → StepRefusal l k (suc k) x → StepRefusal l k (suc k) (unless b n k x)
+  pub unless-place : (k : ℕ) (b : Bool) (n : ℕ) (x : Answer A) → memb n l ≡ true → StepRefusal l k (suc k) x
+      → StepRefusal l k (suc k) (unless b n k x)
   unless-place k true n x m h = h
   unless-place k false n x m h = (m, (omega arith, omega arith))
 

@@ -38,7 +38,8 @@ cast-t13 c = search needs
 returns : tie.Need-returns
 returns c =
     let g = c .before .a .given .0 in
-    arrived (g .0) (g .1 .0) ∙ ap counterPlayingOf (sym (ap counterPlayedAs (c .before .a .given .1)) ∙ c .before .before .before .play-counter .ensures)
+    let answer = sym (ap counterPlayedAs (c .before .a .given .1)) ∙ c .before .before .before .play-counter .ensures in
+    arrived (g .0) (g .1 .0) ∙ ap counterPlayingOf answer
 
 returns-2 : tie.Need-returns-2
 returns-2 c =
