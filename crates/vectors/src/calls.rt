@@ -1,4 +1,4 @@
-// The calls on files: analysis, rewriting and player.
+// The calls on files: analysis, rewriting and the two players.
 use crate::input::*;
 use crate::lent::*;
 use crate::show::*;
@@ -53,15 +53,32 @@ pub fn rewrite(input: &[u8], values: &[u8]) {
     }
 }
 
-pub fn play(file: &[u8], values: &[u8], vector: &[u8]) {
-    let zeros = count(values, 0, STEPS);
-    let mut counts = [0u32; MOST_TIMERS];
-    let a = list32(field(vector, 3), 0, &mut counts);
-    let mut transitions = [0u32; STEPS];
-    let b = list32(field(vector, 4), zeros, &mut transitions);
-    let mut times = [0u64; STEPS];
-    let c = list64(field(vector, 5), zeros, &mut times);
-    let answer = player::play(file, a, b, c);
+// Steps to play: at times, or on the counter board at readings.
+pub fn play(file: &[u8], values: &[u8], vector: &[u8], on_counter: bool) {
+    let repeated = count(values, 0, STEPS);
+    let mut start = [0u32; MOST_TIMERS];
+    let counts = list32(field(vector, 3), 0, &mut start);
+    let mut named = [0u32; STEPS];
+    let transitions = list32(field(vector, 4), repeated, &mut named);
+    if on_counter {
+        play_readings(
+            file,
+            counts,
+            transitions,
+            field(vector, 5),
+            repeated,
+            low16(number(values, 1)),
+        );
+    } else {
+        play_times(file, counts, transitions, field(vector, 5), repeated);
+    }
+}
+
+// The first steps are at time 0.
+fn play_times(file: &[u8], counts: &[u32], transitions: &[u32], numbers: &[u8], repeated: usize) {
+    let mut list = [0u64; STEPS];
+    let times = list64(numbers, repeated, &mut list);
+    let answer = player::play(file, counts, transitions, times);
     match answer {
         player::Played::Refused(r) => refusal(r, 0),
         player::Played::Arrived {
@@ -69,10 +86,43 @@ pub fn play(file: &[u8], values: &[u8], vector: &[u8]) {
             time,
             accepting,
         } => {
-            item(b"location ", location as u64);
+            arrived(location);
             item(b" time ", time);
-            item(b" accepting ", accepting as u64);
-            end();
+            accepted(accepting);
         }
     }
+}
+
+// The first steps are at the reading at tick 0.
+fn play_readings(
+    file: &[u8],
+    counts: &[u32],
+    transitions: &[u32],
+    numbers: &[u8],
+    repeated: usize,
+    first: u16,
+) {
+    let mut list = [first; STEPS];
+    let readings = list16(numbers, repeated, &mut list);
+    let answer = counter_player::play_counter(file, counts, transitions, first, readings);
+    match answer {
+        counter_player::CounterPlayed::Refused(r) => refusal(r, 0),
+        counter_player::CounterPlayed::Arrived {
+            location,
+            accepting,
+        } => {
+            arrived(location);
+            accepted(accepting);
+        }
+    }
+}
+
+// The begin and the end of the line of an arrival.
+fn arrived(location: u16) {
+    item(b"location ", location as u64);
+}
+
+fn accepted(accepting: bool) {
+    item(b" accepting ", accepting as u64);
+    end();
 }

@@ -66,11 +66,11 @@ fn show_read(answer: Read, lists: Lists) {
 // Shows how many entries of given lists are not as if they were lent and left alone, from the given positions on.
 pub fn count_changed(vector: &[u8], positions: &[u8]) {
     let mut accepting = [FILLED16; MOST_LOCATIONS];
-    list16(field(vector, 2), &mut accepting);
+    list16(field(vector, 2), 0, &mut accepting);
     let mut sources = [FILLED16; MOST_TRANSITIONS];
-    list16(field(vector, 3), &mut sources);
+    list16(field(vector, 3), 0, &mut sources);
     let mut targets = [FILLED16; MOST_TRANSITIONS];
-    list16(field(vector, 4), &mut targets);
+    list16(field(vector, 4), 0, &mut targets);
     let mut events = [FILLED8; MOST_TRANSITIONS];
     list8(field(vector, 5), &mut events);
     let mut starts = [FILLED64; MOST_TRANSITIONS];
@@ -210,11 +210,11 @@ pub fn write(vector: &[u8], values: &[u8]) {
 
 fn write_lent(vector: &[u8], header: Header, out: &mut [u8]) {
     let mut accepting = [0u16; MOST_TRANSITIONS];
-    let a = list16(field(vector, 2), &mut accepting);
+    let a = list16(field(vector, 2), 0, &mut accepting);
     let mut sources = [0u16; MOST_TRANSITIONS];
-    let b = list16(field(vector, 3), &mut sources);
+    let b = list16(field(vector, 3), 0, &mut sources);
     let mut targets = [0u16; MOST_TRANSITIONS];
-    let c = list16(field(vector, 4), &mut targets);
+    let c = list16(field(vector, 4), 0, &mut targets);
     let d = field(vector, 5);
     let mut starts = [0u64; MOST_TRANSITIONS];
     let e = list64(field(vector, 6), 0, &mut starts);

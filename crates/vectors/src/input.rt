@@ -67,28 +67,27 @@ pub fn list8(s: &[u8], list: &mut [u8]) {
     }
 }
 
-// Puts the numbers of a field into a list, and answers the front that holds them.
-pub fn list16<'a>(s: &[u8], list: &'a mut [u16]) -> &'a mut [u16] {
-    let n = least(s.len() >> 3, list.len());
-    for i in 0..n {
-        list[i] = low16(number(s, i));
+// Puts the numbers of a field into a list, after so many entries that stay, and answers the front that holds them all.
+pub fn list16<'a>(s: &[u8], stay: usize, list: &'a mut [u16]) -> &'a mut [u16] {
+    let n = least(plus(stay, s.len() >> 3), list.len());
+    for i in stay..n {
+        list[i] = low16(number(s, std::num::wrapping_sub_usize(i, stay)));
     }
     &mut list[0..n]
 }
 
-// The same with zeros before the numbers: an index left of the first number wraps, and past the end every number is 0.
-pub fn list32<'a>(s: &[u8], zeros: usize, list: &'a mut [u32]) -> &'a mut [u32] {
-    let n = least(plus(s.len() >> 3, zeros), list.len());
-    for i in 0..n {
-        list[i] = low32(number(s, std::num::wrapping_sub_usize(i, zeros)));
+pub fn list32<'a>(s: &[u8], stay: usize, list: &'a mut [u32]) -> &'a mut [u32] {
+    let n = least(plus(stay, s.len() >> 3), list.len());
+    for i in stay..n {
+        list[i] = low32(number(s, std::num::wrapping_sub_usize(i, stay)));
     }
     &mut list[0..n]
 }
 
-pub fn list64<'a>(s: &[u8], zeros: usize, list: &'a mut [u64]) -> &'a mut [u64] {
-    let n = least(plus(s.len() >> 3, zeros), list.len());
-    for i in 0..n {
-        list[i] = number(s, std::num::wrapping_sub_usize(i, zeros));
+pub fn list64<'a>(s: &[u8], stay: usize, list: &'a mut [u64]) -> &'a mut [u64] {
+    let n = least(plus(stay, s.len() >> 3), list.len());
+    for i in stay..n {
+        list[i] = number(s, std::num::wrapping_sub_usize(i, stay));
     }
     &mut list[0..n]
 }

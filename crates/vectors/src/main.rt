@@ -8,6 +8,7 @@
 //   'a'  the length of the list to lend and the number of locations; a file to analyse
 //   'k'  the limit and the length of the buffer to lend; a file to rewrite
 //   'p'  how many steps of transition 0 at time 0 come first; a file, counts, transitions and times to play
+//   'b'  how many steps of transition 0 at the reading at tick 0 come first, that reading; a file, counts, transitions and readings to play
 //   'h'  K, the number of heads, the lengths of eight files, of eight blocks and of eight lists of counts; the files, the counts, calls, a state
 // All lent memory is filled with bytes 170 before a call.
 mod calls;
@@ -41,7 +42,8 @@ fn run_vector(vector: &[u8]) {
         b'c' => charts::count_changed(vector, values),
         b'a' => calls::analyse(file, values),
         b'k' => calls::rewrite(file, values),
-        b'p' => calls::play(file, values, vector),
+        b'p' => calls::play(file, values, vector, false),
+        b'b' => calls::play(file, values, vector, true),
         b'h' => heads::drive(file, values, vector),
         _ => show::text(b"no such vector\n"),
     }

@@ -8,14 +8,14 @@ use Rattle.vectors.proofs.input.list16.Statement.{statement}
 use Rattle.vectors.proofs.input.list16.Tie as tie
 
 abbrev Inv-loop : tie.InvT-loop
-Inv-loop s list₀ n i₀ list i = length list ≡ length list₀
+Inv-loop s stay list₀ n i₀ list i = length list ≡ length list₀
 
 abbrev μ-loop : tie.MeasureT-loop
-μ-loop s list₀ n i₀ list i = n - i
+μ-loop s stay list₀ n i₀ list i = n - i
 
 pub list16-spec : {M : Type 1} → statement M
 list16-spec =
     tie.close
     (tie.spec Inv-loop μ-loop
-    (search needs) (search needs) (search needs) (search needs) (search needs) (search needs) (search needs) (search needs)
-    (λ c. simp length-set (omega arith)) (search needs) (search needs) (search needs) (search needs))
+    (search needs) (search needs) (search needs) (search needs) (search needs) (search needs) (search needs) (search needs) (search needs)
+    (search needs) (λ c. simp length-set (omega arith)) (search needs) (search needs) (search needs) (search needs))

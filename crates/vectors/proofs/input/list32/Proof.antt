@@ -8,10 +8,10 @@ use Rattle.vectors.proofs.input.list32.Statement.{statement}
 use Rattle.vectors.proofs.input.list32.Tie as tie
 
 abbrev Inv-loop : tie.InvT-loop
-Inv-loop s zeros list₀ n i₀ list i = length list ≡ length list₀
+Inv-loop s stay list₀ n i₀ list i = length list ≡ length list₀
 
 abbrev μ-loop : tie.MeasureT-loop
-μ-loop s zeros list₀ n i₀ list i = n - i
+μ-loop s stay list₀ n i₀ list i = n - i
 
 pub list32-spec : {M : Type 1} → statement M
 list32-spec =
