@@ -16,11 +16,11 @@ pub fn ticks_passed(last: u16, reading: u16) -> u16
 fn risen_count(count: u32, passed: u16) -> u32
     ensures { λ r. ⌜ r ≡ min (count + passed) mostCount ⌝ }
 {
-    let sum = count as u64 + passed as u64;
-    if sum > MOST_COUNT {
-        return MOST_COUNT as u32;
+    let ticks = passed as u32;
+    if count > MOST_COUNT - ticks {
+        return MOST_COUNT;
     }
-    sum as u32
+    count + ticks
 }
 
 // All 64 counts, each grown so.
