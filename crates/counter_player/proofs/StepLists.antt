@@ -1,4 +1,4 @@
--- The steps of a list on the counter board, one a turn. Nothing is hard: what each turn leaves is said for every kind of state in `steps`. Assumes
+-- The steps of a list on the counter board, one after another. Nothing is hard: what each leaves is said for every kind of state in `steps`. Assumes
 -- nothing.
 use mathlib.Core.Path.{_≡_, refl}
 use mathlib.Core.Logic.{_⊎_, inl, inr}
@@ -10,7 +10,7 @@ use lib.Seq.{drop-cons}
 use Rattle.lists.proofs.Bools.{lt-or-le}
 use Rattle.model.specs.Answer.{Answer, result, then}
 use Rattle.model.specs.Chart.{Chart}
-use Rattle.steps.proofs.StepLists.{Turns}
+use Rattle.steps.proofs.StepLists.{StepSequence}
 use Rattle.counter_model.specs.CounterRun.{CounterState, counterAttempt, counterSteps}
 
 module _ (c : Chart) (is rs : List ℕ) where
@@ -37,5 +37,5 @@ module _ (c : Chart) (is rs : List ℕ) where
       go (inl l) = let h : length rs ≤ k = omega arith in rw (drop-of-length-le rs h) (without-reading (drop k is))
       go (inr l) = rw (drop-of-length-le is l) refl
 
-  abbrev pub counterTurns : Turns CounterState
-  counterTurns = record { number = min (length is) (length rs); tried = stepTried; rest = stepsFrom; turn = next-step; ended = none-left }
+  abbrev pub counterSequence : StepSequence CounterState
+  counterSequence = record { number = min (length is) (length rs); tried = stepTried; rest = stepsFrom; next = next-step; ended = none-left }

@@ -134,12 +134,9 @@ fn play_chart<'a>(
         (now («test_counts» .entry)) (now (timers .entry)) (now (codes .entry)) (now (constants .entry)))
         → counterPlayedAs r ≡ counterPlayedOn (now (counts .entry)) (now (transitions .entry)) first (now (readings .entry)) c) ⌝ }
 {
-    let judged = player::judge_counts(counts, header.timers);
+    let judged = player::judge_inputs(counts, header.timers, transitions.len(), readings.len());
     if let Judged::Refused(f) = judged {
         return CounterPlayed::Refused(f);
-    }
-    if transitions.len() != readings.len() {
-        return CounterPlayed::Refused(refusal::UNEQUAL_LISTS);
     }
     play_steps(
         accepting,

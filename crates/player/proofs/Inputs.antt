@@ -6,13 +6,16 @@ use Prim.Native.Nat.{ℕ, _≤_, _<_}
 use native.Mathlib.Omega.{arith}
 use lib.Dec.{leb, eqb}
 use lib.ListN.{length}
-use borrow.Author.Tests.{le-leb, lt-leb, eq-eqb, ne-eqb}
+use borrow.Author.Tests.{le-leb, lt-leb, eqb-true, eq-eqb, ne-eqb}
 use Rattle.lists.specs.Lists.{lowest}
 use Rattle.model.specs.Answer.{Answer, result, refused, then, unless, nowhere}
 use Rattle.model.specs.Chart.{Chart}
 use Rattle.model.specs.Player.{tooLarge, countsJudged}
-use Rattle.model.proofs.PlayerLaws.{counts-allowed}
+use Rattle.model.specs.PlayerTerms.{CountsAllowed}
+use Rattle.model.proofs.Answers.{not-result, unless-result}
+use Rattle.model.proofs.PlayerLaws.{counts-pass, counts-allowed}
 use Rattle.steps.specs.Counts.{Allowed}
+use Rattle.player.specs.Playing.{judgedTo13}
 
 module _ (c : Chart) (counts : List ℕ) where
   -- ---- the tests of 12
@@ -37,32 +40,62 @@ module _ (c : Chart) (counts : List ℕ) where
       unfolding countsJudged
       counts-passed h = rw (eq-eqb (length counts) (c .timers) one-each, first-is, le-leb (c .timers) first (omega arith)) refl
 
-  -- ---- after the judgement of 12
+  -- ---- 12 and 13 together
 
-  -- its refusal stands before anything else
-  pub after-counts : {y : Answer (Unit {0})} → y ≡ countsJudged c counts (result tt) → {A : Type 0} (x : Answer A)
-      → then y (λ _. x) ≡ countsJudged c counts x
-  unfolding countsJudged
-  after-counts e x = rw e (go (eqb (length counts) (c .timers)) (leb (c .timers) first))
-    where
-      first : ℕ
-      first = lowest (tooLarge counts) (c .timers)
+  module _ (n m : ℕ) where
+    -- a refusal of it stands before anything else
+    pub after-inputs : {y : Answer (Unit {0})} → y ≡ judgedTo13 c counts n m (result tt) → {A : Type 0} (x : Answer A)
+        → then y (λ _. x) ≡ judgedTo13 c counts n m x
+    unfolding judgedTo13 countsJudged
+    after-inputs e x = rw e (go (eqb (length counts) (c .timers)) (leb (c .timers) first) (eqb n m))
+      where
+        first : ℕ
+        first = lowest (tooLarge counts) (c .timers)
 
-      go : (a b : Bool) → then (unless a 12 nowhere (unless b 12 first (result (tt {0})))) (λ _. x) ≡ unless a 12 nowhere (unless b 12 first x)
-      go true true = refl
-      go true false = refl
-      go false b = refl
+        go : (a b s : Bool)
+            → then (unless a 12 nowhere (unless b 12 first (unless s 13 nowhere (result (tt {0}))))) (λ _. x)
+            ≡ unless a 12 nowhere (unless b 12 first (unless s 13 nowhere x))
+        go true true true = refl
+        go true true false = refl
+        go true false s = refl
+        go false b s = refl
 
-  module _ (e : result (tt {0}) ≡ countsJudged c counts (result tt)) where
-    pub allowed : c .timers ≤ 64 → Allowed counts
-    allowed few = let a = counts-allowed c counts (result tt) tt (sym e) in let one = a .one-each in
-        record { few = omega arith; small = λ j l. a .small j (omega arith) }
+    -- 12 refuses
+    pub counts-first : {k p : ℕ} → refused k p ≡ countsJudged c counts (result (tt {0})) → refused k p ≡ judgedTo13 c counts n m (result (tt {0}))
+    unfolding judgedTo13 countsJudged
+    counts-first {k} {p} e = go (eqb (length counts) (c .timers)) (leb (c .timers) first) e
+      where
+        first : ℕ
+        first = lowest (tooLarge counts) (c .timers)
 
-    -- what follows on lists of one length; ts may be times or readings
-    module _ {A : Type 0} (x : Answer A) (is ts : List ℕ) where
-      pub lengths-refused : (length is ≡ length ts → ⊥)
-          → refused 13 nowhere ≡ countsJudged c counts (unless (eqb (length is) (length ts)) 13 nowhere x)
-      lengths-refused d = rw (ne-eqb (length is) (length ts) d) (after-counts e _)
+        go : (a b : Bool) → refused k p ≡ unless a 12 nowhere (unless b 12 first (result (tt {0})))
+            → refused k p ≡ unless a 12 nowhere (unless b 12 first (unless (eqb n m) 13 nowhere (result (tt {0}))))
+        go true true e = absurd (not-result e)
+        go true false e = e
+        go false b e = e
 
-      pub lengths-passed : length is ≡ length ts → x ≡ countsJudged c counts (unless (eqb (length is) (length ts)) 13 nowhere x)
-      lengths-passed d = rw (eq-eqb (length is) (length ts) d) (after-counts e _)
+    -- 12 passes, and 13 is decided by the lengths
+    module _ (e : result (tt {0}) ≡ countsJudged c counts (result tt)) where
+      onward : (x : Answer (Unit {0})) → countsJudged c counts x ≡ x
+      onward x = counts-pass c counts x (counts-allowed c counts (result (tt {0})) tt (sym e))
+
+      pub lengths-refused : (n ≡ m → ⊥) → refused 13 nowhere ≡ judgedTo13 c counts n m (result (tt {0}))
+      unfolding judgedTo13
+      lengths-refused d = rw (ne-eqb n m d) (sym (onward _))
+
+      pub lengths-passed : n ≡ m → result (tt {0}) ≡ judgedTo13 c counts n m (result tt)
+      unfolding judgedTo13
+      lengths-passed d = rw (eq-eqb n m d) e
+
+    -- where nothing is refused, 12 allows the counts and the lists have one length
+    module _ (e : result (tt {0}) ≡ judgedTo13 c counts n m (result tt)) where
+      counts-are : CountsAllowed c counts
+      unfolding judgedTo13
+      counts-are = counts-allowed c counts (unless (eqb n m) 13 nowhere (result (tt {0}))) tt (sym e)
+
+      pub allowed : c .timers ≤ 64 → Allowed counts
+      allowed few = let a = counts-are in let one = a .one-each in record { few = omega arith; small = λ j l. a .small j (omega arith) }
+
+      pub one-length : n ≡ m
+      unfolding judgedTo13
+      one-length = eqb-true n m (unless-result (eqb n m) 13 nowhere (result (tt {0})) (sym (counts-pass c counts _ counts-are) ∙ sym e) .0)

@@ -1,9 +1,10 @@
 -- What the player answers, called on a chart file. Assumes nothing.
 use mathlib.Core.List.{List}
 use Prim.Native.Nat.{ℕ}
-use Rattle.model.specs.Answer.{Answer, result, then}
+use lib.Dec.{eqb}
+use Rattle.model.specs.Answer.{Answer, result, then, unless, nowhere}
 use Rattle.model.specs.Chart.{Chart}
-use Rattle.model.specs.Player.{Arrival, played}
+use Rattle.model.specs.Player.{Arrival, countsJudged, played}
 use Rattle.file_format.specs.File.{chartIn}
 use Rattle.refusal.specs.Refused.{refusedAs}
 use Rattle.chart_lists.specs.Lists.{Lists, lists, listsOf}
@@ -25,6 +26,10 @@ playedAs (played·.Refused f) = refusedAs f
 abbrev pub judgedAs : Judged → Answer (Unit {0})
 judgedAs judged·.Passed = result tt
 judgedAs (judged·.Refused f) = refusedAs f
+
+-- what is judged of a chart's calls before the steps: 12, then 13 where there are not as many transitions as times or readings
+unfoldable pub judgedTo13 : {A : Type 0} → Chart → (counts : List ℕ) → (transitions moments : ℕ) → Answer A → Answer A
+judgedTo13 c counts n m x = countsJudged c counts (unless (eqb n m) 13 nowhere x)
 
 -- these lists, with the chart's own events, which no player looks at
 abbrev pub playLists : Chart → (accepting sources targets starts test-counts timers codes constants : List ℕ) → Lists

@@ -10,7 +10,7 @@ ghost use Rattle.model.specs.Player.{answerOf, countsJudged, playedOn, tooLarge
 ghost use Rattle.chart_lists.specs.Header.{headerOf};
 ghost use Rattle.chart_lists.specs.Holds.{Holds};
 ghost use Rattle.steps.specs.Stepping.{Answered};
-ghost use Rattle.player.specs.Playing.{playAnswer, playedAs, judgedAs, playLists};
+ghost use Rattle.player.specs.Playing.{playAnswer, playedAs, judgedAs, judgedTo13, playLists};
 use chart_lists::Header;
 use chart_lists::MOST_LOCATIONS;
 use chart_lists::MOST_TESTS;
@@ -65,6 +65,20 @@ pub fn judge_counts(counts: &[u32], timers: u8) -> Judged
             number: 12,
             place: first as u64,
         });
+    }
+    Judged::Passed
+}
+
+// 12, then 13: there are as many transitions as times or, on the counter board, readings.
+pub fn judge_inputs(counts: &[u32], timers: u8, transitions: usize, moments: usize) -> Judged
+    ensures { λ r. ⌜ ((c : Chart) → timers ≡ c .timers → judgedAs r ≡ judgedTo13 c (now (counts .entry)) transitions moments (result tt)) ⌝ }
+{
+    let judged = judge_counts(counts, timers);
+    let Judged::Passed = judged else {
+        return judged;
+    };
+    if transitions != moments {
+        return Judged::Refused(refusal::UNEQUAL_LISTS);
     }
     Judged::Passed
 }
@@ -125,12 +139,9 @@ fn play_chart<'a>(
         (now («test_counts» .entry)) (now (timers .entry)) (now (codes .entry)) (now (constants .entry)))
         → playedAs r ≡ playedOn (now (counts .entry)) (now (transitions .entry)) (now (times .entry)) c) ⌝ }
 {
-    let judged = judge_counts(counts, header.timers);
+    let judged = judge_inputs(counts, header.timers, transitions.len(), times.len());
     if let Judged::Refused(f) = judged {
         return Played::Refused(f);
-    }
-    if transitions.len() != times.len() {
-        return Played::Refused(refusal::UNEQUAL_LISTS);
     }
     let out = steps::play_steps(
         sources,

@@ -1,4 +1,4 @@
--- A list of steps, one a turn: the state that the turns so far have left, and what the rest comes to from it. Hard: the definition's state is not the
+-- A list of steps, one after another: the state that those so far have left, and what the rest comes to from it. Hard: the definition's state is not the
 -- code's, so it is carried along, shown by the code's; this is said once for every kind of state. Assumes nothing.
 use mathlib.Core.Path.{_≡_, refl, sym, ap, subst, _∙_}
 use mathlib.Core.Logic.{_⊎_, inl, inr}
@@ -22,20 +22,20 @@ use Rattle.steps.proofs.Attempts.{taken-or-not}
 -- ---- states of any kind
 
 -- a number of steps: what each comes to when it is tried, and what those from step k on come to
-pub record Turns (S : Type 0) : Type 0 where
+pub record StepSequence (S : Type 0) : Type 0 where
   pub number : ℕ
   pub tried : (k : ℕ) → S → Answer S
   pub rest : (k : ℕ) → S → Answer S
-  pub turn : (k : ℕ) (s : S) → k < number → rest k s ≡ then (tried k s) (rest (suc k))
+  pub next : (k : ℕ) (s : S) → k < number → rest k s ≡ then (tried k s) (rest (suc k))
   pub ended : (k : ℕ) (s : S) → number ≤ k → rest k s ≡ result s
 
 -- k of the steps are taken from s, x shows the state after them, and the rest of the steps decide
-pub record Reached {S X : Type 0} (Shown : X → S → Type 0) (t : Turns S) (k : ℕ) (s : S) (x : X) : Type 0 where
+pub record Reached {S X : Type 0} (Shown : X → S → Type 0) (t : StepSequence S) (k : ℕ) (s : S) (x : X) : Type 0 where
   pub state : S
   pub shown : Shown x state
   pub same : t .rest 0 s ≡ t .rest k state
 
-module _ {S X : Type 0} {Shown : X → S → Type 0} {t : Turns S} where
+module _ {S X : Type 0} {Shown : X → S → Type 0} {t : StepSequence S} where
   pub reached-start : {s : S} {x : X} → Shown x s → Reached Shown t 0 s x
   reached-start {s} w = record { state = s; shown = w; same = refl }
 
@@ -47,7 +47,7 @@ module _ {S X : Type 0} {Shown : X → S → Type 0} {t : Turns S} where
     -- one step is tried, and then the rest
     module _ (h : k < t .number) (v : Verdict) (y : X) (decided : (s′ : S) → Shown x s′ → Decided v (Shown y) (t .tried k s′)) where
       all : t .rest 0 s ≡ then (t .tried k (w .state)) (t .rest (suc k))
-      all = w .same ∙ t .turn k (w .state) h
+      all = w .same ∙ t .next k (w .state) h
 
       pub reached-next : v ≡ verdict.Taken → Reached Shown t (k + 1) s y
       reached-next e = rw add-one (go (t .tried k (w .state)) refl (decided (w .state) (w .shown)))
@@ -89,5 +89,5 @@ module _ (c : Chart) (is ts : List ℕ) where
       go (inl l) = let h : length ts ≤ k = omega arith in rw (drop-of-length-le ts h) (without-time (drop k is))
       go (inr l) = rw (drop-of-length-le is l) refl
 
-  abbrev pub playerTurns : Turns Run·State
-  playerTurns = record { number = min (length is) (length ts); tried = stepTried; rest = stepsFrom; turn = next-step; ended = none-left }
+  abbrev pub playerSequence : StepSequence Run·State
+  playerSequence = record { number = min (length is) (length ts); tried = stepTried; rest = stepsFrom; next = next-step; ended = none-left }

@@ -1,68 +1,75 @@
--- `play_chart` judges 12 and 13, then 18 and the steps decide. Nothing is hard: the laws of 12 and 13 take the code's tests as they are. Assumes
--- nothing.
-use mathlib.Core.Path.{_≡_, sym, ap, _∙_}
+-- `play_chart` judges 12 and 13, then 18 and the steps decide. Nothing is hard: what is judged first is judged as the player does it. Assumes nothing.
+use mathlib.Core.Path.{_≡_, refl, sym, ap, _∙_}
+use mathlib.Core.Bool.{not}
+use lib.ListN.{length, getD}
 use borrow.Author.Needs.{needs}
-use Rattle.model.specs.Answer.{result}
+use Rattle.model.specs.Answer.{result, unless, nowhere}
 use Rattle.model.specs.Chart.{Chart}
-use Rattle.model.specs.Player.{countsJudged}
+use Rattle.model.specs.Version.{largeConstant}
 use Rattle.chart_lists.specs.Header.{headerOf}
 use Rattle.chart_lists.proofs.Fronts.{timers-are}
 use Rattle.player.specs.declared.Judged.{Judged}
-use Rattle.player.specs.Playing.{judgedAs}
-use Rattle.player.proofs.Inputs.{after-counts, allowed, lengths-refused, lengths-passed}
+use Rattle.player.specs.Playing.{judgedAs, judgedTo13}
+use Rattle.player.proofs.Inputs.{after-inputs, allowed, one-length}
+use Rattle.counter_model.specs.CounterPlayer.{counterAnswerOf, counterPlayedOn}
 use Rattle.counter_player.proofs.play_chart.Statement.{statement}
 use Rattle.counter_player.proofs.play_chart.Tie as tie
 
-abbrev start : tie.After-judge-counts → tie.Start
+abbrev start : tie.After-judge-inputs → tie.Start
 start a = a .before .before .before .before .before .before .before .before .before .before .before .before
 
--- what the judgement of the counts says
-counted : (a : tie.After-judge-counts) (ch : Chart) → start a .args .header ≡ headerOf ch → {j : Judged} → a .judge-counts .result ≡ j
-    → judgedAs j ≡ countsJudged ch (start a .args .counts .now) (result tt)
-counted a ch e p = sym (ap judgedAs p) ∙ a .judge-counts .ensures ch (timers-are ch e)
+-- what the judgement says
+told : (a : tie.After-judge-inputs) (ch : Chart) → start a .args .header ≡ headerOf ch → {j : Judged} → a .judge-inputs .result ≡ j
+    → let x = start a .args in
+    judgedAs j ≡ judgedTo13 ch (x .counts .now) (length (x .transitions .now)) (length (x .readings .now)) (result tt)
+told a ch e p = sym (ap judgedAs p) ∙ a .judge-inputs .ensures ch (timers-are ch e)
 
--- where the counts pass, the call's arguments
+-- where it passes, the call's arguments
 abbrev called : tie.After-enum-told → tie.Start
 called a = start (a .before .before)
 
-passed : (a : tie.After-enum-told) (ch : Chart) → called a .args .header ≡ headerOf ch
-    → result (tt {0}) ≡ countsJudged ch (called a .args .counts .now) (result tt)
-passed a ch e = counted (a .before .before) ch e (a .enum-told .given .1)
+passed : (a : tie.After-enum-told) (ch : Chart) → let x = called a .args in x .header ≡ headerOf ch
+    → result (tt {0}) ≡ judgedTo13 ch (x .counts .now) (length (x .transitions .now)) (length (x .readings .now)) (result tt)
+passed a ch e = told (a .before .before) ch e (a .enum-told .given .1)
 
-judge-counts-requires : tie.Need-judge-counts-requires
-judge-counts-requires c κs = search needs
+-- what it is judged for: 18, then the answer of the steps
+answered : (x : tie.Start) (ch : Chart) → let a = x .args in
+    judgedTo13 ch (a .counts .now) (length (a .transitions .now)) (length (a .readings .now)) (unless (not (largeConstant ch)) 18 nowhere
+    (counterAnswerOf ch (a .first) (λ j. getD (a .counts .now) j 0) (a .transitions .now) (a .readings .now)))
+    ≡ counterPlayedOn (a .counts .now) (a .transitions .now) (a .first) (a .readings .now) ch
+unfolding judgedTo13
+answered x ch = refl
+
+judge-inputs-requires : tie.Need-judge-inputs-requires
+judge-inputs-requires c κs = search needs
 
 enum-known-judged : tie.Need-enum-known-judged
 enum-known-judged c = search needs
 
 returns : tie.Need-returns
-returns c = λ ch e held. let j = c .before in after-counts ch _ (counted (j .before .before) ch e (j .judged .given .1)) _
+returns c = λ ch e held. let j = c .before in let a = j .before .before in
+    after-inputs ch _ _ _ (told a ch e (j .judged .given .1)) _ ∙ answered (start a) ch
 
 enum-told : tie.Need-enum-told
 enum-told c = search needs
 
-returns-2 : tie.Need-returns-2
-returns-2 c = λ ch e held. let x = called (c .before) .args in
-    lengths-refused ch _ (passed (c .before) ch e) _ (x .transitions .now) (x .readings .now) (c .if1 .taken)
-
 play-steps-requires : tie.Need-play-steps-requires
-play-steps-requires c κs = let p = called (c .before) .pre in
-    (p, (allowed (p .0) _ (passed (c .before) (p .0) (p .1)) (p .2 .valid .few-timers) .few, sym (c .if1 .left)))
+play-steps-requires c κs =
+    let p = called c .pre in
+    let e = passed c (p .0) (p .1) in
+    (p, (allowed (p .0) _ _ _ e (p .2 .valid .few-timers) .few, sym (one-length (p .0) _ _ _ e)))
 
-returns-3 : tie.Need-returns-3
-returns-3 c = λ ch e held.
-    let d = c .before in
-    let x = called (d .before) .args in
-    c .play-steps .ensures ch e held ∙ lengths-passed ch _ (passed (d .before) ch e) _ (x .transitions .now) (x .readings .now) (d .if1 .left)
+returns-2 : tie.Need-returns-2
+returns-2 c = λ ch e held. let a = c .before in
+    c .play-steps .ensures ch e held ∙ after-inputs ch _ _ _ (passed a ch e) _ ∙ answered (called a) ch
 
 pub play-chart-spec : {M : Type 1} → statement M
 play-chart-spec =
     tie.close
     (tie.spec
-    judge-counts-requires
+    judge-inputs-requires
     enum-known-judged
     returns
     enum-told
-    returns-2
     play-steps-requires
-    returns-3)
+    returns-2)

@@ -1,4 +1,4 @@
--- `take_steps` takes one step a turn. Nothing is hard: the laws of a list of steps say what each turn leaves. Assumes nothing.
+-- `take_steps` takes one step after another. Nothing is hard: the laws of a list of steps say what each leaves. Assumes nothing.
 use mathlib.Core.Path.{_≡_, refl}
 use Prim.Native.Nat.{_-_, _≤_, _<_, _^_}
 use native.Mathlib.Omega.{arith}
@@ -9,7 +9,7 @@ use Rattle.model.specs.Run.{State as Run·State}
 use Rattle.chart_lists.specs.Holds.{Holds}
 use Rattle.steps.specs.StepLists.{FirstTests, stepLists}
 use Rattle.steps.specs.Stepping.{Shows, Small}
-use Rattle.steps.proofs.StepLists.{Reached, reached-start, reached-next, reached-refused, reached-end, playerTurns}
+use Rattle.steps.proofs.StepLists.{Reached, reached-start, reached-next, reached-refused, reached-end, playerSequence}
 use Rattle.steps.proofs.take_steps.Statement.{statement}
 use Rattle.steps.proofs.take_steps.Tie as tie
 
@@ -20,7 +20,7 @@ Inv-loop sources targets starts test-counts firsts timers codes constants n tran
     × Small state × (length times ≡ length transitions) × (last ≡ length transitions) × (last < 2 ^ 64) × (k ≤ last)
     × ((c : Chart) → n ≡ length (c .transitions) → FirstTests c firsts
     → Holds c (stepLists c sources targets starts test-counts timers codes constants)
-    → (s : Run·State) → Shows state₀ s → Reached Shows (playerTurns c transitions times) k s state)
+    → (s : Run·State) → Shows state₀ s → Reached Shows (playerSequence c transitions times) k s state)
 
 abbrev μ-loop : tie.MeasureT-loop
 μ-loop sources targets starts test-counts firsts timers codes constants n transitions times last state₀ k₀ state k = last - k

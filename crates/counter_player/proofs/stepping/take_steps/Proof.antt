@@ -1,4 +1,4 @@
--- `take_steps` takes one step a turn. Nothing is hard: the laws of a list of steps say what each turn leaves. Assumes nothing.
+-- `take_steps` takes one step after another. Nothing is hard: the laws of a list of steps say what each leaves. Assumes nothing.
 use mathlib.Core.Path.{_≡_, refl}
 use Prim.Native.Nat.{_-_, _≤_, _<_, _^_}
 use native.Mathlib.Omega.{arith}
@@ -10,7 +10,7 @@ use Rattle.steps.specs.StepLists.{FirstTests, stepLists}
 use Rattle.steps.proofs.StepLists.{Reached, reached-start, reached-next, reached-refused, reached-end}
 use Rattle.counter_model.specs.CounterRun.{CounterState}
 use Rattle.counter_player.specs.Stepping.{Shows}
-use Rattle.counter_player.proofs.StepLists.{counterTurns}
+use Rattle.counter_player.proofs.StepLists.{counterSequence}
 use Rattle.counter_player.proofs.stepping.take_steps.Statement.{statement}
 use Rattle.counter_player.proofs.stepping.take_steps.Tie as tie
 
@@ -21,7 +21,7 @@ Inv-loop sources targets starts test-counts firsts timers codes constants n tran
     × (length readings ≡ length transitions) × (last ≡ length transitions) × (last < 2 ^ 64) × (k ≤ last)
     × ((c : Chart) → n ≡ length (c .transitions) → FirstTests c firsts
     → Holds c (stepLists c sources targets starts test-counts timers codes constants)
-    → (s : CounterState) → Shows state₀ s → Reached Shows (counterTurns c transitions readings) k s state)
+    → (s : CounterState) → Shows state₀ s → Reached Shows (counterSequence c transitions readings) k s state)
 
 abbrev μ-loop : tie.MeasureT-loop
 μ-loop sources targets starts test-counts firsts timers codes constants n transitions readings last state₀ k₀ state k = last - k
