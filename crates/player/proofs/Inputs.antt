@@ -12,7 +12,7 @@ use Rattle.model.specs.Answer.{Answer, result, refused, then, unless, nowhere}
 use Rattle.model.specs.Chart.{Chart}
 use Rattle.model.specs.Player.{tooLarge, countsJudged}
 use Rattle.model.specs.PlayerTerms.{CountsAllowed}
-use Rattle.model.proofs.Answers.{not-result, unless-result}
+use Rattle.model.proofs.Answers.{unless-result}
 use Rattle.model.proofs.PlayerLaws.{counts-pass, counts-allowed}
 use Rattle.steps.specs.Counts.{Allowed}
 use Rattle.player.specs.Playing.{judgedTo13}
@@ -40,39 +40,40 @@ module _ (c : Chart) (counts : List ℕ) where
       unfolding countsJudged
       counts-passed h = rw (eq-eqb (length counts) (c .timers) one-each, first-is, le-leb (c .timers) first (omega arith)) refl
 
-  -- ---- 12 and 13 together
+  -- ---- what follows on it
+
+  -- a refusal of 12 stands before anything else
+  pub counts-then : {A B : Type 0} (y : Answer A) (f : A → Answer B) → then (countsJudged c counts y) f ≡ countsJudged c counts (then y f)
+  unfolding countsJudged
+  counts-then y f = go (eqb (length counts) (c .timers)) (leb (c .timers) first)
+    where
+      first : ℕ
+      first = lowest (tooLarge counts) (c .timers)
+
+      go : (a b : Bool) → then (unless a 12 nowhere (unless b 12 first y)) f ≡ unless a 12 nowhere (unless b 12 first (then y f))
+      go true true = refl
+      go true false = refl
+      go false b = refl
+
+  pub after-counts : {y : Answer (Unit {0})} → y ≡ countsJudged c counts (result tt) → {A : Type 0} (x : Answer A)
+      → then y (λ _. x) ≡ countsJudged c counts x
+  after-counts e x = rw e (counts-then (result (tt {0})) (λ _. x))
 
   module _ (n m : ℕ) where
-    -- a refusal of it stands before anything else
+    -- so does one of 13
     pub after-inputs : {y : Answer (Unit {0})} → y ≡ judgedTo13 c counts n m (result tt) → {A : Type 0} (x : Answer A)
         → then y (λ _. x) ≡ judgedTo13 c counts n m x
-    unfolding judgedTo13 countsJudged
-    after-inputs e x = rw e (go (eqb (length counts) (c .timers)) (leb (c .timers) first) (eqb n m))
+    unfolding judgedTo13
+    after-inputs e x = rw e (counts-then _ (λ _. x) ∙ ap (countsJudged c counts) (go (eqb n m)))
       where
-        first : ℕ
-        first = lowest (tooLarge counts) (c .timers)
-
-        go : (a b s : Bool)
-            → then (unless a 12 nowhere (unless b 12 first (unless s 13 nowhere (result (tt {0}))))) (λ _. x)
-            ≡ unless a 12 nowhere (unless b 12 first (unless s 13 nowhere x))
-        go true true true = refl
-        go true true false = refl
-        go true false s = refl
-        go false b s = refl
+        go : (b : Bool) → then (unless b 13 nowhere (result (tt {0}))) (λ _. x) ≡ unless b 13 nowhere x
+        go true = refl
+        go false = refl
 
     -- 12 refuses
     pub counts-first : {k p : ℕ} → refused k p ≡ countsJudged c counts (result (tt {0})) → refused k p ≡ judgedTo13 c counts n m (result (tt {0}))
-    unfolding judgedTo13 countsJudged
-    counts-first {k} {p} e = go (eqb (length counts) (c .timers)) (leb (c .timers) first) e
-      where
-        first : ℕ
-        first = lowest (tooLarge counts) (c .timers)
-
-        go : (a b : Bool) → refused k p ≡ unless a 12 nowhere (unless b 12 first (result (tt {0})))
-            → refused k p ≡ unless a 12 nowhere (unless b 12 first (unless (eqb n m) 13 nowhere (result (tt {0}))))
-        go true true e = absurd (not-result e)
-        go true false e = e
-        go false b e = e
+    unfolding judgedTo13
+    counts-first e = after-counts e _
 
     -- 12 passes, and 13 is decided by the lengths
     module _ (e : result (tt {0}) ≡ countsJudged c counts (result tt)) where

@@ -1,6 +1,6 @@
 -- What is handed in to the player or to the counter board, a file, starting counts and two lists, is judged up to 13 before anything else. Nothing is
 -- hard: by the cases of the tests. Assumes nothing.
-use mathlib.Core.Path.{_≡_, refl, sym, _∙_}
+use mathlib.Core.Path.{_≡_, refl, sym, ap, _∙_}
 use mathlib.Core.Logic.{_⊎_, inl, inr, _↔_}
 use mathlib.Core.Bool.{Bool, true, false}
 use mathlib.Core.List.{List}
@@ -18,6 +18,7 @@ use Rattle.model.proofs.PlayerLaws.{counts-pass, counts-allowed}
 use Rattle.file_format.specs.Parse.{Bytes}
 use Rattle.judgement.specs.Judging.{judgedIn}
 use Rattle.judgement.specs.Charts.{Accepts}
+use Rattle.player.proofs.Inputs.{counts-then}
 use Rattle.judgement.proofs.Corollaries.{judged-numbers, judged-result, refusals-of-judgedIn}
 
 module _ (bs counts : List ℕ) (same : Bool) where
@@ -28,24 +29,18 @@ module _ (bs counts : List ℕ) (same : Bool) where
   -- it comes first
   pub inputs-first : {A : Type 0} (x : Chart → Answer A)
       → then (judgedIn bs) (λ c. countsJudged c counts (unless same 13 nowhere (x c))) ≡ then inputsJudged x
-  unfolding inputsJudged countsJudged
+  unfolding inputsJudged
   inputs-first x = go (judgedIn bs)
     where
-      tests : (c : Chart) (a b s : Bool) (p : ℕ)
-          → unless a 12 nowhere (unless b 12 p (unless s 13 nowhere (x c)))
-          ≡ then (unless a 12 nowhere (unless b 12 p (unless s 13 nowhere (result c)))) x
-      tests c false b s p = refl
-      tests c true false s p = refl
-      tests c true true false p = refl
-      tests c true true true p = refl
+      at-13 : (c : Chart) (s : Bool) → then (unless s 13 nowhere (result c)) x ≡ unless s 13 nowhere (x c)
+      at-13 c true = refl
+      at-13 c false = refl
 
       go : (y : Answer Chart)
           → then y (λ c. countsJudged c counts (unless same 13 nowhere (x c)))
           ≡ then (then y (λ c. countsJudged c counts (unless same 13 nowhere (result c)))) x
       go (refused n p) = refl
-      go (result c) =
-          let first = lowest (tooLarge counts) (c .timers) in
-          tests c (eqb (length counts) (c .timers)) (leb (c .timers) first) same first
+      go (result c) = sym (counts-then c counts _ x ∙ ap (countsJudged c counts) (at-13 c same))
 
   -- its refusal stands, whatever is refused 14 or higher behind it
   pub early : {A B : Type 0} (x : Chart → Answer A) (y : Chart → Answer B) (n p : ℕ) → n ≤ 13 → ((c : Chart) → x c ≡ refused n p → 14 ≤ n)
