@@ -2,7 +2,7 @@
 -- numbers every tested timer, each test stays with its constant. Assumes nothing.
 use mathlib.Core.Path.{_≡_, refl}
 use mathlib.Core.Bool.{Bool, true, false}
-use Prim.Native.Nat.{ℕ, _≤_}
+use Prim.Native.Nat.{_≤_}
 use Rattle.lists.proofs.Bools.{same-bool, not-both}
 use Rattle.model.specs.Chart.{Chart}
 use Rattle.model.specs.Version.{widest, largeConstant, LargeConstant}

@@ -3,7 +3,7 @@ use mathlib.Core.Path.{_≡_, refl, ap}
 use mathlib.Core.List.{List, [], _∷_}
 use Prim.Native.Nat.{ℕ, zero, suc, _+_, _-_, _≤_, _<_}
 use native.Mathlib.Omega.{arith}
-use lib.ListN.{length, getD, take}
+use lib.ListN.{take}
 use Rattle.model.specs.Run.{largestTime}
 use Rattle.counter_model.specs.Counter.{counterNumbers, ticksPassed, readingAt, readingsAt, timesOf}
 use Rattle.counter_model.specs.CounterClaim.{EachStepFrom, NeverFallFrom, FewTicksFrom, FewTicks, FewTicksAfterFirst, Spaced, SpacedAfterFirst}

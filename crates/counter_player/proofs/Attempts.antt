@@ -7,7 +7,7 @@ use Prim.Native.Nat.{ℕ, _≤_, _<_}
 use lib.Dec.{eqb}
 use lib.ListN.{length, getD}
 use borrow.Author.Tests.{eq-eqb, ne-eqb}
-use Rattle.model.specs.Answer.{Answer, refused, unless}
+use Rattle.model.specs.Answer.{Answer, refused}
 use Rattle.model.specs.Chart.{Transition, Chart, Nth}
 use Rattle.model.specs.Run.{Counts, enabled}
 use Rattle.chart_lists.specs.Lists.{Lists}

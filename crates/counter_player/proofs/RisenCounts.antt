@@ -1,7 +1,7 @@
 -- The counts at a reading, one changed a turn, and those that a chart's steps begin with. Nothing is hard. Assumes nothing.
 use mathlib.Core.Path.{_≡_, refl, ap, _∙_}
 use mathlib.Core.List.{List}
-use Prim.Native.Nat.{ℕ, _+_, _≤_, _<_, min}
+use Prim.Native.Nat.{ℕ, _+_, _≤_, min}
 use native.Mathlib.Omega.{arith}
 use lib.ListN.{getD}
 use Rattle.model.specs.Chart.{Chart}
@@ -11,7 +11,6 @@ use Rattle.steps.proofs.MovedCounts.{ChangedTo}
 use Rattle.counter_model.specs.Counter.{mostCount, risen}
 use Rattle.counter_model.specs.CounterRun.{counterBegin}
 use Rattle.counter_player.specs.Counts.{Risen}
-use Rattle.counter_player.specs.declared.stepping.State.{State}
 use Rattle.counter_player.specs.Stepping.{Shows}
 
 -- a count d ticks later

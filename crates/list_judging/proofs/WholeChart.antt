@@ -1,6 +1,6 @@
 -- The whole chart by its parts: that some constant is large by the first entries of their list, the length of its file by the sizes of its
 -- transitions, and the judgement of all of it. Nothing is hard. Assumes nothing.
-use mathlib.Core.Path.{_≡_, refl, sym, ap, _∙_}
+use mathlib.Core.Path.{_≡_, sym, ap, _∙_}
 use mathlib.Core.Bool.{not, _&&_}
 use mathlib.Core.List.{List, [], _∷_, map}
 use Prim.Native.Nat.{ℕ, _+_, _*_, _≤_}

@@ -10,7 +10,6 @@ use lib.Dec.{leb, eqb}
 use lib.ListN.{length, getD}
 use borrow.Author.Tests.{leb-false, le-leb}
 use Rattle.lists.specs.Lists.{memb, anyOf, lowest}
-use Rattle.lists.specs.Rising.{All}
 use Rattle.file_format.specs.Parse.{Bytes}
 use Rattle.lists.proofs.Bools.{not-both}
 use Rattle.lists.proofs.Membership.{any-memb-in, memb-least, memb-tail}
