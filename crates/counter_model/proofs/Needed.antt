@@ -1,7 +1,8 @@
 -- No proviso of the claim can be left out: for each there is a call that keeps all others, and on which the counter board and the player, without
--- the time, answer differently. Nothing is hard: both answers are computed. Assumes nothing.
-use mathlib.Core.Path.{_≡_, refl, sym, _∙_}
-use mathlib.Core.Bool.{true, false}
+-- the time, answer differently; and the relations of the claim do not hold of everything. Nothing is hard: both answers are computed. Assumes
+-- nothing.
+use mathlib.Core.Path.{_≡_, refl, sym, ap, _∙_}
+use mathlib.Core.Bool.{true, false, true≢false}
 use mathlib.Core.List.{List, [], _∷_}
 use Prim.Native.Nat.{ℕ, zero, suc, _-_, _*_, _≤_, _<_}
 use native.Mathlib.Omega.{arith}
@@ -20,7 +21,7 @@ use Rattle.model.specs.Judge.{judged}
 use Rattle.model.specs.Player.{arrival, answerOf, tooLarge, countsJudged, stepsOf, played}
 use Rattle.model.specs.PlayerTerms.{CountsAllowed}
 use Rattle.model.specs.Cases.{arrow, test, drawn, B, selfLoop}
-use Rattle.model.proofs.Answers.{not-result, refused-same}
+use Rattle.model.proofs.Answers.{not-result, result-same, refused-same}
 use Rattle.model.proofs.PlayerLaws.{counts-allowed}
 use Rattle.file_format.specs.Parse.{number, below, many, entry, rising, digits, writeAll}
 use Rattle.file_format.specs.Body.{readComparison, readTest, readTests, recordLength, readTransition, readTransitions, readHeader, chartOf, readBody}
@@ -31,10 +32,10 @@ use Rattle.player.specs.Playing.{playAnswer}
 use Rattle.counter_model.specs.Counter.{counterNumbers, ticksPassed, readingAt, readingsAt, risen}
 use Rattle.counter_model.specs.CounterRun.{countsAt, counterAfter, counterAttempt, counterSteps, counterBegin, counterOutcome}
 use Rattle.counter_model.specs.CounterPlayer.{CounterArrival, counterArrival, counterAnswerOf, counterAnswer}
-use Rattle.counter_model.specs.CounterClaim.{EachStepFrom, NeverFall, NoneLate, FewTicks, Spaced, withoutTime}
+use Rattle.counter_model.specs.CounterClaim.{EachStepFrom, NeverFall, NoneLate, FewTicks, Spaced, withoutTime, CounterAsPlayer, SameOnCounter}
 use Rattle.counter_model.specs.Cases.{arrived, threeTests}
 use Rattle.counter_model.specs.Examples.{Example, boardCalled, playerCalled, boardSteps, playerSteps, Callable, SmallConstants}
-use Rattle.counter_model.specs.Examples.{falling, late, longWait, longFirstWait, large}
+use Rattle.counter_model.specs.Examples.{falling, late, longWait, longFirstWait, large, noSteps}
 
 -- ---- the answers, computed
 
@@ -49,7 +50,9 @@ answers : Answered falling (refused 24 1) (refused 23 1)
     × Answered late (arrived 0 true) (refused 15 256)
     × Answered longWait (arrived 2 false) (refused 24 1)
     × Answered large (refused 18 nowhere) (arrived 3 true)
-unfolding falling late longWait large boardCalled playerCalled arrived threeTests
+    × Answered (noSteps B (7 ∷ 7 ∷ [])) (arrived 0 false) (arrived 0 false)
+    × Answered (noSteps selfLoop (0 ∷ [])) (arrived 0 true) (arrived 0 true)
+unfolding falling late longWait large noSteps boardCalled playerCalled arrived threeTests
     ticksPassed readingAt readingsAt risen countsAt counterAfter counterAttempt counterSteps counterBegin counterOutcome
     counterArrival counterAnswerOf counterAnswer withoutTime
     arrow test drawn inVersion B selfLoop
@@ -64,6 +67,8 @@ unfolding falling late longWait large boardCalled playerCalled arrived threeTest
     writeTest writeTransition writeHeader writeBody
     readFrame judgeFrame readFile writeFile chartIn fileOf judgedIn playAnswer
 answers = (
+  record { accepted = refl; counts-pass = refl; board-is = refl; player-is = refl },
+  record { accepted = refl; counts-pass = refl; board-is = refl; player-is = refl },
   record { accepted = refl; counts-pass = refl; board-is = refl; player-is = refl },
   record { accepted = refl; counts-pass = refl; board-is = refl; player-is = refl },
   record { accepted = refl; counts-pass = refl; board-is = refl; player-is = refl },
@@ -194,3 +199,35 @@ small-constants-needed = let w = answers .3 in let v = steps-answers .1 in (
   λ e. arrival-differs 18 nowhere (w .player-is) (w .board-is) (sym e),
   λ e. arrival-differs 24 2 (v .1) (v .0) (sym e),
 )
+
+-- ---- what does not hold
+
+-- these times keep not all provisos
+pub not-spaced : (Spaced (falling .times) → ⊥) × (Spaced (late .times) → ⊥) × (Spaced (longWait .times) → ⊥)
+unfolding falling late longWait
+not-spaced = (
+  λ s. omega (arith, s .never-fall 1 (omega arith)),
+  λ s. omega (arith, s .none-late 256 (rw (length-upTo time 257) (omega arith)), getD-upTo time 257 256 0 (omega arith)),
+  λ s. omega (arith, s .few-ticks 1 (omega arith)),
+)
+  where
+    time : ℕ → ℕ
+    time i = 65535 * suc i
+
+-- the board does not answer as the player on a chart with a constant over 65,535
+pub not-as-player : CounterAsPlayer Spaced (fileOf (large .chart)) (large .chart) (fileOf (large .chart)) (large .chart) → ⊥
+unfolding boardCalled playerCalled
+not-as-player x =
+    let w = small-constants-needed in
+    let allowed = w .0 .counts-allowed in
+    w .2 (x .answers (large .counts) (large .counts) (large .first) (large .transitions) (large .times) allowed allowed (w .0 .first-small) (w .1))
+
+-- nor alike on two charts of which one accepts its initial location
+pub not-same-on-counter : SameOnCounter (fileOf B) B (fileOf selfLoop) selfLoop → ⊥
+unfolding boardCalled noSteps readingsAt arrived
+not-same-on-counter x =
+    let b = answers .4 in
+    let l = answers .5 in
+    let e = x .answers (7 ∷ 7 ∷ []) (0 ∷ []) 0 0 [] [] (callable (noSteps B (7 ∷ 7 ∷ [])) b (omega arith) .counts-allowed)
+    (callable (noSteps selfLoop (0 ∷ [])) l (omega arith) .counts-allowed) in
+    true≢false (sym (ap (λ (a : CounterArrival). a .accepting) (result-same (sym (b .board-is) ∙ e ∙ l .board-is))))

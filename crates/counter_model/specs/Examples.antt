@@ -68,7 +68,8 @@ unfoldable pub longWait : Example
 longWait = record { chart = B; counts = 7 ∷ 7 ∷ []; transitions = 0 ∷ 1 ∷ []; times = 5 ∷ 65542 ∷ []; first = 0 }
 
 -- one location, 0→0 tests 0 at most 5, at 65,536. The chart is refused 10, as is every test on a transition that leaves the initial location. On a
--- file there is no such example: each timer that a test reads is started at a step before, so its count does not hold the ticks of the first
+-- file there is no such example (`file-claim` in proofs/FileClaim): each timer that a test reads is started at a step before, so its count does not
+-- hold the ticks of the first
 unfoldable pub longFirstWait : Example
 longFirstWait = record {
   chart = drawn 1 0 1 (arrow 0 0 [] (test 0 AtMost 5 ∷ []) ∷ []);
@@ -81,3 +82,7 @@ longFirstWait = record {
 -- a test above 65,536, 80,000 ticks after its timer's start
 unfoldable pub large : Example
 large = record { chart = threeTests 2 65536; counts = 0 ∷ []; transitions = 0 ∷ 1 ∷ 2 ∷ []; times = 0 ∷ 40000 ∷ 80000 ∷ []; first = 0 }
+
+-- no steps
+unfoldable pub noSteps : Chart → (counts : List ℕ) → Example
+noSteps c v = record { chart = c; counts = v; transitions = []; times = []; first = 0 }
