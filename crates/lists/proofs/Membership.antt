@@ -167,3 +167,13 @@ module _ {A B : Type 0} (f : A → B) where
   nth-unmap [] i e = absurd (Option·none-ne-some _ e)
   nth-unmap (x ∷ l) zero e = (x, refl, Option·some-injective _ _ e)
   nth-unmap (x ∷ l) (suc i) e = nth-unmap l i e
+
+module _ (f : ℕ → ℕ) where
+  pub memb-map-in : (l : List ℕ) (j : ℕ) → memb j l ≡ true → memb (f j) (map f l) ≡ true
+  memb-map-in l j m = let n = memb-nth l j m in nth-memb (map f l) (n .0) (nth-map f l (n .0) (n .1))
+
+  pub memb-map-out : (l : List ℕ) (k : ℕ) → memb k (map f l) ≡ true → (j : ℕ) × (memb j l ≡ true) × (f j ≡ k)
+  memb-map-out l k m =
+      let n = memb-nth (map f l) k m in
+      let x = nth-unmap f l (n .0) (n .1) in
+      (x .0, nth-memb l (n .0) (x .1), x .2)

@@ -1,9 +1,11 @@
 -- The chart rewritten by a numbering (document 01, "Live, born, family, board number"). Assumes nothing.
 use mathlib.Core.Path.{_≡_}
-use mathlib.Core.Bool.{true}
+use mathlib.Core.Bool.{true, false}
 use mathlib.Core.Option.{Option, none, some}
 use mathlib.Core.List.{List, map, filterMap}
 use Prim.Native.Nat.{ℕ, _<_}
+use lib.ListN.{getD}
+use Rattle.timer_set.specs.Members.{member}
 use Rattle.lists.specs.Lists.{memb, pick}
 use Rattle.model.specs.Chart.{Test, Transition, Chart, tested}
 use Rattle.model.specs.FirstFit.{Placed, numberAt, usedBy, board}
@@ -16,6 +18,13 @@ pub record Numbering : Type 0 where
 -- the numbering that placed families give
 unfoldable pub numbering : List Placed → Numbering
 numbering ps = record { number = numberAt ps; used = usedBy ps }
+
+-- a numbering read through f: a timer of the set at q has the number that f of it has there, any other timer none
+unfoldable pub through : (sets : List ℕ) → (f : ℕ → ℕ) → Numbering → Numbering
+through sets f N = record {
+  number = λ q j. elim (member (getD sets q 0) j) [ true ↦ N .number q (f j) | false ↦ none ];
+  used = N .used;
+}
 
 -- a test reads the number that its timer has at q
 unfoldable pub renamed : Test → Option ℕ → Option Test

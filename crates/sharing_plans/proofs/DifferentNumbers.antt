@@ -14,22 +14,16 @@ use Rattle.lists.specs.Lists.{memb, firstOf}
 use Rattle.lists.specs.Rising.{Rising}
 use Rattle.lists.proofs.Bools.{not-both, eqb-self, same-number, lt-or-le}
 use Rattle.lists.proofs.Nth.{below-nth}
-use Rattle.lists.proofs.Membership.{first-passes, first-before, memb-head, memb-tail, memb-nth, nth-memb, nth-unmap}
+use Rattle.lists.proofs.Membership.{first-passes, first-before, memb-head, memb-tail, memb-nth, nth-memb, memb-map-out}
 use Rattle.lists.proofs.Gather.{rising-below}
 use Rattle.timer_set.specs.Members.{member, setOf}
 use Rattle.timer_set.proofs.Members.{member-setOf, setOf-lt}
 use Rattle.timer_set.proofs.Counts.{ones-grow}
 
 module _ (g : ℕ → ℕ) where
-  memb-map : (l : List ℕ) (k : ℕ) → memb k (map g l) ≡ true → (j : ℕ) × (memb j l ≡ true) × (g j ≡ k)
-  memb-map l k m =
-      let n = memb-nth (map g l) k m in
-      let x = nth-unmap g l (n .0) (n .1) in
-      (x .0, nth-memb l (n .0) (x .1), x .2)
-
   module _ (n : ℕ) where
     small : (l : List ℕ) → ((j : ℕ) → memb j l ≡ true → g j < n) → setOf (map g l) < 2 ^ n
-    small l b = setOf-lt n (map g l) (λ k m. let y = memb-map l k m in subst (λ (k : ℕ). k < n) (y .2) (b (y .0) (y .1)))
+    small l b = setOf-lt n (map g l) (λ k m. let y = memb-map-out g l k m in subst (λ (k : ℕ). k < n) (y .2) (b (y .0) (y .1)))
 
     -- the set of their numbers has as many
     enough : (limit lo : ℕ) (l : List ℕ) → Rising limit lo l → ((j : ℕ) → memb j l ≡ true → g j < n)
@@ -45,7 +39,7 @@ module _ (g : ℕ → ℕ) where
         -- the first one's number is not among the others'
         new : memb (g x) (map g l) ≡ true → ⊥
         new m =
-            let y = memb-map l (g x) m in
+            let y = memb-map-out g l (g x) m in
             let same = a x (y .0) (memb-head x x l refl) (memb-tail (y .0) x l (y .1)) (sym (y .2)) in
             omega (arith, same, rising-below limit (suc x) l (r .1) (y .0) (y .1) .0)
 

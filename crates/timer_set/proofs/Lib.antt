@@ -4,3 +4,4 @@ pub mod Machine
 pub mod Counts
 pub mod Below
 pub mod LowestMember
+pub mod Images

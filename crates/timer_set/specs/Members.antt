@@ -1,7 +1,7 @@
 -- A set of timers is one word (document 01, "The chart"): timer j is in it where the binary digit at place j is 1.
 -- The operations on sets, at no fixed width. Their laws by members are in proofs/. Assumes nothing.
 use mathlib.Core.Bool.{Bool, not}
-use mathlib.Core.List.{List, foldl}
+use mathlib.Core.List.{List, foldl, map}
 use Prim.Native.Nat.{ℕ, _-_, _/_, _%_, _^_}
 use lib.Dec.{leb, eqb}
 use lib.Bits.{bitAnd, bitOr, bitXor}
@@ -42,6 +42,10 @@ setOf l = foldl added 0 l
 -- the timers of a set, rising
 unfoldable pub members : ℕ → List ℕ
 members w = pick (member w) 64
+
+-- the set of what f gives for the timers of w
+unfoldable pub image : (f : ℕ → ℕ) → (w : ℕ) → ℕ
+image f w = setOf (map f (members w))
 
 -- every timer of the set is below n
 unfoldable pub allBelow : (n w : ℕ) → Bool
