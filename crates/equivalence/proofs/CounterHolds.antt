@@ -8,8 +8,7 @@ use Rattle.model.specs.Answer.{result}
 use Rattle.model.specs.Chart.{Chart}
 use Rattle.model.specs.Version.{widthOf, largeConstant}
 use Rattle.model.specs.Valid.{Storable}
-use Rattle.model.specs.FirstFit.{board}
-use Rattle.model.specs.Rewrite.{Numbering, numbering, rewrittenBy}
+use Rattle.model.specs.Rewrite.{Numbering, rewrittenBy, boardNumbering}
 use Rattle.model.specs.Plan.{Plan}
 use Rattle.model.specs.Judge.{Rewriting, judged}
 use Rattle.model.proofs.Judgement.{accepted}
@@ -59,11 +58,11 @@ module _ (K room : ℕ) (bs : List ℕ) (bytes : Bytes bs) (c : Chart) (reads : 
       let j = rewriting-is K c x m .accepted in
       let a = accepted (s .valid) .0 j in
       let b = equal-behaviour (widthOf (c .version)) K c (s .valid) x m in
-      let plan : Plan c (numbering (board c)) =
+      let plan : Plan c (boardNumbering c) =
       board-plan (s .valid) (λ i r n u. a .no-unstarted-test i (record { transition = r; is-nth = n; test = u })) in
-      let few : numbering (board c) .used ≤ 64 = omega (arith, b .used, b .fits, b .limit) in
+      let few : boardNumbering c .used ≤ 64 = omega (arith, b .used, b .fits, b .limit) in
       counter-of bs c reads s j (x .chart) (first-fit-demand K room bs bytes c reads x e)
-      (large-kept c (numbering (board c)) plan (storable-iff c .0 s .valid) few a ∙ ap largeConstant (sym (b .chart)))
+      (large-kept c (boardNumbering c) plan (storable-iff c .0 s .valid) few a ∙ ap largeConstant (sym (b .chart)))
 
   -- with document 02's provisos
   pub first-fit-counter-spaced : CounterDemand Spaced bs c (fileOf (x .chart)) (x .chart)

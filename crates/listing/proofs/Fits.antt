@@ -15,7 +15,7 @@ use Rattle.model.specs.Chart.{Chart}
 use Rattle.model.specs.Valid.{Valid}
 use Rattle.model.specs.FirstFit.{board, used}
 use Rattle.model.specs.Floor.{floor, searched}
-use Rattle.model.specs.Rewrite.{Numbering, numbering}
+use Rattle.model.specs.Rewrite.{Numbering, numbering, boardNumbering}
 use Rattle.model.proofs.NumberAt.{number-below}
 use Rattle.listing.specs.Text.{decimalIn, decimal, atWord}
 use Rattle.listing.specs.Listing.{largestText, refusedText, entryText, lineOf, chartText}
@@ -66,14 +66,14 @@ module _ (N : Numbering) (few : (q j k : ℕ) → N .number q j ≡ some k → k
       simp length-append (omega (arith, e, decimal-most q))
 
 -- no number of the board is above 63 if at most 64 are used
-pub board-few : (c : Chart) → used c ≤ 64 → (q j k : ℕ) → numbering (board c) .number q j ≡ some k → k < 64
+pub board-few : (c : Chart) → used c ≤ 64 → (q j k : ℕ) → boardNumbering c .number q j ≡ some k → k < 64
 unfolding used numbering
 board-few c few q j k e = omega (arith, number-below (board c) q j k e)
 
 pub chart-fits : {W : ℕ} {c : Chart} → Valid W c → used c ≤ 64 → (K : ℕ) → length (chartText K c) ≤ largestText
 unfolding chartText
 chart-fits {W} {c} v few K =
-    let N = numbering (board c) in
+    let N = boardNumbering c in
     let lines = gather-most (lineOf (c .timers) N) 408 (c .locations) (λ q h. line-most N (board-few c few) (c .timers) (v .few-timers) q) in
     let first = first-length (N .used) (floor c) (searched c) K in
     rw length-append

@@ -11,9 +11,8 @@ use Rattle.lists.specs.Lists.{gather}
 use Rattle.model.specs.Chart.{Chart}
 use Rattle.model.specs.Valid.{Valid}
 use Rattle.model.specs.Live.{liveSets, fullest}
-use Rattle.model.specs.FirstFit.{board}
 use Rattle.model.specs.Floor.{mostSearched, searched}
-use Rattle.model.specs.Rewrite.{numbering}
+use Rattle.model.specs.Rewrite.{boardNumbering}
 use Rattle.sharing_plans.specs.SharingPlan.{FamiliesAtMost}
 use Rattle.sharing_plans.proofs.FamilyCounts.{searched-iff}
 use Rattle.sharing_plans.proofs.Floor.{floor-unsearched}
@@ -29,7 +28,7 @@ pub floor-word-iff : {W : ℕ} {c : Chart} → Valid W c → (wordOf (searched c
 floor-word-iff {c = c} valid = (λ e. searched-iff valid .0 (searched-word (searched c) e), λ f. ap wordOf (searched-iff valid .1 f))
 
 -- the text of a chart that is not searched has the old figure, after the other word
-pub seen-text : (k : ℕ) (c : Chart) → searched c ≡ false → let N = numbering (board c) in
+pub seen-text : (k : ℕ) (c : Chart) → searched c ≡ false → let N = boardNumbering c in
     chartText k c ≡ firstLine (N .used) (fullest (liveSets c)) false k ++ gather (lineOf (c .timers) N) (c .locations)
 unfolding chartText
 seen-text k c h = rw (h, floor-unsearched c h)

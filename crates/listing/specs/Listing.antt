@@ -9,9 +9,8 @@ use lib.ListN.{length}
 use Rattle.lists.specs.Lists.{gather}
 use Rattle.model.specs.Answer.{Answer, result, refused, then, nowhere}
 use Rattle.model.specs.Chart.{Chart}
-use Rattle.model.specs.FirstFit.{board}
 use Rattle.model.specs.Floor.{floor, searched}
-use Rattle.model.specs.Rewrite.{Numbering, numbering}
+use Rattle.model.specs.Rewrite.{Numbering, boardNumbering}
 use Rattle.model.specs.Judge.{fitted, rewriting}
 use Rattle.file_format.specs.File.{chartIn}
 use Rattle.listing.specs.Text.{decimal, space, lineFeed, refusedWord, usedWord, floorWord, seenWord, limitWord, atWord, greater}
@@ -48,7 +47,7 @@ lineOf timers N q = atWord ++ (decimal q ++ (gather (λ j. entryText j (N .numbe
 
 -- the text of a chart: the first line, then a line for each location
 unfoldable pub chartText : (K : ℕ) → Chart → List ℕ
-chartText k c = let N = numbering (board c) in firstLine (N .used) (floor c) (searched c) k ++ gather (lineOf (c .timers) N) (c .locations)
+chartText k c = let N = boardNumbering c in firstLine (N .used) (floor c) (searched c) k ++ gather (lineOf (c .timers) N) (c .locations)
 
 -- the chart, judged as the rewriting judges it, with room enough
 unfoldable pub accepted : (K : ℕ) → List ℕ → Answer Chart

@@ -109,3 +109,9 @@ set-all P l t v h here rest q = go (ℕ-discrete q t)
     go : Dec (q ≡ t) → P q (getD (set l t v) q 0)
     go (yes e) = rw (e, getD-set-same l t v 0 h) here
     go (no ne) = rw (getD-set-other l t q v 0 ne) (rest q)
+
+-- entries of a mapped list, also beyond its end if 0 is mapped to 0
+pub getD-map-all : (f : ℕ → ℕ) → f 0 ≡ 0 → (l : List ℕ) (i : ℕ) → getD (map f l) i 0 ≡ f (getD l i 0)
+getD-map-all f e [] i = sym e
+getD-map-all f e (x ∷ l) zero = refl
+getD-map-all f e (x ∷ l) (suc i) = getD-map-all f e l i

@@ -12,10 +12,11 @@ use Rattle.model.specs.Version.{inVersion}
 use Rattle.model.specs.Run.{State, Step, enabled, attempt, steps, begin, outcome, accepts}
 use Rattle.model.specs.Live.{atInitial, liveFlow, unstartedFlow, reachedFlow}
 use Rattle.model.specs.Live.{liveSets, liveRounds, unstartedSets, reachedSets, firstUnreached, firstUnstarted}
+use Rattle.model.specs.Twins.{lowestTwin, mergedSets}
 use Rattle.model.specs.Family.{livePairs}
 use Rattle.model.specs.FirstFit.{board, usedBy, blocked}
 use Rattle.model.specs.Floor.{floor, searched}
-use Rattle.model.specs.Rewrite.{numbering, rewrittenBy}
+use Rattle.model.specs.Rewrite.{rewrittenBy, boardNumbering}
 use Rattle.model.specs.Judge.{Rewriting, judged, fitted, rewriting}
 use Rattle.model.specs.Player.{arrival, answerOf, countsJudged, stepsOf, playedOn, played}
 use Rattle.model.specs.AnyVersion.{SameInVersion}
@@ -53,11 +54,11 @@ module _ (version : ℕ) (c : Chart) where
 
 same-fitted : (version K : ℕ) (c : Chart) → fitted K (inVersion version c)
     ≡ then (fitted K c) (λ x. result (record { used = x .used; chart = inVersion version (x .chart) }))
-unfolding inVersion fitted board livePairs liveSets liveFlow rewrittenBy
+unfolding inVersion fitted board livePairs mergedSets lowestTwin liveSets liveFlow boardNumbering rewrittenBy
 same-fitted version K c = go (leb K 64) (not (blocked K (board c)))
   where
     made : Chart → Rewriting
-    made d = record { used = usedBy (board c); chart = rewrittenBy (numbering (board c)) d }
+    made d = record { used = usedBy (board c); chart = rewrittenBy (boardNumbering c) d }
 
     go : (a b : Bool) → unless a 11 nowhere (unless b 20 nowhere (result (made (inVersion version c))))
         ≡ then (unless a 11 nowhere (unless b 20 nowhere (result (made c))))
@@ -71,7 +72,7 @@ unfolding inVersion countsJudged answerOf outcome begin arrival accepts
 same-played-on version c counts is ts = rw (same-steps version c _ 0 _ (stepsOf is ts))
 
 pub same-in-version : (version : ℕ) (c : Chart) → SameInVersion version c
-unfolding inVersion liveSets liveRounds liveFlow board livePairs floor searched outcome begin rewriting played
+unfolding inVersion liveSets liveRounds liveFlow board livePairs mergedSets lowestTwin floor searched outcome begin rewriting played
 same-in-version version c = record {
   same-live = refl;
   same-board = refl;

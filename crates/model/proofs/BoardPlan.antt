@@ -1,63 +1,121 @@
 -- The board numbers of a chart are a plan; each transition of the rewritten chart starts the numbers of the timers born on it; and 20 is given
 -- exactly where more than K numbers are used. Hard: that a timer keeps its number over a transition that does not start it: it is live at both ends,
 -- so the transition links the two pairs. Assumes nothing.
-use mathlib.Core.Path.{_≡_, refl, ap, _∙_}
-use mathlib.Core.Logic.{inl, _↔_}
-use mathlib.Core.Bool.{true}
-use mathlib.Core.Option.{some}
+use mathlib.Core.Path.{_≡_, refl, sym, _∙_}
+use mathlib.Core.Logic.{_⊎_, inl, inr, _↔_}
+use mathlib.Core.Bool.{true, false}
+use mathlib.Core.Option.{none, some, Option·none-ne-some}
+use mathlib.Core.List.{List}
 use Prim.Native.Nat.{ℕ, _<_}
+use lib.ListN.{getD}
+use Rattle.timer_set.specs.Members.{member}
 use Rattle.lists.specs.Lists.{memb}
+use Rattle.lists.proofs.Bools.{yes-or-no}
 use Rattle.lists.proofs.Gather.{pick-in, pick-out}
 use Rattle.lists.proofs.Elements.{filter-in, filter-out}
 use Rattle.model.specs.Chart.{Transition, Chart, Nth}
 use Rattle.model.specs.Valid.{Valid}
 use Rattle.model.specs.Path.{Live, Born, UnstartedTest}
+use Rattle.model.specs.Live.{liveSets, live}
+use Rattle.model.specs.Twins.{Twins, lowestTwin}
 use Rattle.model.specs.Family.{livePairs, families}
 use Rattle.model.specs.FirstFit.{firstFit, usedBy, numberAt, blocked, board, used}
-use Rattle.model.specs.Rewrite.{numbering, newStarts}
-use Rattle.model.specs.Plan.{Plan}
+use Rattle.model.specs.Rewrite.{Numbering, numbering, through, boardNumbering, newStarts}
+use Rattle.model.specs.Plan.{Has, Plan}
+use Rattle.model.specs.SharingRule.{LiveLink}
 use Rattle.model.proofs.Paths.{live-here, live-back, live-unstarted}
-pub use Rattle.model.proofs.LivePairs.{pair-live, live-pairs-formed}
+use Rattle.model.proofs.LivePaths.{live-iff}
+use Rattle.model.proofs.Twins.{live-itself, lowest-twins, pair-twin}
+pub use Rattle.model.proofs.LivePairs.{live-pairs-formed}
 use Rattle.model.proofs.LivePairs.{linked-iff}
 use Rattle.model.proofs.FirstFit.{blocked-iff}
 use Rattle.model.proofs.NumberAt.{number-below}
-use Rattle.model.proofs.PairNumbers.{number-of-pair, number-pair, linked-same, apart}
+use Rattle.model.proofs.PairNumbers.{number-of-pair, linked-same, apart}
+
+-- ---- a numbering read through a function
+
+module _ (sets : List ℕ) (f : ℕ → ℕ) (N : Numbering) (q j : ℕ) where
+  pub through-in : member (getD sets q 0) j ≡ true → through sets f N .number q j ≡ N .number q (f j)
+  unfolding through
+  through-in h = rw (h, through)
+
+  pub through-out : member (getD sets q 0) j ≡ false → through sets f N .number q j ≡ none
+  unfolding through
+  through-out h = rw (h, through)
+
+-- ---- the board numbers of a chart
+
+-- as many are used as the families need
+pub board-used : (c : Chart) → boardNumbering c .used ≡ usedBy (board c)
+unfolding boardNumbering through numbering
+board-used c = refl
 
 module _ {W : ℕ} {c : Chart} (valid : Valid W c) where
-  -- exactly the live timers have a number
-  pub number-live : (q j k : ℕ) → numberAt (board c) q j ≡ some k → Live c q j
-  unfolding board
-  number-live q j k e = pair-live valid q j .0 (number-pair (live-pairs-formed valid) q j k e .pair)
+  -- a timer has a number exactly where it is live: that of the pair of its lowest twin
+  pub number-iff : (q j k : ℕ) → Has (boardNumbering c) q j k ↔ (Live c q j × (numberAt (board c) q (lowestTwin c j) ≡ some k))
+  unfolding boardNumbering numbering live
+  number-iff q j k = (
+    λ e. go (yes-or-no (live c q j)) e,
+    λ x. through-in (liveSets c) (lowestTwin c) (numbering (board c)) q j (live-iff valid q j .1 (x .0)) ∙ x .1,
+  )
+    where
+      go : (live c q j ≡ true) ⊎ (live c q j ≡ false) → Has (boardNumbering c) q j k → Live c q j × (numberAt (board c) q (lowestTwin c j) ≡ some k)
+      go (inl h) e = (live-iff valid q j .0 h, sym (through-in (liveSets c) (lowestTwin c) (numbering (board c)) q j h) ∙ e)
+      go (inr h) e = absurd (Option·none-ne-some _ (sym (through-out (liveSets c) (lowestTwin c) (numbering (board c)) q j h) ∙ e))
 
-  pub live-number : (q j : ℕ) → Live c q j → (k : ℕ) × (numberAt (board c) q j ≡ some k)
-  unfolding board
-  live-number q j l = number-of-pair (live-pairs-formed valid) q j (pair-live valid q j .1 l)
+  pub number-live : (q j k : ℕ) → Has (boardNumbering c) q j k → Live c q j
+  number-live q j k e = number-iff q j k .0 e .0
 
-  pub board-plan : ((i : ℕ) (r : Transition) → Nth c i r → UnstartedTest c r → ⊥) → Plan c (numbering (board c))
-  unfolding numbering board
+  pub live-number : (q j : ℕ) → Live c q j → (k : ℕ) × Has (boardNumbering c) q j k
+  unfolding board
+  live-number q j l =
+      let x = number-of-pair (live-pairs-formed valid) q (lowestTwin c j) (pair-twin valid q j .1 (live-itself l)) in
+      (x .0, number-iff q j (x .0) .1 (l, x .1))
+
+  -- timers that have one number at a location are twins
+  pub number-twins : (q j i k : ℕ) → Has (boardNumbering c) q j k → Has (boardNumbering c) q i k → Twins c j i
+  unfolding board
+  number-twins q j i k e e′ =
+      let x = number-iff q j k .0 e in
+      let y = number-iff q i k .0 e′ in
+      lowest-twins valid (live-itself (x .0)) (live-itself (y .0)) (apart (livePairs c) q _ k _ (x .1) (y .1))
+
+  pub number-under : (q j k : ℕ) → Has (boardNumbering c) q j k → k < boardNumbering c .used
+  number-under q j k e = rw (board-used c) (number-below (board c) q (lowestTwin c j) k (number-iff q j k .0 e .1))
+
+  pub board-plan : ((i : ℕ) (r : Transition) → Nth c i r → UnstartedTest c r → ⊥) → Plan c (boardNumbering c)
+  unfolding board
   board-plan started = record {
     begins = λ j k e. let u = live-unstarted (number-live (c .initial) j k e) in started _ (u .transition) (u .is-nth) (u .test);
     reads = λ q j x r. live-number q j (live-here r);
     keeps = λ i r j k n x f e.
-        let l = number-live (r .target) j k e in
-        linked-same (live-pairs-formed valid) (linked-iff valid j (r .source) (r .target) .1
-        (record { number = i; transition = r; is-nth = n; not-started = f; ends = inl (refl, refl); live-one = live-back n f l; live-other = l }))
-        ∙ e;
-    apart = λ q j j′ k x e e′ i r n y. ap (λ (t : ℕ). memb t (r .starts)) (apart (livePairs c) q j k j′ e e′);
-    below = number-below (board c);
+        let y = number-iff (r .target) j k .0 e in
+        let back = live-back n f (y .0) in
+        let link : LiveLink c j (r .source) (r .target) = record {
+          number = i;
+          transition = r;
+          is-nth = n;
+          not-started = f;
+          ends = inl (refl, refl);
+          live-one = live-itself back;
+          live-other = live-itself (y .0);
+        } in
+        number-iff (r .source) j k .1 (back, linked-same (live-pairs-formed valid) (linked-iff valid j (r .source) (r .target) .1 link) ∙ y .1);
+    apart = λ q j i k x e e′ m r n y. number-twins q j i k e e′ .together m r n;
+    below = number-under;
   }
 
   -- a transition of the rewritten chart starts exactly the numbers that the timers born on it have at its target
   pub born-starts : (r : Transition) (k : ℕ)
-      → (memb k (newStarts (numbering (board c)) r) ≡ true) ↔ ((j : ℕ) × Born c r j × (numberAt (board c) (r .target) j ≡ some k))
-  unfolding newStarts numbering
+      → (memb k (newStarts (boardNumbering c) r) ≡ true) ↔ ((j : ℕ) × Born c r j × Has (boardNumbering c) (r .target) j k)
+  unfolding newStarts
   born-starts r k = (
     λ m.
-        let x = filter-out (numberAt (board c) (r .target)) (r .starts) k (pick-out _ (usedBy (board c)) k m .1) in
+        let x = filter-out (boardNumbering c .number (r .target)) (r .starts) k (pick-out _ (boardNumbering c .used) k m .1) in
         (x .0, record { started = x .1; active = number-live (r .target) (x .0) k (x .2) }, x .2),
     λ x.
-        let below = number-below (board c) (r .target) (x .0) k (x .2) in
-        pick-in _ (usedBy (board c)) k below (filter-in (numberAt (board c) (r .target)) (r .starts) (x .0) k (x .1 .started) (x .2)),
+        pick-in _ (boardNumbering c .used) k (number-under (r .target) (x .0) k (x .2))
+        (filter-in (boardNumbering c .number (r .target)) (r .starts) (x .0) k (x .1 .started) (x .2)),
   )
 
 -- 20: all K numbers are held exactly where more than K are used

@@ -11,7 +11,7 @@ use Rattle.model.specs.Answer.{result}
 use Rattle.model.specs.Chart.{Chart}
 use Rattle.model.specs.Valid.{Valid}
 use Rattle.model.specs.FirstFit.{board, usedBy, blocked, used}
-use Rattle.model.specs.Rewrite.{Numbering, numbering, rewrittenBy}
+use Rattle.model.specs.Rewrite.{Numbering, rewrittenBy, boardNumbering}
 use Rattle.model.specs.Plan.{Plan}
 use Rattle.model.specs.Judge.{Rewriting, judged, rewriting}
 use Rattle.model.specs.Player.{played}
@@ -34,7 +34,7 @@ rewritten-judged W c N P valid few e =
     })
 
 module _ (W K : ℕ) (c : Chart) (valid : Valid W c) (x : Rewriting) (made : rewriting K c ≡ result x) where
-  plan : Plan c (numbering (board c))
+  plan : Plan c (boardNumbering c)
   plan = board-plan valid (λ i r n u. accepted valid .0 (rewriting-is K c x made .accepted) .no-unstarted-test i
       (record { transition = r; is-nth = n; test = u }))
 
@@ -49,8 +49,8 @@ module _ (W K : ℕ) (c : Chart) (valid : Valid W c) (x : Rewriting) (made : rew
   pub rewriting-judged : judged (x .chart) ≡ result (x .chart)
   rewriting-judged =
       let e = equal-behaviour in
-      let few : numbering (board c) .used ≤ 64 = omega (arith, e .used, e .fits, e .limit) in
-      rw (e .chart) (rewritten-judged W c (numbering (board c)) plan valid few (rewriting-is K c x made .accepted))
+      let few : boardNumbering c .used ≤ 64 = omega (arith, e .used, e .fits, e .limit) in
+      rw (e .chart) (rewritten-judged W c (boardNumbering c) plan valid few (rewriting-is K c x made .accepted))
 
   pub equal-answers : (v w : List ℕ) → CountsAllowed c v → CountsAllowed (x .chart) w → (is ts : List ℕ)
       → played c v is ts ≡ played (x .chart) w is ts

@@ -25,8 +25,7 @@ use Rattle.model.specs.Live.{liveSets, liveRounds, unstartedSets, reache
 use Rattle.model.specs.Run.{Counts, State, EndsAccepting, Point, accepts, waited}
 use Rattle.model.specs.Run.{grown, restarted, allMet, after, enabled, attempt, steps, begin, outcome, everyTime}
 use Rattle.model.specs.Player.{Arrival, stepsOf, arrival, answerOf}
-use Rattle.model.specs.FirstFit.{board}
-use Rattle.model.specs.Rewrite.{Numbering, numbering}
+use Rattle.model.specs.Rewrite.{Numbering, numbering, through, boardNumbering}
 use Rattle.model.specs.Plan.{Has, Plan}
 use Rattle.model.specs.Judge.{judged, rewriting}
 use Rattle.model.specs.Equivalence.{IsRun}
@@ -118,8 +117,8 @@ unfolding B drawn arrow test
 B-valid = omega arith
 
 -- of B they are another plan than first fit's, which uses one number
-pub B-other-plan : Plan B (drawnNumbers B) × (drawnNumbers B ≡ numbering (board B) → ⊥)
-unfolding B drawn drawnNumbers liveNumbers numbering
+pub B-other-plan : Plan B (drawnNumbers B) × (drawnNumbers B ≡ boardNumbering B → ⊥)
+unfolding B drawn drawnNumbers liveNumbers boardNumbering through numbering
 B-other-plan =
     let made = rewriting-is 16 B _ B-rewritten in (
       drawn-numbers-plan B-valid (accepted B-valid .0 (made .accepted)),

@@ -1,4 +1,4 @@
--- The family that is computed of a live pair is its family by chains of transitions: its locations, its number, which one is earlier, and which ones
+-- The family that is computed of a pair is its family by chains of transitions: its locations, its number, which one is earlier, and which ones
 -- meet. Nothing is hard. Assumes nothing.
 use mathlib.Core.Path.{_≡_, refl}
 use mathlib.Core.Logic.{_↔_}
@@ -9,41 +9,51 @@ use Rattle.lists.specs.Lists.{memb}
 use Rattle.lists.proofs.Membership.{any-memb-in, any-memb-out}
 use Rattle.model.specs.Chart.{Chart}
 use Rattle.model.specs.Valid.{Valid}
-use Rattle.model.specs.Path.{Live}
+use Rattle.model.specs.Twins.{TwinLive, lowestTwin}
 use Rattle.model.specs.Family.{livePairs, Family, familyNumber, familyOf, meets}
 use Rattle.model.specs.SharingRule.{SameFamily, FamilyNumber, Earlier, FamiliesMeet}
 use Rattle.model.proofs.Families.{family-timer, family-has, first-least, first-joined}
-use Rattle.model.proofs.LivePairs.{pair-live, live-pairs-formed, joined-iff}
+use Rattle.model.proofs.Twins.{twins-refl, one-lowest, twin-lowest, pair-twin}
+use Rattle.model.proofs.LivePairs.{live-pairs-formed, joined-iff}
 
 -- a family has one number
 pub number-unique : {c : Chart} {q j m n : ℕ} → FamilyNumber c q j m → FamilyNumber c q j n → m ≡ n
-number-unique a b = omega (arith, a .smallest (b .location) (b .same), b .smallest (a .location) (a .same))
+number-unique {j = j} a b = omega (
+  arith,
+  one-lowest (twins-refl j) (a .is-lowest) (b .is-lowest),
+  a .is-its,
+  b .is-its,
+  a .smallest (b .location) (b .same),
+  b .smallest (a .location) (a .same),
+)
 
 -- meeting goes both ways
 pub meet-sym : {c : Chart} {q j s i : ℕ} → FamiliesMeet c q j s i → FamiliesMeet c s i q j
 meet-sym m = record { location = m .location; of-one = m .of-other; of-other = m .of-one }
 
 module _ {W : ℕ} {c : Chart} (valid : Valid W c) where
-  -- the family that is computed of a pair
-  abbrev family : ℕ → ℕ → Family
-  family q j = familyOf (livePairs c) q j
+  -- the family that is computed of a pair: that of its lowest twin
+  abbrev pub family : ℕ → ℕ → Family
+  family q j = familyOf (livePairs c) q (lowestTwin c j)
 
-  pub family-locations : (q j : ℕ) → Live c q j → (s : ℕ) → (memb s (family q j .locations) ≡ true) ↔ SameFamily c j q s
+  pub family-locations : (q j : ℕ) → TwinLive c q j → (s : ℕ) → (memb s (family q j .locations) ≡ true) ↔ SameFamily c j q s
   family-locations q j l s =
-      let has = family-has (live-pairs-formed valid) q j (pair-live valid q j .1 l) s in
+      let has = family-has (live-pairs-formed valid) q (lowestTwin c j) (pair-twin valid q j .1 l) s in
       (λ m. joined-iff valid j q s l .0 (has .0 m), λ a. has .1 (joined-iff valid j q s l .1 a))
 
-  pub family-number : (q j : ℕ) → Live c q j → FamilyNumber c q j (familyNumber (family q j))
+  pub family-number : (q j : ℕ) → TwinLive c q j → FamilyNumber c q j (familyNumber (family q j))
   unfolding familyNumber
-  family-number q j l = let pair = pair-live valid q j .1 l in record {
+  family-number q j l = let m = lowestTwin c j in let pair = pair-twin valid q j .1 l in record {
     location = family q j .first;
-    same = joined-iff valid j q (family q j .first) l .0 (first-joined (live-pairs-formed valid) q j pair);
-    is-its = rw (family-timer (livePairs c) q j) refl;
-    smallest = λ s a. rw (family-timer (livePairs c) q j)
-        (omega (arith, first-least (live-pairs-formed valid) q j pair s (joined-iff valid j q s l .1 a)));
+    lowest = m;
+    same = joined-iff valid j q (family q j .first) l .0 (first-joined (live-pairs-formed valid) q m pair);
+    is-lowest = twin-lowest valid l;
+    is-its = rw (family-timer (livePairs c) q m) refl;
+    smallest = λ s a. rw (family-timer (livePairs c) q m)
+        (omega (arith, first-least (live-pairs-formed valid) q m pair s (joined-iff valid j q s l .1 a)));
   }
 
-  module _ (q j s i : ℕ) (l : Live c q j) (l′ : Live c s i) where
+  module _ (q j s i : ℕ) (l : TwinLive c q j) (l′ : TwinLive c s i) where
     pub earlier-iff : (familyNumber (family q j) < familyNumber (family s i)) ↔ Earlier c q j s i
     earlier-iff = (
       λ h. record {

@@ -10,82 +10,96 @@ use native.Mathlib.Omega.{arith}
 use Rattle.lists.proofs.Bools.{lt-or-le}
 use Rattle.model.specs.Chart.{Chart}
 use Rattle.model.specs.Valid.{Valid}
+use Rattle.model.specs.Twins.{TwinLive, lowestTwin}
 use Rattle.model.specs.Family.{Pairs, livePairs, WellFormed}
 use Rattle.model.specs.FirstFit.{firstFit, numberAt, blocked, board, used}
 use Rattle.model.specs.Placing.{PairNumber}
-use Rattle.model.specs.Rewrite.{numbering}
+use Rattle.model.specs.Rewrite.{Numbering, boardNumbering}
+use Rattle.model.specs.Plan.{Has}
 use Rattle.model.specs.SharingRule.{HeldEarlier, SharingRule, AllNumbersHeld}
-use Rattle.model.proofs.NumberAt.{number-below}
-use Rattle.model.proofs.PairNumbers.{first-fit-fitted, placed-family, has-first, number-pair, joined-same}
-use Rattle.model.proofs.PlacedOnce.{first-fit-falling, placed-number}
+use Rattle.model.proofs.PairNumbers.{first-fit-fitted, number-pair, joined-same}
+use Rattle.model.proofs.PlacedOnce.{first-fit-falling}
 use Rattle.model.proofs.EarlierFamilies.{HeldLower, lower-free, lower-holds}
-use Rattle.model.proofs.LivePairs.{pair-live, live-pairs-formed, joined-iff}
+use Rattle.model.proofs.Twins.{live-itself, same-lowest, pair-twin}
+use Rattle.model.proofs.LivePairs.{live-pairs-formed, joined-iff}
 use Rattle.model.proofs.FamilyNumbers.{meet-sym, earlier-iff, meets-iff}
-use Rattle.model.proofs.BoardPlan.{number-live, live-number, board-blocked}
-use Rattle.model.proofs.UsedNumbers.{used-reached}
+use Rattle.model.proofs.BoardPlan.{number-iff, number-live, live-number, number-under, board-blocked, board-used}
+use Rattle.model.proofs.UsedNumbers.{family-timer-live, used-reached}
 
 module _ {W : ℕ} {c : Chart} (valid : Valid W c) where
   abbrev pairs : Pairs
   pairs = livePairs c
 
+  abbrev N : Numbering
+  N = boardNumbering c
+
   formed : WellFormed pairs
   formed = live-pairs-formed valid
 
-  not-held : (q j k : ℕ) → numberAt (firstFit pairs) q j ≡ some k → HeldEarlier c (numbering (firstFit pairs)) q j k → ⊥
-  unfolding numbering
+  -- a timer's number is that of its family
+  number-of : (q j k : ℕ) → Has N q j k → PairNumber pairs q (lowestTwin c j) k
+  unfolding board
+  number-of q j k e = number-pair formed q (lowestTwin c j) k (number-iff valid q j k .0 e .1)
+
+  pair : (q j k : ℕ) → Has N q j k → TwinLive c q j
+  pair q j k e = live-itself (number-live valid q j k e)
+
+  not-held : (q j k : ℕ) → Has N q j k → HeldEarlier c N q j k → ⊥
   not-held q j k e h =
-      let a = number-pair formed q j k e in
-      let b = number-pair formed (h .location) (h .timer) k (h .number) in
-      let l = pair-live valid q j .0 (a .pair) in
-      let l′ = pair-live valid (h .location) (h .timer) .0 (b .pair) in
+      let a = number-of q j k e in
+      let b = number-of (h .location) (h .timer) k (h .number) in
+      let l = pair q j k e in
+      let l′ = pair (h .location) (h .timer) k (h .number) in
       lower-free _ (firstFit pairs) (first-fit-falling formed) (first-fit-fitted pairs) (a .place) (b .place) (a .is-nth) (b .is-nth)
       (rw (a .family, b .family) (earlier-iff valid (h .location) (h .timer) q j l′ l .1 (h .earlier)))
       (rw (a .family, b .family) (meets-iff valid q j (h .location) (h .timer) l l′ .1 (meet-sym (h .meet))))
       (b .number ∙ sym (a .number))
 
-  smaller-held : (q j k m : ℕ) → numberAt (firstFit pairs) q j ≡ some k → m < k → HeldEarlier c (numbering (firstFit pairs)) q j m
-  unfolding numbering
-  smaller-held q j k m e l = let a = number-pair formed q j k e in go a (lower-holds _ (firstFit pairs) (first-fit-falling formed)
+  smaller-held : (q j k m : ℕ) → Has N q j k → m < k → HeldEarlier c N q j m
+  smaller-held q j k m e l = let a = number-of q j k e in go a (lower-holds _ (firstFit pairs) (first-fit-falling formed)
       (first-fit-fitted pairs) (a .place) (a .is-nth) m (rw (sym (a .number)) at l))
     where
-      go : (a : PairNumber pairs q j k) → HeldLower (firstFit pairs) (a .placed) m → HeldEarlier c (numbering (firstFit pairs)) q j m
+      go : (a : PairNumber pairs q (lowestTwin c j) k) → HeldLower (firstFit pairs) (a .placed) m → HeldEarlier c N q j m
       go a x =
           let b = x .by in
           let f = b .holder .family in
-          let o = placed-family formed (b .place) (b .holder) (b .is-nth) in
-          let l = pair-live valid q j .0 (a .pair) in
-          let l′ = pair-live valid (f .first) (f .timer) .0 (o .pair) in
+          let o = family-timer-live valid (b .place) (b .holder) (b .is-nth) in
+          let l = pair q j k e in
+          let l′ = live-itself (o .live) in
           record {
             location = f .first;
-            timer = f .timer;
-            earlier = earlier-iff valid (f .first) (f .timer) q j l′ l .0 (rw (← o .whole, ← a .family) (x .lower));
-            meet = meet-sym (meets-iff valid q j (f .first) (f .timer) l l′ .0 (rw (← o .whole, ← a .family) (b .met)));
-            number =
-                placed-number formed (f .first) (f .timer) (b .place) (b .holder) (b .is-nth) (has-first formed f o)
-                ∙ ap (λ (n : ℕ). some n) (b .number);
+            timer = o .timer;
+            earlier = earlier-iff valid (f .first) (o .timer) q j l′ l .0 (rw (← o .whole, ← a .family) (x .lower));
+            meet = meet-sym (meets-iff valid q j (f .first) (o .timer) l l′ .0 (rw (← o .whole, ← a .family) (b .met)));
+            number = o .number ∙ ap (λ (n : ℕ). some n) (b .number);
           }
 
-  pub first-fit-shares : SharingRule c (numbering (board c))
-  unfolding numbering board
+  pub first-fit-shares : SharingRule c N
+  unfolding board
   first-fit-shares = record {
     numbered = live-number valid;
     live = number-live valid;
-    one-number = λ q s j k a e. sym (joined-same formed (pair-live valid q j .1 (a .pair)) (joined-iff valid j q s (a .pair) .1 a)) ∙ e;
+    one-number = λ q s j i k a t l e. number-iff valid s i k .1 (
+      l,
+      ap (numberAt (board c) s) (sym (same-lowest c t))
+          ∙ sym (joined-same formed (pair-twin valid q j .1 (a .pair)) (joined-iff valid j q s (a .pair) .1 a))
+          ∙ number-iff valid q j k .0 e .1,
+    );
     free = not-held;
     smaller-held = smaller-held;
-    used-above = number-below (board c);
+    used-above = number-under valid;
     used-reached = used-reached valid;
   }
 
   -- 20 in the words of the rule
-  pub blocked-iff-held : (K : ℕ) → (blocked K (board c) ≡ true) ↔ AllNumbersHeld K c (numbering (board c))
-  unfolding used numbering
+  pub blocked-iff-held : (K : ℕ) → (blocked K (board c) ≡ true) ↔ AllNumbersHeld K c N
+  unfolding used
   blocked-iff-held K = (λ h. all-held (used c) refl (board-blocked K c .0 h), λ h. board-blocked K c .1 (over h))
     where
-      all-held : (u : ℕ) → used c ≡ u → K < used c → AllNumbersHeld K c (numbering (board c))
+      all-held : (u : ℕ) → used c ≡ u → K < used c → AllNumbersHeld K c N
       all-held zero e h = absurd (omega arith)
       all-held (suc u) e h =
-          let x = first-fit-shares .used-reached u e in
+          let x = first-fit-shares .used-reached u (board-used c ∙ e) in
           record {
             location = x .0;
             timer = x .1;
@@ -93,11 +107,11 @@ module _ {W : ℕ} {c : Chart} (valid : Valid W c) where
             held = λ k l. first-fit-shares .smaller-held (x .0) (x .1) u k (x .2) (omega arith);
           }
 
-      over : AllNumbersHeld K c (numbering (board c)) → K < used c
+      over : AllNumbersHeld K c N → K < used c
       over h =
           let x = first-fit-shares .numbered (h .location) (h .timer) (h .pair) in
           let b = first-fit-shares .used-above (h .location) (h .timer) (x .0) (x .1) in
           ⊎-elim
           (λ l. absurd (first-fit-shares .free (h .location) (h .timer) (x .0) (x .1) (h .held (x .0) l)))
-          (λ l. omega arith)
+          (λ l. omega (arith, board-used c))
           (lt-or-le (x .0) K)

@@ -8,6 +8,7 @@ pub mod Rounds
 pub mod RoundsBound
 pub mod Settled
 pub mod LivePaths
+pub mod Twins
 pub mod LiveRounds
 pub mod AnyOrder
 pub mod Forward

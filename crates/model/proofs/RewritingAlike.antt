@@ -10,7 +10,7 @@ use borrow.Author.Tests.{leb-true, not-true}
 use Rattle.model.specs.Answer.{Answer, result, refused, then, unless, nowhere}
 use Rattle.model.specs.Chart.{Chart}
 use Rattle.model.specs.FirstFit.{board, usedBy, blocked}
-use Rattle.model.specs.Rewrite.{numbering, rewrittenBy}
+use Rattle.model.specs.Rewrite.{numbering, through, boardNumbering, rewrittenBy}
 use Rattle.model.specs.Plan.{Plan}
 use Rattle.model.specs.Judge.{Rewriting, judged, fitted, rewriting}
 use Rattle.model.specs.Player.{played}
@@ -38,27 +38,27 @@ rewriting-is K c x e =
     }
   where
     made : Rewriting
-    made = record { used = usedBy (board c); chart = rewrittenBy (numbering (board c)) c }
+    made = record { used = usedBy (board c); chart = rewrittenBy (boardNumbering c) c }
 
     go : (y : Answer Chart) → judged c ≡ y → then y (fitted K) ≡ result x → judged c ≡ result c
     go (result d) h p = judged-is c h
     go (refused n p) h q = absurd (not-result q)
 
 -- with first fit's numbers a plan, and 20 given wherever more than K are used
-module _ (K : ℕ) (c : Chart) (plan : Plan c (numbering (board c))) (fits-unblocked : blocked K (board c) ≡ false → usedBy (board c) ≤ K)
+module _ (K : ℕ) (c : Chart) (plan : Plan c (boardNumbering c)) (fits-unblocked : blocked K (board c) ≡ false → usedBy (board c) ≤ K)
     (x : Rewriting) (made : rewriting K c ≡ result x) where
   pub rewriting-alike : RewritingAlike K c x
-  unfolding numbering
+  unfolding boardNumbering through numbering
   rewriting-alike =
       let y = rewriting-is K c x made in
       let fits : usedBy (board c) ≤ K = fits-unblocked (y .unblocked) in
       record {
         chart = y .chart;
-        alike = rw (y .chart) (plan-alike c (numbering (board c)) plan);
+        alike = rw (y .chart) (plan-alike c (boardNumbering c) plan);
         used = y .used;
         fits = rw (y .used) fits;
         limit = y .limit;
-        storable = λ s. rw (y .chart) (rewritten-storable c (numbering (board c)) plan s (omega (arith, y .limit)));
+        storable = λ s. rw (y .chart) (rewritten-storable c (boardNumbering c) plan s (omega (arith, y .limit)));
       }
 
   -- the player, from counts that 12 allows for each, gives one answer

@@ -102,6 +102,22 @@ unfoldable pub lone : (families : ℕ) → Chart
 lone n = drawn (suc (suc n)) (suc n) 1
     (arrow 0 1 (0 ∷ []) [] ∷ upTo (λ i. arrow (suc i) (suc (suc i)) (0 ∷ []) (test 0 AtLeast 0 ∷ [])) n)
 
+-- timers 0 and 1 are twins
+unfoldable pub startedTogether : Chart
+startedTogether = drawn 4 3 2 (
+    arrow 0 1 (0 ∷ 1 ∷ []) []
+    ∷ arrow 1 2 [] (test 0 AtLeast 2 ∷ [])
+    ∷ arrow 2 3 [] (test 1 AtMost 9 ∷ [])
+    ∷ [])
+
+-- timers 0 and 2 are twins, and timer 0 is tested nowhere
+unfoldable pub lowestUntested : Chart
+lowestUntested = drawn 4 3 3 (
+    arrow 0 2 (0 ∷ 2 ∷ []) []
+    ∷ arrow 2 1 (1 ∷ []) []
+    ∷ arrow 1 3 [] (test 1 AtMost 4 ∷ test 2 AtMost 4 ∷ [])
+    ∷ [])
+
 -- B rewritten: transition 1 tests board timer 0 and then starts it
 unfoldable pub B′ : Chart
 B′ = drawn 4 3 1 (
@@ -118,6 +134,14 @@ C′ = drawn 6 5 2 (
     ∷ arrow 2 3 [] (test 1 AtLeast 1 ∷ [])
     ∷ arrow 3 4 (0 ∷ []) (test 0 AtMost 9 ∷ [])
     ∷ arrow 4 5 [] (test 0 AtLeast 2 ∷ [])
+    ∷ [])
+
+-- the chart with twins rewritten: both read board timer 0, which is started once
+unfoldable pub startedTogether′ : Chart
+startedTogether′ = drawn 4 3 1 (
+    arrow 0 1 (0 ∷ []) []
+    ∷ arrow 1 2 [] (test 0 AtLeast 2 ∷ [])
+    ∷ arrow 2 3 [] (test 0 AtMost 9 ∷ [])
     ∷ [])
 
 -- the self-loop rewritten: nothing is live, so nothing is started
@@ -199,8 +223,9 @@ starred =
 
 -- what "goes wrong unnoticed", beside the cases above: a timer started anew begins a family of its own; a start on the same transition does not
 -- come before its test, neither where it is judged nor where it is played; an event is kept, which is 0 in all charts above; and, by document 02,
--- first fit's used is not the floor, a constant over 65,535 is kept and compared as it is, the last round is counted, and a round reads only the
--- round before: sweeps in place over A, written last to first, would be 2
+-- first fit's used is not the floor, a constant over 65,535 is kept and compared as it is, the last round is counted, a round reads only the round
+-- before (sweeps in place over A, written last to first, would be 2), twins share a number that is started once, and the lowest twin names the family
+-- though it is live nowhere
 unfoldable pub unnoticed : List Case
 unnoticed =
     case (numbers restart) (given ((64, 0) ∷ (128, 0) ∷ []) 1 1)
@@ -219,4 +244,8 @@ unnoticed =
     ∷ case (round-count C) (count 4)
     ∷ case (round-count selfLoop) (count 1)
     ∷ case (round-count (lastToFirst A)) (count 3)
+    ∷ case (numbers startedTogether) (given ((64, 0) ∷ []) 1 1)
+    ∷ case (rewrite startedTogether 1) (rewriting-is (result (record { used = 1; chart = startedTogether′ })))
+    ∷ case (rewrite startedTogether 0) (rewriting-is (refused 20 nowhere))
+    ∷ case (numbers lowestUntested) (given ((64, 0) ∷ (65, 1) ∷ []) 2 2)
     ∷ []

@@ -1,4 +1,5 @@
--- Families (document 01, "Live, born, family, board number"), over any pairs and links. Assumes nothing.
+-- Families (document 01, "Live, born, family, board number"), over any pairs and links; those of a chart are formed with twins counted
+-- as one timer (document 02, P6). Assumes nothing.
 use mathlib.Core.Path.{_≡_}
 use mathlib.Core.Bool.{Bool, true, false, _&&_}
 use mathlib.Core.List.{List, [], _∷_, _++_, map}
@@ -11,7 +12,8 @@ use Rattle.lists.specs.Lists.{anyOf, memb, lowest, gather, pick}
 use Rattle.model.specs.Chart.{Transition, Chart}
 use Rattle.model.specs.Chain.{Chain, Between}
 use Rattle.model.specs.Flow.{Flow, settled}
-use Rattle.model.specs.Live.{startsSet, liveSets}
+use Rattle.model.specs.Live.{startsSet}
+use Rattle.model.specs.Twins.{mergedSets}
 
 -- the pairs (one, j) and (other, j) are linked for each timer j of the set
 pub record Link : Type 0 where
@@ -38,14 +40,18 @@ linkOf live r = record {
   timers = minus (common (getD live (r .source) 0) (getD live (r .target) 0)) (startsSet r);
 }
 
--- the pairs of a chart: the live timers of each location, linked by its transitions
-unfoldable pub livePairs : Chart → Pairs
-livePairs c = let live = liveSets c in record {
+-- the pairs of a chart with these timers live at its locations, linked by its transitions
+abbrev pub pairsWith : Chart → (live : List ℕ) → Pairs
+pairsWith c live = record {
   locations = c .locations;
   timers = c .timers;
   sets = live;
   links = map (linkOf live) (c .transitions);
 }
+
+-- the pairs of a chart: the live timers of each location, twins counted as one (document 02, P6)
+unfoldable pub livePairs : Chart → Pairs
+livePairs c = let live = mergedSets c in pairsWith c live
 
 -- ---- pairs that are well formed: their locations and timers are in range, and so are the links
 

@@ -8,7 +8,7 @@ use Rattle.model.specs.Answer.{Answer, result, then, unless, nowhere}
 use Rattle.model.specs.Chart.{Chart}
 use Rattle.model.specs.Live.{firstUnreached, firstUnstarted}
 use Rattle.model.specs.FirstFit.{board, usedBy, blocked}
-use Rattle.model.specs.Rewrite.{numbering, rewrittenBy}
+use Rattle.model.specs.Rewrite.{rewrittenBy, boardNumbering}
 
 -- 9 at the lowest location that no path reaches; then 10 at the lowest transition with an unstarted test
 unfoldable pub judged : Chart → Answer Chart
@@ -30,7 +30,7 @@ fitted K c =
     let placed = board c in
     unless (leb K 64) 11 nowhere (
     unless (not (blocked K placed)) 20 nowhere (
-    result (record { used = usedBy placed; chart = rewrittenBy (numbering placed) c })))
+    result (record { used = usedBy placed; chart = rewrittenBy (boardNumbering c) c })))
 
 -- the judgement first, then the fitting
 unfoldable pub rewriting : (K : ℕ) → Chart → Answer Rewriting

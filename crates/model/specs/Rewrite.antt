@@ -8,6 +8,8 @@ use lib.ListN.{getD}
 use Rattle.timer_set.specs.Members.{member}
 use Rattle.lists.specs.Lists.{memb, pick}
 use Rattle.model.specs.Chart.{Test, Transition, Chart, tested}
+use Rattle.model.specs.Live.{liveSets}
+use Rattle.model.specs.Twins.{lowestTwin}
 use Rattle.model.specs.FirstFit.{Placed, numberAt, usedBy, board}
 
 -- a board number for each timer that is live at a location, none for the others, and how many numbers are used
@@ -25,6 +27,10 @@ through sets f N = record {
   number = λ q j. elim (member (getD sets q 0) j) [ true ↦ N .number q (f j) | false ↦ none ];
   used = N .used;
 }
+
+-- the board numbers of a chart: each live timer has that of its lowest twin
+unfoldable pub boardNumbering : Chart → Numbering
+boardNumbering c = through (liveSets c) (lowestTwin c) (numbering (board c))
 
 -- a test reads the number that its timer has at q
 unfoldable pub renamed : Test → Option ℕ → Option Test
@@ -62,7 +68,7 @@ rewrittenBy N c = record {
 
 -- the rewritten chart: by the board numbers of first fit
 unfoldable pub rewritten : Chart → Chart
-rewritten c = let N = numbering (board c) in rewrittenBy N c
+rewritten c = let N = boardNumbering c in rewrittenBy N c
 
 -- the timers that the transition names are below the limit
 pub record NamesBelow (limit : ℕ) (r : Transition) : Type 0 where

@@ -1,8 +1,8 @@
--- The rule by which drawn timers share board timers (document 01, "Live, born, family, board number"), in the words of paths and transitions
--- alone. That first fit keeps it, and that no other numbering does, is shown in proofs/.
+-- The rule by which drawn timers share board timers (document 01, "Live, born, family, board number"; document 02, P6), in the words of paths and
+-- transitions alone. That first fit keeps it, and that no other numbering does, is shown in proofs/.
 --
--- A pair is written by its location, then its timer: q j. Links and families join pairs of one timer: they relate two locations, j q s. What is said
--- of two families takes a pair of the one, then a pair of the other, q j s i, and reads in that order. Assumes nothing.
+-- A pair is written by its location, then its timer: q j. Links and families join pairs of one timer, which stands for all its twins: they relate two
+-- locations, j q s. What is said of two families takes a pair of the one, then a pair of the other, q j s i, and reads in that order. Assumes nothing.
 use mathlib.Core.Path.{_≡_}
 use mathlib.Core.Bool.{false}
 use mathlib.Core.List.{List}
@@ -10,33 +10,36 @@ use Prim.Native.Nat.{ℕ, suc, _+_, _*_, _≤_, _<_}
 use Rattle.lists.specs.Lists.{memb}
 use Rattle.model.specs.Chart.{Transition, Chart, Nth}
 use Rattle.model.specs.Path.{Live}
+use Rattle.model.specs.Twins.{Twins, LowestTwin, TwinLive}
 use Rattle.model.specs.Chain.{Chain, Between}
 use Rattle.model.specs.Rewrite.{Numbering}
 use Rattle.model.specs.Plan.{Has}
 
--- A pair is a location with a timer that is live there. The pairs (q, j) and (s, j) are linked when a transition that does not start j runs from
--- one's location to the other's.
+-- A pair is a location with a timer of which a twin is live there. The pairs (q, j) and (s, j) are linked when a transition that does not start j
+-- runs from one's location to the other's.
 pub record LiveLink (c : Chart) (j q s : ℕ) : Type 0 where
   pub number : ℕ
   pub transition : Transition
   pub is-nth : Nth c number transition
   pub not-started : memb j (transition .starts) ≡ false
   pub ends : Between (transition .source) (transition .target) q s
-  pub live-one : Live c q j
-  pub live-other : Live c s j
+  pub live-one : TwinLive c q j
+  pub live-other : TwinLive c s j
 
 -- (s, j) is of the family of the pair (q, j): a chain of links joins them, over the locations of the way
 pub record SameFamily (c : Chart) (j q s : ℕ) : Type 0 where
-  pub pair : Live c q j
+  pub pair : TwinLive c q j
   pub way : List ℕ
   pub chain : Chain (LiveLink c j) q way s
 
--- n is the number of the family of (q, j): the smallest 64 times location plus timer among its pairs
+-- n is the number of the family of (q, j): the smallest 64 times location plus timer among its pairs, the timer being the lowest twin
 pub record FamilyNumber (c : Chart) (q j n : ℕ) : Type 0 where
   pub location : ℕ
+  pub lowest : ℕ
   pub same : SameFamily c j q location
-  pub is-its : n ≡ 64 * location + j
-  pub smallest : (s : ℕ) → SameFamily c j q s → n ≤ 64 * s + j
+  pub is-lowest : LowestTwin c j lowest
+  pub is-its : n ≡ 64 * location + lowest
+  pub smallest : (s : ℕ) → SameFamily c j q s → n ≤ 64 * s + lowest
 
 -- the family of (q, j) comes before that of (s, i): it has the lower number
 pub record Earlier (c : Chart) (q j s i : ℕ) : Type 0 where
@@ -62,12 +65,12 @@ pub record HeldEarlier (c : Chart) (N : Numbering) (q j k : ℕ) : Type 0 where
 
 -- the rule: N numbers the pairs as document 01 says
 pub record SharingRule (c : Chart) (N : Numbering) : Type 0 where
-  -- every pair has a number
+  -- every timer has a number where it is live
   pub numbered : (q j : ℕ) → Live c q j → (k : ℕ) × Has N q j k
-  -- and nothing else has one
+  -- and nowhere else
   pub live : (q j k : ℕ) → Has N q j k → Live c q j
-  -- the pairs of a family have one number
-  pub one-number : (q s j k : ℕ) → SameFamily c j q s → Has N q j k → Has N s j k
+  -- the pairs of a family, twins' pairs among them, have one number
+  pub one-number : (q s j i k : ℕ) → SameFamily c j q s → Twins c j i → Live c s i → Has N q j k → Has N s i k
   -- no earlier family that the pair's family meets holds its number
   pub free : (q j k : ℕ) → Has N q j k → HeldEarlier c N q j k → ⊥
   -- and each smaller number is held by such a one

@@ -11,9 +11,9 @@ use Rattle.model.specs.Chart.{Transition, Chart, Nth}
 use Rattle.model.specs.Path.{Live}
 use Rattle.model.specs.Live.{startsSet, liveSets}
 
--- every transition starts both or neither
-abbrev pub Twins : Chart → (j k : ℕ) → Type 0
-Twins c j k = (i : ℕ) (r : Transition) → Nth c i r → memb j (r .starts) ≡ memb k (r .starts)
+-- j and k are twins: every transition starts both or neither
+pub record Twins (c : Chart) (j k : ℕ) : Type 0 where
+  pub together : (i : ℕ) (r : Transition) → Nth c i r → memb j (r .starts) ≡ memb k (r .starts)
 
 -- m is the lowest twin of j; it need not be live or tested anywhere
 pub record LowestTwin (c : Chart) (j m : ℕ) : Type 0 where

@@ -7,8 +7,8 @@ use lib.ListN.{length, take}
 use Rattle.model.specs.Chart.{Chart}
 use Rattle.model.specs.Live.{liveSets, liveRounds}
 use Rattle.model.specs.Family.{families, livePairs}
-use Rattle.model.specs.FirstFit.{board, used}
-use Rattle.model.specs.Rewrite.{numbering}
+use Rattle.model.specs.FirstFit.{used}
+use Rattle.model.specs.Rewrite.{boardNumbering}
 use Rattle.chart_lists.specs.Begins.{Begins}
 use Rattle.allocation.specs.Cells.{cellsOf}
 use Rattle.allocation.specs.FamiliesAt.{FamiliesAt}
@@ -17,7 +17,7 @@ use Rattle.numbering.specs.declared.Numbered.{Numbered}
 -- the lists begin with those of the chart, and the answer's values are the chart's
 pub record ChartNumbered (c : Chart) (live cells at : List ℕ) (r : Numbered) : Type 0 where
   pub live-are : Begins (liveSets c) live
-  pub cells-are : Begins (cellsOf (numbering (board c)) (c .locations)) cells
+  pub cells-are : Begins (cellsOf (boardNumbering c) (c .locations)) cells
   pub used-is : r .used ≡ used c
   pub families-is : r .families ≡ length (families (livePairs c))
   pub rounds-is : r .rounds ≡ liveRounds c

@@ -6,9 +6,9 @@ use Rattle.model.specs.Answer.{Answer, result, then}
 use Rattle.model.specs.Chart.{Chart}
 use Rattle.model.specs.Valid.{Valid}
 use Rattle.model.specs.Live.{liveSets, liveRounds}
-use Rattle.model.specs.FirstFit.{board, used}
+use Rattle.model.specs.FirstFit.{used}
 use Rattle.model.specs.Floor.{floor, searched}
-use Rattle.model.specs.Rewrite.{numbering}
+use Rattle.model.specs.Rewrite.{boardNumbering}
 use Rattle.refusal.specs.Refused.{refusedAs}
 use Rattle.chart_lists.specs.Header.{headerOf}
 use Rattle.chart_lists.specs.declared.Header.{Header}
@@ -44,4 +44,4 @@ pub record ListsNumbered (c : Chart) (live cells : List ℕ) : Type 0 where
   pub width : ℕ
   pub valid : Valid width c
   pub live-are : Begins (liveSets c) live
-  pub cells-are : Begins (cellsOf (numbering (board c)) (c .locations)) cells
+  pub cells-are : Begins (cellsOf (boardNumbering c) (c .locations)) cells

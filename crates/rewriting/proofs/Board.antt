@@ -6,8 +6,8 @@ use native.Mathlib.Omega.{arith}
 use Rattle.model.specs.Answer.{result}
 use Rattle.model.specs.Chart.{Transition, Chart, Nth}
 use Rattle.model.specs.Valid.{Valid, Storable}
-use Rattle.model.specs.FirstFit.{board, used}
-use Rattle.model.specs.Rewrite.{numbering, rewrittenBy}
+use Rattle.model.specs.FirstFit.{used}
+use Rattle.model.specs.Rewrite.{numbering, rewrittenBy, boardNumbering}
 use Rattle.model.specs.Plan.{Plan, Numbered}
 use Rattle.model.specs.Judge.{judged}
 use Rattle.model.proofs.Paths.{live-here}
@@ -19,24 +19,24 @@ use Rattle.numbering.specs.declared.Numbered.{Numbered as Count}
 use Rattle.numbering.specs.ChartNumbered.{ChartNumbered}
 
 -- every timer that is tested has a number where it is tested
-pub tests-numbered : {W : ℕ} {c : Chart} → Valid W c → (i : ℕ) (r : Transition) → Nth c i r → Numbered (numbering (board c)) (r .source) (r .tests)
+pub tests-numbered : {W : ℕ} {c : Chart} → Valid W c → (i : ℕ) (r : Transition) → Nth c i r → Numbered (boardNumbering c) (r .source) (r .tests)
 unfolding numbering
 tests-numbered valid i r n j t =
     live-number valid (r .source) j (live-here (record { number = i; transition = r; is-nth = n; leaves = refl; tests-it = t }))
 
 module _ {c : Chart} (storable : Storable c) (e : judged c ≡ result c) where
-  pub judged-plan : Plan c (numbering (board c))
+  pub judged-plan : Plan c (boardNumbering c)
   judged-plan = let valid = storable .valid in
       board-plan valid (λ i r n u. accepted valid .0 e .no-unstarted-test i (record { transition = r; is-nth = n; test = u }))
 
   module _ {live cells at : List ℕ} {r : Count} (x : ChartNumbered c live cells at r) where
-    pub board-used : r .used ≡ numbering (board c) .used
+    pub board-used : r .used ≡ boardNumbering c .used
     unfolding used numbering
     board-used = x .used-is
 
     -- where the numbers fit a board
     module _ (few : r .used ≤ 64) where
-      pub board-cells : CellsOf c (numbering (board c)) cells
+      pub board-cells : CellsOf c (boardNumbering c) cells
       board-cells = record {
         cells-are = x .cells-are;
         few = omega (arith, board-used, few);
@@ -44,5 +44,5 @@ module _ {c : Chart} (storable : Storable c) (e : judged c ≡ result c) where
         numbered = tests-numbered (storable .valid);
       }
 
-      pub board-storable : Storable (rewrittenBy (numbering (board c)) c)
-      board-storable = rewritten-storable c (numbering (board c)) judged-plan storable (omega (arith, board-used, few))
+      pub board-storable : Storable (rewrittenBy (boardNumbering c) c)
+      board-storable = rewritten-storable c (boardNumbering c) judged-plan storable (omega (arith, board-used, few))

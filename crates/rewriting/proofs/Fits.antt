@@ -8,8 +8,7 @@ use lib.ListN.{length}
 use Rattle.model.specs.Answer.{result, nowhere}
 use Rattle.model.specs.Version.{widthOf}
 use Rattle.model.specs.Valid.{Storable}
-use Rattle.model.specs.FirstFit.{board}
-use Rattle.model.specs.Rewrite.{numbering}
+use Rattle.model.specs.Rewrite.{numbering, boardNumbering}
 use Rattle.model.specs.Judge.{Rewriting, rewriting}
 use Rattle.model.proofs.RewrittenValid.{names-below}
 use Rattle.model.proofs.RewritingAlike.{rewriting-is}
@@ -42,7 +41,7 @@ module _ {K : ℕ} {bs : List ℕ} (bytes : Bytes bs) {x : Rewriting} (o : Rewri
       let plan = judged-plan storable-chart (rewriting-is K c x (o .made) .accepted) in
       let s = b .storable storable-chart in
       record {
-        names-below = rw (b .chart, b .used) (names-below c (numbering (board c)) plan);
+        names-below = rw (b .chart, b .used) (names-below c (boardNumbering c) plan);
         fits = b .fits;
         limit = b .limit;
         storable = s;

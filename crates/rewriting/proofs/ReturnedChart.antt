@@ -16,8 +16,8 @@ use Rattle.lists.proofs.Nth.{place-by-place-cons, place-by-place-map, place-by-
 use Rattle.model.specs.Answer.{result}
 use Rattle.model.specs.Chart.{Test, Transition, Chart, Nth}
 use Rattle.model.specs.Valid.{Valid}
-use Rattle.model.specs.FirstFit.{board, used}
-use Rattle.model.specs.Rewrite.{numbering, newTests, newStarts, newTransition, rewrittenBy, rewritten}
+use Rattle.model.specs.FirstFit.{used}
+use Rattle.model.specs.Rewrite.{numbering, newTests, newStarts, newTransition, rewrittenBy, rewritten, boardNumbering}
 use Rattle.model.specs.Plan.{Numbered}
 use Rattle.model.specs.Returned.{NotRefused}
 use Rattle.model.specs.Judge.{Rewriting, rewriting}
@@ -35,16 +35,16 @@ use Rattle.rewriting.proofs.Board.{tests-numbered}
 use Rattle.rewriting.proofs.Fits.{rewriting-of}
 
 module _ (c : Chart) where
-  tests-rewritten : (q : ℕ) (ts : List Test) → Numbered (numbering (board c)) q ts
-      → PlaceByPlace (RewrittenTest c q) ts (newTests (numbering (board c)) q ts)
+  tests-rewritten : (q : ℕ) (ts : List Test) → Numbered (boardNumbering c) q ts
+      → PlaceByPlace (RewrittenTest c q) ts (newTests (boardNumbering c) q ts)
   unfolding newTests filterMap numbering
   tests-rewritten q [] h = record { same-length = refl; related = λ k x y e f. absurd (Option·none-ne-some _ e) }
   tests-rewritten q (t ∷ ts) h =
       let a = h (t .timer) (tested-head t ts) in
-      rw (tests-some (numbering (board c)) q t ts (a .1))
+      rw (tests-some (boardNumbering c) q t ts (a .1))
       (place-by-place-cons (record { timer = a .1; comparison = refl; constant = refl }) (tests-rewritten q ts (λ j m. h j (tested-tail j t ts m))))
 
-  transition-rewritten : {W : ℕ} → Valid W c → (i : ℕ) (r : Transition) → Nth c i r → RewrittenTransition c r (newTransition (numbering (board c)) r)
+  transition-rewritten : {W : ℕ} → Valid W c → (i : ℕ) (r : Transition) → Nth c i r → RewrittenTransition c r (newTransition (boardNumbering c) r)
   unfolding newTransition
   transition-rewritten valid i r n = record {
     source = refl;
@@ -55,7 +55,7 @@ module _ (c : Chart) where
   }
 
   transitions-rewritten : {W : ℕ} → Valid W c
-      → PlaceByPlace (RewrittenTransition c) (c .transitions) (map (newTransition (numbering (board c))) (c .transitions))
+      → PlaceByPlace (RewrittenTransition c) (c .transitions) (map (newTransition (boardNumbering c)) (c .transitions))
   transitions-rewritten valid = place-by-place-map _ (c .transitions) (λ i r e. transition-rewritten valid i r (record { there = e }))
 
   chart-rewritten : {W K : ℕ} {x : Rewriting} → Valid W c → NotRefused K c x → RewrittenChart c x
@@ -90,7 +90,7 @@ module _ (c : Chart) where
     tests = place-by-place-only (r .tests) (u .tests) (v .tests) (a .tests) (b .tests) (λ k t x y e f. test-only) i;
   }
 
-  new-rising : (r : Transition) → Rising (used c) 0 (newTransition (numbering (board c)) r .starts)
+  new-rising : (r : Transition) → Rising (used c) 0 (newTransition (boardNumbering c) r .starts)
   unfolding newTransition newStarts numbering used
   new-rising r = pick-rising _ (used c)
 
@@ -107,10 +107,10 @@ module _ (c : Chart) where
   }
     where
       same : (k : ℕ) (r u v : Transition) → getElem? (x .chart .transitions) k ≡ some u
-          → getElem? (map (newTransition (numbering (board c))) (c .transitions)) k ≡ some v
+          → getElem? (map (newTransition (boardNumbering c)) (c .transitions)) k ≡ some v
           → RewrittenTransition c r u → RewrittenTransition c r v → u ≡ v
       same k r u v e f a b =
-          let o = nth-unmap (newTransition (numbering (board c))) (c .transitions) k f in
+          let o = nth-unmap (newTransition (boardNumbering c)) (c .transitions) k f in
           transition-only (x .chart .timers) (used c) a b (nth-valid valid′ (record { there = e }) .starts)
           (subst (λ (y : Transition). Rising (used c) 0 (y .starts)) (o .2) (new-rising (o .0)))
 

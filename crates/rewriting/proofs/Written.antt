@@ -9,8 +9,8 @@ use lib.ListN.{length}
 use Rattle.model.specs.Answer.{Answer, result, then, unless, nowhere}
 use Rattle.model.specs.Chart.{Transition, Chart, Nth}
 use Rattle.model.specs.Valid.{Storable}
-use Rattle.model.specs.FirstFit.{board, used}
-use Rattle.model.specs.Rewrite.{Numbering, numbering, rewrittenBy, rewritten}
+use Rattle.model.specs.FirstFit.{used}
+use Rattle.model.specs.Rewrite.{Numbering, rewrittenBy, rewritten, boardNumbering}
 use Rattle.model.specs.Plan.{Numbered}
 use Rattle.model.specs.Judge.{Rewriting, fitted}
 use Rattle.file_format.specs.File.{fileOf}
@@ -56,7 +56,7 @@ made c = record { used = used c; chart = rewritten c }
 module _ (K room : ℕ) (c : Chart) (e : result (made c) ≡ fitted K c) where
   -- the timers used beside the length
   pub values-written : {w : Answer ℕ} {count : ℕ} → count ≡ used c
-      → w ≡ then (intoRoom room (rewrittenBy (numbering (board c)) c)) (λ d. result (length (fileOf d)))
+      → w ≡ then (intoRoom room (rewrittenBy (boardNumbering c) c)) (λ d. result (length (fileOf d)))
       → then w (λ n. result (record { used = count; length = n })) ≡ then (fittedInto K room c) (λ y. result (valuesOf y))
   unfolding valuesOf intoRoom rewritten
   values-written u f = rw (u, f, fitted-into K room c e) (go (leb (length (fileOf (rewritten c))) room))
@@ -69,7 +69,7 @@ module _ (K room : ℕ) (c : Chart) (e : result (made c) ≡ fitted K c) where
       go false = refl
 
   pub buffer-written : (out : List ℕ)
-      → overwritten fileOf (intoRoom room (rewrittenBy (numbering (board c)) c)) out ≡ overwritten newFile (fittedInto K room c) out
+      → overwritten fileOf (intoRoom room (rewrittenBy (boardNumbering c) c)) out ≡ overwritten newFile (fittedInto K room c) out
   unfolding intoRoom rewritten
   buffer-written out = rw (fitted-into K room c e) (go (leb (length (fileOf (rewritten c))) room))
     where

@@ -14,9 +14,9 @@ use Rattle.model.specs.Chart.{Chart}
 use Rattle.model.specs.Valid.{Valid}
 use Rattle.model.specs.Path.{Live}
 use Rattle.model.specs.Family.{Pairs, isPair, livePairs, Family, familyNumber, familyOf, families, meets, WellFormed}
-use Rattle.model.specs.FirstFit.{numberAt, board}
+use Rattle.model.specs.FirstFit.{numberAt}
 use Rattle.model.specs.SmallestPlan.{fewest}
-use Rattle.model.specs.Rewrite.{Numbering, numbering}
+use Rattle.model.specs.Rewrite.{Numbering, numbering, boardNumbering}
 use Rattle.model.specs.Plan.{Has}
 use Rattle.model.specs.SharingRule.{SameFamily, FamiliesMeet, SharingRule}
 use Rattle.sharing_plans.specs.SharingPlan.{SharingPlan, FewestTimers}
@@ -172,7 +172,7 @@ module _ {W : ℕ} {c : Chart} (valid : Valid W c) where
     below = rule .used-above;
   }
 
-  pub first-fit-plan : SharingPlan c (numbering (board c))
+  pub first-fit-plan : SharingPlan c (boardNumbering c)
   first-fit-plan = rule-plan (first-fit-shares valid)
 
 -- there is one such number

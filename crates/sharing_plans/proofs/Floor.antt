@@ -12,8 +12,8 @@ use Rattle.model.specs.Chart.{Chart}
 use Rattle.model.specs.Valid.{Valid}
 use Rattle.model.specs.Live.{liveFlow, liveSets, fullest}
 use Rattle.model.specs.Family.{families, livePairs}
-use Rattle.model.specs.FirstFit.{board, used}
-use Rattle.model.specs.Rewrite.{numbering}
+use Rattle.model.specs.FirstFit.{used}
+use Rattle.model.specs.Rewrite.{numbering, boardNumbering}
 use Rattle.model.specs.SmallestPlan.{fewest}
 use Rattle.model.specs.Floor.{searched, floor}
 use Rattle.sharing_plans.specs.SharingPlan.{FewestTimers}
@@ -38,7 +38,7 @@ module _ {W : ℕ} {c : Chart} (valid : Valid W c) where
 
   pub fewest-used : fewest (families (livePairs c)) ≤ used c
   unfolding used numbering
-  fewest-used = fewest-timers valid .least (numbering (board c)) (first-fit-plan valid)
+  fewest-used = fewest-timers valid .least (boardNumbering c) (first-fit-plan valid)
 
   pub floor-used : floor c ≤ used c
   floor-used = go (yes-or-no (searched c))

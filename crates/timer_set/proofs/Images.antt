@@ -3,10 +3,12 @@ use mathlib.Core.Path.{_≡_, refl, sym, ap, _∙_}
 use mathlib.Core.Bool.{true}
 use mathlib.Core.List.{List, [], _∷_, map}
 use Prim.Native.Nat.{ℕ, _^_, _<_}
+use lib.Pow.{pow-pos}
 use Rattle.lists.specs.Lists.{memb}
+use Rattle.lists.proofs.Bools.{not-both, is-no}
 use Rattle.lists.proofs.Membership.{memb-head, memb-tail, memb-map-in, memb-map-out}
 use Rattle.timer_set.specs.Members.{member, setOf, members, image}
-use Rattle.timer_set.proofs.Members.{member-setOf, setOf-lt, memb-members}
+use Rattle.timer_set.proofs.Members.{member-empty, none-empty, member-setOf, setOf-lt, memb-members}
 
 module _ (f : ℕ → ℕ) (w : ℕ) (word : w < 2 ^ 64) where
   pub image-in : (j : ℕ) → member w j ≡ true → member (image f w) (f j) ≡ true
@@ -33,3 +35,13 @@ module _ (f : ℕ → ℕ) (w : ℕ) (word : w < 2 ^ 64) where
       go : (l : List ℕ) → ((j : ℕ) → memb j l ≡ true → f j ≡ g j) → map f l ≡ map g l
       go [] same = refl
       go (x ∷ l) same = λ i. same x (memb-head x x l refl) i ∷ go l (λ j m. same j (memb-tail j x l m)) i
+
+pub image-empty : (f : ℕ → ℕ) → image f 0 ≡ 0
+image-empty f = none-empty 64 (image f 0) (image-lt f 0 word 64 (λ j m. absurd (none j m)))
+    (λ k h. is-no (member (image f 0) k) (λ m. let x = image-out f 0 word k m in none (x .0) (x .1)))
+  where
+    word : 0 < 2 ^ 64
+    word = pow-pos 64
+
+    none : (j : ℕ) → member 0 j ≡ true → ⊥
+    none j m = not-both m (member-empty j)

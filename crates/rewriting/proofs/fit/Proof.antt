@@ -9,8 +9,7 @@ use Rattle.model.specs.Answer.{result, then}
 use Rattle.model.specs.Chart.{Chart}
 use Rattle.model.specs.Valid.{Storable}
 use Rattle.model.specs.Live.{testedSets}
-use Rattle.model.specs.FirstFit.{board}
-use Rattle.model.specs.Rewrite.{numbering}
+use Rattle.model.specs.Rewrite.{boardNumbering}
 use Rattle.model.specs.Judge.{judged, fitted}
 use Rattle.chart_lists.specs.Header.{headerOf}
 use Rattle.chart_lists.specs.Lists.{overwritten}
@@ -110,7 +109,7 @@ write-renamed-requires c κs =
     let t = c .before .before in
     let p = entry (judged-so t) .pre in
     let x = left (judged-so t) (p .0) (p .1, p .2, p .3, p .4, p .5) in
-    (p .0, numbering (board (p .0)), p .1, p .4, board-cells (p .3) (p .2) x (few t))
+    (p .0, boardNumbering (p .0), p .1, p .4, board-cells (p .3) (p .2) x (few t))
 
 enum-known-written : tie.Need-enum-known-written
 enum-known-written c = search needs
@@ -136,7 +135,7 @@ buffer c d g =
     let x = left (judged-so (told c)) d g in
     let u = few (told c) in
     let cells = board-cells (g .2) (g .1) x u in
-    c .write-renamed .ensures .1 d (numbering (board d)) (g .0) (g .3) cells (board-storable (g .2) (g .1) x u) (board-used (g .2) (g .1) x)
+    c .write-renamed .ensures .1 d (boardNumbering d) (g .0) (g .3) cells (board-storable (g .2) (g .1) x u) (board-used (g .2) (g .1) x)
     ∙ buffer-written (a .k) (length (now (a .out))) d (enough c d g) (now (a .out))
 
 -- the writer's answer, with the timers used
@@ -148,7 +147,7 @@ values c e d g =
     let x = left (judged-so (told c)) d g in
     let u = few (told c) in
     let cells = board-cells (g .2) (g .1) x u in
-    let r = c .write-renamed .ensures .0 d (numbering (board d)) (g .0) (g .3) cells (board-storable (g .2) (g .1) x u)
+    let r = c .write-renamed .ensures .0 d (boardNumbering d) (g .0) (g .3) cells (board-storable (g .2) (g .1) x u)
     (board-used (g .2) (g .1) x) in
     values-written (a .k) (length (now (a .out))) d (enough c d g) (x .used-is) (sym (ap writtenAs e) ∙ r)
 
