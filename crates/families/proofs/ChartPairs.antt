@@ -1,19 +1,22 @@
--- The pairs that the lists of a chart describe are the chart's live pairs, and these lists are safe. Assumes nothing.
-use mathlib.Core.Path.{_≡_, sym, _∙_, subst}
+-- The pairs that the lists of a chart describe, twins counted as one, are the chart's, and these lists are safe. Assumes nothing.
+use mathlib.Core.Path.{_≡_, sym, _∙_}
+use mathlib.Core.Bool.{true}
 use mathlib.Core.List.{map}
 use Prim.Native.Nat.{ℕ, _^_, _<_}
 use native.Mathlib.Omega.{arith}
 use lib.ListN.{length, getD, length-map}
 use Rattle.lists.proofs.Nth.{getD-map, upTo-map}
-use Rattle.timer_set.specs.Members.{common, minus, members}
-use Rattle.timer_set.proofs.Members.{memb-members, setOf-members, setOf-lt}
+use Rattle.timer_set.specs.Members.{member, common, minus, image}
+use Rattle.timer_set.proofs.Images.{image-lt}
 use Rattle.model.specs.Chart.{Transition, Chart}
 use Rattle.model.specs.Valid.{Valid}
 use Rattle.model.specs.Live.{startsSet, liveFlow, liveSets, live}
+use Rattle.model.specs.Twins.{lowestTwin, mergedSets}
 use Rattle.model.specs.Family.{livePairs}
-use Rattle.model.proofs.Settled.{length-settled, settled-words}
+use Rattle.model.proofs.Settled.{length-settled}
 use Rattle.model.proofs.Paths.{live-inside}
-use Rattle.model.proofs.LivePaths.{live-shaped, live-iff}
+use Rattle.model.proofs.LivePaths.{live-iff}
+use Rattle.model.proofs.Twins.{twins-refl, lowest-of-twins, live-word, merged-at}
 use Rattle.chart_lists.specs.Lists.{listsOf}
 use Rattle.chart_lists.proofs.Holds.{sources-each, targets-each, starts-each}
 use Rattle.chart_lists.proofs.Locations.{sources-below, targets-below}
@@ -24,36 +27,40 @@ pub live-each : (c : Chart) → length (liveSets c) ≡ c .locations
 unfolding liveSets liveFlow
 live-each c = length-settled (liveFlow c)
 
-pub chart-pairs : (c : Chart) → pairsOf (listsOf c .sources) (listsOf c .targets) (listsOf c .starts) (liveSets c) (c .timers) ≡ livePairs c
+pub merged-each : (c : Chart) → length (mergedSets c) ≡ c .locations
+unfolding mergedSets
+merged-each c = length-map (liveSets c) (image (lowestTwin c)) ∙ live-each c
+
+pub chart-pairs : (c : Chart) → pairsOf (listsOf c .sources) (listsOf c .targets) (listsOf c .starts) (mergedSets c) (c .timers) ≡ livePairs c
 unfolding listsOf pairsOf livePairs linkAt
-chart-pairs c = λ i. record { locations = live-each c i; timers = c .timers; sets = liveSets c; links = links i }
+chart-pairs c = λ i. record { locations = merged-each c i; timers = c .timers; sets = mergedSets c; links = links i }
   where
-    links : pairsOf (listsOf c .sources) (listsOf c .targets) (listsOf c .starts) (liveSets c) (c .timers) .links ≡ livePairs c .links
+    links : pairsOf (listsOf c .sources) (listsOf c .targets) (listsOf c .starts) (mergedSets c) (c .timers) .links ≡ livePairs c .links
     links = upTo-map (record { one = 0; other = 0; timers = 0 }) _ _ (c .transitions) _ (length-map (c .transitions) _) (λ i r e.
         let here : (f : Transition → ℕ) → getD (map f (c .transitions)) i 0 ≡ f r = λ f. getD-map f (c .transitions) i e in
         let s = here (λ r. r .source) in
         let t = here (λ r. r .target) in
-        let at : ℕ → ℕ = λ q. getD (liveSets c) q 0 in
+        let at : ℕ → ℕ = λ q. getD (mergedSets c) q 0 in
         λ k. record { one = s k; other = t k; timers = minus (common (at (s k)) (at (t k))) (here startsSet k) })
 
 module _ {W : ℕ} {c : Chart} (valid : Valid W c) where
-  -- a live set has the chart's timers alone
-  live-few : (q : ℕ) → getD (liveSets c) q 0 < 2 ^ c .timers
-  unfolding liveSets live
-  live-few q =
-      let w = getD (liveSets c) q 0 in
-      let word : w < 2 ^ 64 = settled-words (liveFlow c) (live-shaped valid) q in
-      subst (λ (x : ℕ). x < 2 ^ c .timers) (setOf-members w word)
-      (setOf-lt (c .timers) (members w) (λ j m. live-inside valid (live-iff valid q j .0 (sym (memb-members w j word) ∙ m)) .timer))
+  -- a live set has the chart's timers alone, and so has the set of their lowest twins
+  pub live-member : (q j : ℕ) → member (getD (liveSets c) q 0) j ≡ true → j < c .timers
+  unfolding live
+  live-member q j m = live-inside valid (live-iff valid q j .0 m) .timer
 
-  pub chart-safe : SafeTransitions (listsOf c .sources) (listsOf c .targets) (listsOf c .starts) (liveSets c) (c .timers)
+  merged-few : (q : ℕ) → getD (mergedSets c) q 0 < 2 ^ c .timers
+  merged-few q = rw (merged-at valid q) (image-lt (lowestTwin c) (getD (liveSets c) q 0) (live-word valid q) (c .timers)
+      (λ j m. omega (arith, live-member q j m, lowest-of-twins c j j (twins-refl j))))
+
+  pub chart-safe : SafeTransitions (listsOf c .sources) (listsOf c .targets) (listsOf c .starts) (mergedSets c) (c .timers)
   chart-safe = record {
     few-targets = targets-each c ∙ sym (sources-each c);
     few-starts = starts-each c ∙ sym (sources-each c);
     few-transitions = omega (arith, sources-each c, valid .few-transitions);
-    few-locations = omega (arith, live-each c, valid .few-locations);
+    few-locations = omega (arith, merged-each c, valid .few-locations);
     few-timers = valid .few-timers;
-    source-below = λ i h. rw (live-each c) (sources-below valid i (omega (arith, sources-each c)));
-    target-below = λ i h. rw (live-each c) (targets-below valid i (omega (arith, sources-each c)));
-    live-below = live-few;
+    source-below = λ i h. rw (merged-each c) (sources-below valid i (omega (arith, sources-each c)));
+    target-below = λ i h. rw (merged-each c) (targets-below valid i (omega (arith, sources-each c)));
+    live-below = merged-few;
   }

@@ -120,7 +120,7 @@ module _ {W : ℕ} {c : Chart} (valid : Valid W c) where
   pub lowest-twins : {q s j k : ℕ} → TwinLive c q j → TwinLive c s k → lowestTwin c j ≡ lowestTwin c k → Twins c j k
   lowest-twins l l′ e = twins-trans (twin-lowest l .twin) (twins-sym (rw e (twin-lowest l′ .twin)))
 
-  live-word : (q : ℕ) → getD (liveSets c) q 0 < 2 ^ 64
+  pub live-word : (q : ℕ) → getD (liveSets c) q 0 < 2 ^ 64
   unfolding liveSets
   live-word = settled-words (liveFlow c) (live-shaped valid)
 
