@@ -13,7 +13,7 @@ use Rattle.model.specs.Chart.{Chart}
 use Rattle.model.specs.Valid.{Valid}
 use Rattle.model.specs.FirstFit.{used}
 use Rattle.model.specs.Floor.{floor, searched}
-use Rattle.model.specs.Rewrite.{Numbering, numbering, boardNumbering}
+use Rattle.model.specs.Rewrite.{Numbering, numbering, through, boardNumbering}
 use Rattle.chart_lists.specs.Limits.{mostTimers}
 use Rattle.chart_lists.specs.Begins.{Begins}
 use Rattle.chart_lists.proofs.Begins.{begins-getD, begins-room}
@@ -57,7 +57,7 @@ module _ {W : ℕ} {c : Chart} (v : Valid W c) (few : used c ≤ 64) {l : List �
     (b : Begins (cellsOf (boardNumbering c) (c .locations)) l)
     {m : Header} (is : m ≡ headerOf c) {u f : ℕ} {s : Bool} (eu : u ≡ used c) (ef : f ≡ floor c) (es : s ≡ searched c) where
   pub text-is : (K : ℕ) → firstLine u f s K ++ linesIn l (m .timers) (m .locations) ≡ chartText K c
-  unfolding chartText used numbering
+  unfolding chartText used boardNumbering through numbering
   text-is K =
       rw (timers-are c is, locations-are c is, eu, ef, es)
       (ap (λ (x : List ℕ). firstLine (used c) (floor c) (searched c) K ++ x)

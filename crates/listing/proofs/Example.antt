@@ -1,23 +1,25 @@
 -- The texts for charts A and B with K = 16: that for B is the example of document 01 ("What the four parts hand back"); A, whose floor is that of
--- document 02 (P1), has locations with two live timers. And two first lines, whose used, floor and limit differ: with a floor that was searched for,
+-- document 02 (P1), has locations with two live timers. The text for a chart with twins, each listed with the number that they share. And two first lines, whose used, floor and limit differ: with a floor that was searched for,
 -- and with one that was only seen. Nothing is hard: the definitions compute it. Assumes nothing.
 use mathlib.Core.Path.{_≡_, refl}
-use mathlib.Core.Bool.{true, false}
+use mathlib.Core.Bool.{true, false, xor}
 use mathlib.Core.List.{List, [], _∷_, _++_, filterMap}
 use Prim.Native.Nat.{ℕ}
 use lib.Count.{ones, onesIn}
-use Rattle.timer_set.specs.Members.{member, joined, common, minus, added, everyTimer, setOf}
+use Rattle.timer_set.specs.Members.{member, joined, common, minus, added, everyTimer, setOf, members, image}
 use Rattle.lists.specs.Lists.{memb, anyOf, firstOf, lowest, gather, upTo, pick, top}
 use Rattle.comparison.specs.Comparison.{comparisonOf, met}
 use Rattle.model.specs.Flow.{brings, made, round, roundsOf, sameSets, changing, settled}
 use Rattle.model.specs.Live.{startsSet, testsSet, atInitial, liveFlow, unstartedFlow, reachedFlow}
 use Rattle.model.specs.Live.{liveSets, fullest, unstartedSets, reachedSets, isEmpty, firstUnreached, firstUnstarted}
+use Rattle.model.specs.Twins.{inSameSets, lowestInSame, lowestTwin, mergedSets}
 use Rattle.model.specs.Family.{isPair, livePairs, familyNumber, linkFlow, familyOf, familyFrom, families, meets}
 use Rattle.model.specs.FirstFit.{held, free, place, firstFit, usedBy, numberAt, allHeld, blocked, board}
 use Rattle.model.specs.SmallestPlan.{placings, meetingDiffer, planned, fewest}
 use Rattle.model.specs.Floor.{searched, floor}
-use Rattle.model.specs.Rewrite.{numbering}
+use Rattle.model.specs.Rewrite.{numbering, through, boardNumbering}
 use Rattle.model.specs.Judge.{judged, fitted, rewriting}
+use Rattle.model.specs.Cases.{arrow, test, drawn, startedTogether}
 use Rattle.file_format.specs.Parse.{number, below, many, entry, rising}
 use Rattle.file_format.specs.Body.{readComparison, readTest, readTests, recordLength, readTransition, readTransitions}
 use Rattle.file_format.specs.Body.{readHeader, chartOf, readBody}
@@ -48,6 +50,15 @@ linesOfB =
     ++ (97 ∷ 116 ∷ 32 ∷ 50 ∷ 32 ∷ 49 ∷ 62 ∷ 48 ∷ 10 ∷ [])
     ++ (97 ∷ 116 ∷ 32 ∷ 51 ∷ 10 ∷ [])
 
+-- used 1 floor 1 limit 2; at 0; at 1 0>0 1>0; at 2 1>0; at 3
+pub linesOfTwins : List ℕ
+linesOfTwins =
+    (117 ∷ 115 ∷ 101 ∷ 100 ∷ 32 ∷ 49 ∷ 32 ∷ 102 ∷ 108 ∷ 111 ∷ 111 ∷ 114 ∷ 32 ∷ 49 ∷ 32 ∷ 108 ∷ 105 ∷ 109 ∷ 105 ∷ 116 ∷ 32 ∷ 50 ∷ 10 ∷ [])
+    ++ (97 ∷ 116 ∷ 32 ∷ 48 ∷ 10 ∷ [])
+    ++ (97 ∷ 116 ∷ 32 ∷ 49 ∷ 32 ∷ 48 ∷ 62 ∷ 48 ∷ 32 ∷ 49 ∷ 62 ∷ 48 ∷ 10 ∷ [])
+    ++ (97 ∷ 116 ∷ 32 ∷ 50 ∷ 32 ∷ 49 ∷ 62 ∷ 48 ∷ 10 ∷ [])
+    ++ (97 ∷ 116 ∷ 32 ∷ 51 ∷ 10 ∷ [])
+
 -- used 3 floor 2 limit 16
 pub lineOfFloor : List ℕ
 lineOfFloor = 117 ∷ 115 ∷ 101 ∷ 100 ∷ 32 ∷ 51 ∷ 32 ∷ 102 ∷ 108 ∷ 111 ∷ 111 ∷ 114 ∷ 32 ∷ 50 ∷ 32 ∷ 108 ∷ 105 ∷ 109 ∷ 105 ∷ 116 ∷ 32 ∷ 49 ∷ 54 ∷ 10 ∷ []
@@ -60,20 +71,22 @@ lineOfSeen = 117 ∷ 115 ∷ 101 ∷ 100 ∷ 32 ∷ 51 ∷ 32 ∷ 115 ∷ 101 �
 pub record Texts : Type 0 where
   pub text-of-A : textOf (16 ∷ bytesOfA) ≡ linesOfA
   pub text-of-B : textOf (16 ∷ bytesOfB) ≡ linesOfB
+  pub text-of-twins : chartText 2 startedTogether ≡ linesOfTwins
   pub line-of-floor : firstLine 3 2 true 16 ≡ lineOfFloor
   pub line-of-seen : firstLine 3 2 false 16 ≡ lineOfSeen
 
 pub texts : Texts
-unfolding bytesOfA bytesOfB linesOfA linesOfB lineOfFloor lineOfSeen
+unfolding bytesOfA bytesOfB arrow test drawn startedTogether linesOfA linesOfB linesOfTwins lineOfFloor lineOfSeen
     member joined common minus added everyTimer setOf ones onesIn filterMap
     memb anyOf firstOf lowest gather upTo pick top comparisonOf met
     brings made round roundsOf sameSets changing settled
     startsSet testsSet atInitial liveFlow unstartedFlow reachedFlow liveSets unstartedSets reachedSets isEmpty firstUnreached firstUnstarted
     isPair livePairs familyNumber linkFlow familyOf familyFrom families meets
     held free place firstFit usedBy numberAt allHeld blocked board numbering
+    members image xor inSameSets lowestInSame lowestTwin mergedSets through boardNumbering
     placings meetingDiffer planned fewest searched fullest floor
     judged fitted rewriting
     number below many entry rising readComparison readTest readTests recordLength readTransition readTransitions readHeader chartOf readBody
     knownVersion widthOf readFrame judgeFrame readFile chartIn
     decimalIn decimal refusedWord usedWord floorWord seenWord limitWord atWord refusedText firstLine lineOf chartText accepted textOf
-texts = record { text-of-A = refl; text-of-B = refl; line-of-floor = refl; line-of-seen = refl }
+texts = record { text-of-A = refl; text-of-B = refl; text-of-twins = refl; line-of-floor = refl; line-of-seen = refl }

@@ -1,5 +1,5 @@
--- The program prints `floor` exactly where there are at most 20 families, else `seen`, and then the count of the fullest live set, which is the
--- figure of document 01. Nothing is hard. Assumes nothing.
+-- The program prints `floor` exactly where there are at most 20 families, else `seen`, and then the count of the fullest live set, twins
+-- counted once, which is the figure of document 01 where there are no twins. Nothing is hard. Assumes nothing.
 use mathlib.Core.Path.{_≡_, refl, ap}
 use mathlib.Core.Logic.{_↔_}
 use mathlib.Core.Bool.{Bool, true, false}
@@ -10,7 +10,8 @@ use lib.ListN.{getD}
 use Rattle.lists.specs.Lists.{gather}
 use Rattle.model.specs.Chart.{Chart}
 use Rattle.model.specs.Valid.{Valid}
-use Rattle.model.specs.Live.{liveSets, fullest}
+use Rattle.model.specs.Live.{fullest}
+use Rattle.model.specs.Twins.{mergedSets}
 use Rattle.model.specs.Floor.{mostSearched, searched}
 use Rattle.model.specs.Rewrite.{boardNumbering}
 use Rattle.sharing_plans.specs.SharingPlan.{FamiliesAtMost}
@@ -27,8 +28,8 @@ searched-word false e = let s : _≡_ {A = ℕ} 115 102 = ap (λ (l : List ℕ).
 pub floor-word-iff : {W : ℕ} {c : Chart} → Valid W c → (wordOf (searched c) ≡ floorWord) ↔ FamiliesAtMost mostSearched c
 floor-word-iff {c = c} valid = (λ e. searched-iff valid .0 (searched-word (searched c) e), λ f. ap wordOf (searched-iff valid .1 f))
 
--- the text of a chart that is not searched has the old figure, after the other word
+-- the text of a chart that is not searched has that figure, after the other word
 pub seen-text : (k : ℕ) (c : Chart) → searched c ≡ false → let N = boardNumbering c in
-    chartText k c ≡ firstLine (N .used) (fullest (liveSets c)) false k ++ gather (lineOf (c .timers) N) (c .locations)
+    chartText k c ≡ firstLine (N .used) (fullest (mergedSets c)) false k ++ gather (lineOf (c .timers) N) (c .locations)
 unfolding chartText
 seen-text k c h = rw (h, floor-unsearched c h)

@@ -39,9 +39,16 @@ module _ (sets : List ℕ) (f : ℕ → ℕ) (N : Numbering) (q j : ℕ) where
   unfolding through
   through-in h = rw (h, through)
 
-  pub through-out : member (getD sets q 0) j ≡ false → through sets f N .number q j ≡ none
+  pub through-has : (k : ℕ) → Has (through sets f N) q j k → (member (getD sets q 0) j ≡ true) × Has N q (f j) k
   unfolding through
-  through-out h = rw (h, through)
+  through-has k e = go (yes-or-no (member (getD sets q 0) j))
+    where
+      out : member (getD sets q 0) j ≡ false → through sets f N .number q j ≡ none
+      out h = rw (h, through)
+
+      go : (member (getD sets q 0) j ≡ true) ⊎ (member (getD sets q 0) j ≡ false) → (member (getD sets q 0) j ≡ true) × Has N q (f j) k
+      go (inl h) = (h, sym (through-in h) ∙ e)
+      go (inr h) = absurd (Option·none-ne-some _ (sym (out h) ∙ e))
 
 -- ---- the board numbers of a chart
 
@@ -50,18 +57,19 @@ pub board-used : (c : Chart) → boardNumbering c .used ≡ usedBy (board c)
 unfolding boardNumbering through numbering
 board-used c = refl
 
+pub number-under : (c : Chart) (q j k : ℕ) → Has (boardNumbering c) q j k → k < boardNumbering c .used
+unfolding boardNumbering numbering
+number-under c q j k e = rw (board-used c)
+    (number-below (board c) q (lowestTwin c j) k (through-has (liveSets c) (lowestTwin c) (numbering (board c)) q j k e .1))
+
 module _ {W : ℕ} {c : Chart} (valid : Valid W c) where
   -- a timer has a number exactly where it is live: that of the pair of its lowest twin
   pub number-iff : (q j k : ℕ) → Has (boardNumbering c) q j k ↔ (Live c q j × (numberAt (board c) q (lowestTwin c j) ≡ some k))
   unfolding boardNumbering numbering live
   number-iff q j k = (
-    λ e. go (yes-or-no (live c q j)) e,
+    λ e. let x = through-has (liveSets c) (lowestTwin c) (numbering (board c)) q j k e in (live-iff valid q j .0 (x .0), x .1),
     λ x. through-in (liveSets c) (lowestTwin c) (numbering (board c)) q j (live-iff valid q j .1 (x .0)) ∙ x .1,
   )
-    where
-      go : (live c q j ≡ true) ⊎ (live c q j ≡ false) → Has (boardNumbering c) q j k → Live c q j × (numberAt (board c) q (lowestTwin c j) ≡ some k)
-      go (inl h) e = (live-iff valid q j .0 h, sym (through-in (liveSets c) (lowestTwin c) (numbering (board c)) q j h) ∙ e)
-      go (inr h) e = absurd (Option·none-ne-some _ (sym (through-out (liveSets c) (lowestTwin c) (numbering (board c)) q j h) ∙ e))
 
   pub number-live : (q j k : ℕ) → Has (boardNumbering c) q j k → Live c q j
   number-live q j k e = number-iff q j k .0 e .0
@@ -79,9 +87,6 @@ module _ {W : ℕ} {c : Chart} (valid : Valid W c) where
       let x = number-iff q j k .0 e in
       let y = number-iff q i k .0 e′ in
       lowest-twins valid (live-itself (x .0)) (live-itself (y .0)) (apart (livePairs c) q _ k _ (x .1) (y .1))
-
-  pub number-under : (q j k : ℕ) → Has (boardNumbering c) q j k → k < boardNumbering c .used
-  number-under q j k e = rw (board-used c) (number-below (board c) q (lowestTwin c j) k (number-iff q j k .0 e .1))
 
   pub board-plan : ((i : ℕ) (r : Transition) → Nth c i r → UnstartedTest c r → ⊥) → Plan c (boardNumbering c)
   unfolding board
@@ -102,7 +107,7 @@ module _ {W : ℕ} {c : Chart} (valid : Valid W c) where
         } in
         number-iff (r .source) j k .1 (back, linked-same (live-pairs-formed valid) (linked-iff valid j (r .source) (r .target) .1 link) ∙ y .1);
     apart = λ q j i k x e e′ m r n y. number-twins q j i k e e′ .together m r n;
-    below = number-under;
+    below = number-under c;
   }
 
   -- a transition of the rewritten chart starts exactly the numbers that the timers born on it have at its target
@@ -114,7 +119,7 @@ module _ {W : ℕ} {c : Chart} (valid : Valid W c) where
         let x = filter-out (boardNumbering c .number (r .target)) (r .starts) k (pick-out _ (boardNumbering c .used) k m .1) in
         (x .0, record { started = x .1; active = number-live (r .target) (x .0) k (x .2) }, x .2),
     λ x.
-        pick-in _ (boardNumbering c .used) k (number-under (r .target) (x .0) k (x .2))
+        pick-in _ (boardNumbering c .used) k (number-under c (r .target) (x .0) k (x .2))
         (filter-in (boardNumbering c .number (r .target)) (r .starts) (x .0) k (x .1 .started) (x .2)),
   )
 

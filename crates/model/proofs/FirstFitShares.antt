@@ -87,7 +87,7 @@ module _ {W : ℕ} {c : Chart} (valid : Valid W c) where
     );
     free = not-held;
     smaller-held = smaller-held;
-    used-above = number-under valid;
+    used-above = number-under c;
     used-reached = used-reached valid;
   }
 

@@ -1,5 +1,5 @@
 -- First fit's numbers of a chart that is judged: they are a plan, and their cells are what the renaming asks for. Assumes nothing.
-use mathlib.Core.Path.{_≡_, refl}
+use mathlib.Core.Path.{_≡_, refl, sym, _∙_}
 use mathlib.Core.List.{List}
 use Prim.Native.Nat.{ℕ, _≤_}
 use native.Mathlib.Omega.{arith}
@@ -7,11 +7,11 @@ use Rattle.model.specs.Answer.{result}
 use Rattle.model.specs.Chart.{Transition, Chart, Nth}
 use Rattle.model.specs.Valid.{Valid, Storable}
 use Rattle.model.specs.FirstFit.{used}
-use Rattle.model.specs.Rewrite.{numbering, rewrittenBy, boardNumbering}
+use Rattle.model.specs.Rewrite.{rewrittenBy, boardNumbering}
 use Rattle.model.specs.Plan.{Plan, Numbered}
 use Rattle.model.specs.Judge.{judged}
 use Rattle.model.proofs.Paths.{live-here}
-use Rattle.model.proofs.BoardPlan.{board-plan, live-number}
+use Rattle.model.proofs.BoardPlan.{board-used as used-is, board-plan, live-number}
 use Rattle.model.proofs.Judgement.{accepted}
 use Rattle.model.proofs.RewrittenValid.{rewritten-storable}
 use Rattle.renaming.specs.Renaming.{CellsOf}
@@ -20,7 +20,6 @@ use Rattle.numbering.specs.ChartNumbered.{ChartNumbered}
 
 -- every timer that is tested has a number where it is tested
 pub tests-numbered : {W : ℕ} {c : Chart} → Valid W c → (i : ℕ) (r : Transition) → Nth c i r → Numbered (boardNumbering c) (r .source) (r .tests)
-unfolding numbering
 tests-numbered valid i r n j t =
     live-number valid (r .source) j (live-here (record { number = i; transition = r; is-nth = n; leaves = refl; tests-it = t }))
 
@@ -31,8 +30,8 @@ module _ {c : Chart} (storable : Storable c) (e : judged c ≡ result c) where
 
   module _ {live cells at : List ℕ} {r : Count} (x : ChartNumbered c live cells at r) where
     pub board-used : r .used ≡ boardNumbering c .used
-    unfolding used numbering
-    board-used = x .used-is
+    unfolding used
+    board-used = x .used-is ∙ sym (used-is c)
 
     -- where the numbers fit a board
     module _ (few : r .used ≤ 64) where

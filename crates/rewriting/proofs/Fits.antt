@@ -8,7 +8,7 @@ use lib.ListN.{length}
 use Rattle.model.specs.Answer.{result, nowhere}
 use Rattle.model.specs.Version.{widthOf}
 use Rattle.model.specs.Valid.{Storable}
-use Rattle.model.specs.Rewrite.{numbering, boardNumbering}
+use Rattle.model.specs.Rewrite.{boardNumbering}
 use Rattle.model.specs.Judge.{Rewriting, rewriting}
 use Rattle.model.proofs.RewrittenValid.{names-below}
 use Rattle.model.proofs.RewritingAlike.{rewriting-is}
@@ -34,7 +34,6 @@ module _ {K : ℕ} {bs : List ℕ} (bytes : Bytes bs) {x : Rewriting} (o : Rewri
   storable-chart = reads-storable bs (o .chart) bytes (o .reads)
 
   rewriting-fits : FitsBoard K x
-  unfolding numbering
   rewriting-fits =
       let c = o .chart in
       let b = equal-behaviour (widthOf (c .version)) K c (storable-chart .valid) x (o .made) in

@@ -17,7 +17,7 @@ use Rattle.model.specs.Answer.{result}
 use Rattle.model.specs.Chart.{Test, Transition, Chart, Nth}
 use Rattle.model.specs.Valid.{Valid}
 use Rattle.model.specs.FirstFit.{used}
-use Rattle.model.specs.Rewrite.{numbering, newTests, newStarts, newTransition, rewrittenBy, rewritten, boardNumbering}
+use Rattle.model.specs.Rewrite.{numbering, through, newTests, newStarts, newTransition, rewrittenBy, rewritten, boardNumbering}
 use Rattle.model.specs.Plan.{Numbered}
 use Rattle.model.specs.Returned.{NotRefused}
 use Rattle.model.specs.Judge.{Rewriting, rewriting}
@@ -37,7 +37,7 @@ use Rattle.rewriting.proofs.Fits.{rewriting-of}
 module _ (c : Chart) where
   tests-rewritten : (q : ℕ) (ts : List Test) → Numbered (boardNumbering c) q ts
       → PlaceByPlace (RewrittenTest c q) ts (newTests (boardNumbering c) q ts)
-  unfolding newTests filterMap numbering
+  unfolding newTests filterMap
   tests-rewritten q [] h = record { same-length = refl; related = λ k x y e f. absurd (Option·none-ne-some _ e) }
   tests-rewritten q (t ∷ ts) h =
       let a = h (t .timer) (tested-head t ts) in
@@ -59,7 +59,7 @@ module _ (c : Chart) where
   transitions-rewritten valid = place-by-place-map _ (c .transitions) (λ i r e. transition-rewritten valid i r (record { there = e }))
 
   chart-rewritten : {W K : ℕ} {x : Rewriting} → Valid W c → NotRefused K c x → RewrittenChart c x
-  unfolding rewrittenBy numbering used
+  unfolding rewrittenBy boardNumbering through numbering used
   chart-rewritten valid y = record {
     version = ap (λ (d : Chart). d .version) (y .chart);
     locations = ap (λ (d : Chart). d .locations) (y .chart);
@@ -91,12 +91,12 @@ module _ (c : Chart) where
   }
 
   new-rising : (r : Transition) → Rising (used c) 0 (newTransition (boardNumbering c) r .starts)
-  unfolding newTransition newStarts numbering used
+  unfolding newTransition newStarts boardNumbering through numbering used
   new-rising r = pick-rising _ (used c)
 
   -- a chart that a file can hold, and that has the parts of the rewritten chart, is the rewritten chart
   pub rewritten-only : {W W′ : ℕ} {x : Rewriting} → Valid W c → Valid W′ (x .chart) → RewrittenChart c x → x .chart ≡ rewritten c
-  unfolding rewritten rewrittenBy numbering used
+  unfolding rewritten rewrittenBy boardNumbering through numbering used
   rewritten-only {x = x} valid valid′ a i = record {
     version = a .version i;
     locations = a .locations i;

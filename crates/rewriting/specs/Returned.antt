@@ -3,7 +3,6 @@
 use mathlib.Core.Path.{_≡_}
 use mathlib.Core.Logic.{_↔_}
 use mathlib.Core.Bool.{true}
-use mathlib.Core.Option.{some}
 use mathlib.Core.List.{List}
 use Prim.Native.Nat.{ℕ, _≤_}
 use Rattle.lists.specs.Lists.{memb}
@@ -12,8 +11,9 @@ use Rattle.model.specs.Answer.{result}
 use Rattle.model.specs.Chart.{Test, Transition, Chart, Nth}
 use Rattle.model.specs.Valid.{Storable}
 use Rattle.model.specs.Path.{Born}
-use Rattle.model.specs.FirstFit.{numberAt, board, used}
-use Rattle.model.specs.Rewrite.{NamesBelow}
+use Rattle.model.specs.FirstFit.{used}
+use Rattle.model.specs.Rewrite.{NamesBelow, boardNumbering}
+use Rattle.model.specs.Plan.{Has}
 use Rattle.model.specs.Judge.{Rewriting, rewriting}
 use Rattle.file_format.specs.File.{chartIn, fileOf}
 
@@ -25,8 +25,8 @@ pub record RewritingOf (K : ℕ) (bs : List ℕ) (x : Rewriting) : Type 0 where
 
 -- a test t of the chart, on a transition that leaves q, and the test t′ that stands in its place
 pub record RewrittenTest (c : Chart) (q : ℕ) (t t′ : Test) : Type 0 where
-  -- t′ reads the board number of the family of t's timer at q
-  pub timer : numberAt (board c) q (t .timer) ≡ some (t′ .timer)
+  -- t′ reads the board number that t's timer has at q
+  pub timer : Has (boardNumbering c) q (t .timer) (t′ .timer)
   pub comparison : t′ .comparison ≡ t .comparison
   pub constant : t′ .constant ≡ t .constant
 
@@ -36,7 +36,7 @@ pub record RewrittenTransition (c : Chart) (r r′ : Transition) : Type 0 where
   pub target : r′ .target ≡ r .target
   pub event : r′ .event ≡ r .event
   -- r′ starts k exactly where k is the number, at the target, of a timer born on r
-  pub starts : (k : ℕ) → (memb k (r′ .starts) ≡ true) ↔ ((j : ℕ) × Born c r j × (numberAt (board c) (r .target) j ≡ some k))
+  pub starts : (k : ℕ) → (memb k (r′ .starts) ≡ true) ↔ ((j : ℕ) × Born c r j × Has (boardNumbering c) (r .target) j k)
   -- every test is kept, in its place, and reads the number at the source
   pub tests : PlaceByPlace (RewrittenTest c (r .source)) (r .tests) (r′ .tests)
 
