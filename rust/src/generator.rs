@@ -263,6 +263,35 @@ pub fn store_about_counter(random: &mut Random, drawing: &mut Drawing, whole: u6
     }
 }
 
+/// Gives a chart more timers, if it may have more, each of which is started wherever one of those that it has is: a twin.
+/// All are numbered anew. A test of a timer names any of its twins, or all tests of it name one of them, so that often the
+/// lowest is tested nowhere.
+pub fn add_twins(random: &mut Random, drawing: &mut Drawing) {
+    let timers = usize::from(drawing.timers);
+    if timers == 0 || timers == TIMERS {
+        return;
+    }
+    // Of each timer by its new number the one that it was, or that it is a twin of.
+    let mut was: Vec<u8> = (0..drawing.timers).collect();
+    for _ in 0..random.between(1, (TIMERS - timers).min(timers) as u64) {
+        was.push(random.below(timers as u64) as u8);
+    }
+    random.shuffle(&mut was);
+    let named_now = |timer: u8| (0..was.len() as u8).filter(|&new| was[usize::from(new)] == timer).collect();
+    let mut names: Vec<Vec<u8>> = (0..drawing.timers).map(named_now).collect();
+    for transition in &mut drawing.transitions {
+        transition.starts = transition.starts.iter().flat_map(|&timer| names[usize::from(timer)].clone()).collect();
+        transition.starts.sort_unstable();
+    }
+    if random.chance(1, 2) {
+        names.iter_mut().for_each(|names| *names = vec![random.pick(names)]);
+    }
+    for test in drawing.transitions.iter_mut().flat_map(|transition| &mut transition.tests) {
+        test.0 = random.pick(&names[usize::from(test.0)]);
+    }
+    drawing.timers = was.len() as u8;
+}
+
 /// Of each location the timers that every path to it starts, as a word.
 fn surely_started(drawing: &Drawing) -> Vec<u64> {
     let mut started = vec![u64::MAX; usize::from(drawing.locations)];
@@ -494,7 +523,8 @@ pub fn random_chain(random: &mut Random) -> Drawing {
 }
 
 /// The longest file of a version that passes 1 to 10, 54,254 bytes in version 1 and 62,430 in version 2: all limits are
-/// reached, but the one transition that leaves the initial location has no tests.
+/// reached, but the one transition that leaves the initial location has no tests. Every transition starts all timers, so
+/// that all are twins.
 pub fn longest(random: &mut Random, version: Version) -> Drawing {
     let all: Vec<u8> = (0..MOST_TIMERS).collect();
     let last = MOST_LOCATIONS - 1;
