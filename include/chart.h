@@ -248,8 +248,8 @@ CHART_ASSERT(sizeof(chart_turned) == 48, "chart_turned");
  * Refusals: 1 to 10, 21. */
 chart_analysis chart_analyse(const uint8_t *file, size_t file_length, uint64_t *live, size_t live_length);
 
-/* Rewrites a chart file for a board of k timers. Writes the new file, which has the version of the file read, into out. Twins share a board timer,
- * which a transition starts once.
+/* Rewrites a chart file for a board of k timers. Writes the new file, which has the version of the file read, into out. Where twins are live they
+ * share a board timer, which a transition starts once.
  * out needs the new file's length, CHART_LARGEST_FILE bytes are always enough; bytes beyond it are untouched.
  * Refusals: 1 to 11, 20, 21. */
 chart_rewriting chart_rewrite(const uint8_t *file, size_t file_length, uint32_t k, uint8_t *out, size_t out_length);

@@ -29,6 +29,10 @@ impl Twins {
     pub fn of(chart: &Chart) -> Self {
         let mut groups = Groups::of(chart.timers());
         for transition in chart.transitions() {
+            if groups.count == usize::from(chart.timers()) {
+                // All are apart.
+                return Twins::NONE;
+            }
             groups.tell_apart(transition.starts);
         }
         let mut twins = Twins::NONE;
