@@ -26,7 +26,7 @@
 /* The bytes of the largest chart file: one of version 2. */
 #define CHART_LARGEST_FILE 62478
 
-/* The most families for which the floor is found by search. */
+/* The most families for which the floor is found by search; twins form families together. */
 #define CHART_MOST_SEARCHED 20
 
 /* The most heads that a controller drives. */
@@ -84,8 +84,10 @@ typedef enum chart_refusal {
 /* used: the board timers that the chart takes; it may exceed CHART_MOST_TIMERS.
  * searched: 1 for a chart of at most CHART_MOST_SEARCHED families, else 0; 0 with a refusal too.
  * floor: if searched is 1, the smallest number of timers in any plan that gives meeting families different numbers; else the timers live at once
- * where most are: no plan has fewer, and even the smallest may have more. In that case the program prints `seen` in place of `floor`. What families
- * and plans are: docs/SPECIFICATION.md, sections 4 and 5.
+ * where most are, twins counted once: no plan has fewer, and even the smallest may have more. In that case the program prints `seen` in place of
+ * `floor`. What families and plans are: docs/SPECIFICATION.md, sections 4 and 5.
+ * Two timers are twins when every transition starts both or neither. In these three figures twins count as one timer, the lowest of them, live
+ * wherever any of them is; the live sets and the rounds are those of the drawn timers.
  * rounds: how many rounds the live sets take (docs/SPECIFICATION.md, section 3). A round makes the set of every location from the sets of the round
  * before, the first round from empty sets; the first round that changes no set is the last, and counts. At least 1 and at most the number of the
  * chart's locations, so up to CHART_MOST_LOCATIONS; 0 with a refusal.
@@ -241,12 +243,13 @@ CHART_ASSERT(sizeof(chart_turned) == 48, "chart_turned");
 #undef CHART_LIST
 #undef CHART_ASSERT
 
-/* Analyses a chart file. Writes the live set of each location into live, location 0 first, timer j at bit j.
+/* Analyses a chart file. Writes the live set of each location into live, location 0 first, timer j at bit j, each of twins at its own.
  * live needs one entry for each location, CHART_MOST_LOCATIONS are always enough; entries beyond the locations are untouched.
  * Refusals: 1 to 10, 21. */
 chart_analysis chart_analyse(const uint8_t *file, size_t file_length, uint64_t *live, size_t live_length);
 
-/* Rewrites a chart file for a board of k timers. Writes the new file, which has the version of the file read, into out.
+/* Rewrites a chart file for a board of k timers. Writes the new file, which has the version of the file read, into out. Where twins are live they
+ * share a board timer, which a transition starts once.
  * out needs the new file's length, CHART_LARGEST_FILE bytes are always enough; bytes beyond it are untouched.
  * Refusals: 1 to 11, 20, 21. */
 chart_rewriting chart_rewrite(const uint8_t *file, size_t file_length, uint32_t k, uint8_t *out, size_t out_length);

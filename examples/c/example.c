@@ -1,5 +1,5 @@
 /* Analyses charts A and B of document 01 and two with many families, rewrites B for 16 timers and plays it, does the same with a chart of version 2
- * that has a long dwell time, plays B on the counter board, and prints the answers. */
+ * that has a long dwell time, plays B on the counter board, analyses, rewrites and plays a chart with twins, and prints the answers. */
 #include <inttypes.h>
 #include <stdio.h>
 
@@ -35,6 +35,15 @@ static const uint8_t DWELL[] = {
     0, 8, 0, 0, 0, 1, 0, 1, 0, 0,                    /* 0→1 */
     0, 14, 0, 1, 0, 2, 0, 1, 1, 1, 0, 2, 0, 1, 0, 1, /* 1→2 */
     0, 13, 0, 2, 0, 3, 0, 0, 1, 1, 2, 0, 0, 0, 1,    /* 2→3 */
+};
+
+/* Two timers that are always started together, 4 locations: 0→1 starts 0 and 1; 1→2 tests 0 at least 2; 2→3 tests 1 at most 9. */
+static const uint8_t TWINS[] = {
+    1, 0, 0, 0, 48,                                  /* version, length of the rest */
+    0, 4, 0, 0, 2, 0, 1, 0, 3, 0, 3,                 /* locations, initial, timers, accepting: 3; transitions */
+    0, 9, 0, 0, 0, 1, 0, 2, 0, 1, 0,                 /* 0→1 */
+    0, 11, 0, 1, 0, 2, 0, 0, 1, 0, 2, 0, 2,          /* 1→2 */
+    0, 11, 0, 2, 0, 3, 0, 0, 1, 1, 0, 0, 9,          /* 2→3 */
 };
 
 #define LENGTH(list) (sizeof(list) / sizeof(list)[0])
@@ -167,5 +176,15 @@ int main(void) {
     play_counter(B, sizeof B, counts, 2, transitions, first, one_late, LENGTH(one_late));
     play_counter(B, sizeof B, counts, 2, transitions, first, one_back, LENGTH(one_back));
     play_counter(DWELL, sizeof DWELL, counts, 2, transitions, first, across, LENGTH(across));
+
+    /* twins are live each for itself and share one board timer; in time and one tick late, as drawn and as rewritten */
+    const uint64_t both[] = {3, 5, 12}, second_late[] = {3, 5, 13};
+    printf("twins\n");
+    analyse(TWINS, sizeof TWINS, 8);
+    length = rewrite(TWINS, sizeof TWINS, 1, board, sizeof board);
+    play(TWINS, sizeof TWINS, counts, 2, transitions, both, LENGTH(both));
+    play(TWINS, sizeof TWINS, counts, 2, transitions, second_late, LENGTH(second_late));
+    play(board, length, counts, 1, transitions, both, LENGTH(both));
+    play(board, length, counts, 1, transitions, second_late, LENGTH(second_late));
     return 0;
 }

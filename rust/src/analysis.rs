@@ -5,6 +5,7 @@ use crate::floor::Floor;
 use crate::limits::{LOCATIONS, TIMERS, TRANSITIONS};
 use crate::refusal::{Answer, Refusal};
 use crate::sets::{LocationSet, TimerSet};
+use crate::twins::Twins;
 
 /// One entry for each location that a chart can have; a location's byte is always inside.
 type ByLocation<T> = [T; LOCATIONS];
@@ -14,7 +15,7 @@ type ByLocation<T> = [T; LOCATIONS];
 pub struct Analysis {
     /// One more than the largest board number given, 0 if there is no family. It may exceed the timers of any board.
     pub used: u64,
-    /// The smallest number of timers in any plan if `searched`, else the size of the fullest live set.
+    /// The smallest number of timers in any plan if `searched`, else the size of the fullest live set, twins counted once.
     pub floor: u64,
     /// Whether there are few enough families for the search.
     pub searched: bool,
@@ -31,10 +32,10 @@ pub fn analyse(file: &[u8], live: &mut [u64]) -> Answer<Analysis> {
         return Err(Refusal::nowhere(21));
     };
     let liveness = Liveness::of(&chart, graph);
-    let families = Families::of(&chart, &liveness);
+    let families = Families::of(&chart, &liveness, &Twins::of(&chart));
     let numbers = families.first_fit(usize::MAX).expect("without a limit every family gets a number");
     let used = u32::from(used(&numbers));
-    let Floor { timers, searched } = Floor::of(&families, &liveness, used);
+    let Floor { timers, searched } = Floor::of(&families, used);
     for (entry, set) in entries.iter_mut().zip(liveness.sets()) {
         *entry = set.word();
     }
@@ -216,14 +217,16 @@ impl Liveness {
         Liveness { locations: usize::from(chart.locations()), sets, rounds, leaving: graph.leaving, entering }
     }
 
-    /// The live set of each location of the chart.
+    /// The live set of each location of the chart, by drawn timers.
     pub fn sets(&self) -> &[TimerSet] {
         &self.sets[..self.locations]
     }
 
-    /// The size of the fullest live set.
-    pub fn fullest(&self) -> u32 {
-        self.sets().iter().map(|set| set.len()).max().unwrap_or(0)
+    /// The same with each timer as its lowest twin: that one is live wherever any of its twins is.
+    fn merged(&self, twins: &Twins) -> ByLocation<TimerSet> {
+        let mut merged = [TimerSet::EMPTY; LOCATIONS];
+        merged.iter_mut().zip(self.sets()).for_each(|(merged, &set)| *merged = twins.merged(set));
+        merged
     }
 }
 
@@ -274,24 +277,28 @@ pub fn used(numbers: &[u16]) -> u16 {
     numbers.iter().max().map_or(0, |largest| largest + 1)
 }
 
-/// A family: its timer and its locations.
+/// A family: its timer, the lowest of its twins, and its locations.
 #[derive(Clone, Copy, Debug, PartialEq, Eq)]
 pub struct Family {
     pub timer: u8,
     pub locations: LocationSet,
 }
 
-/// The families of a chart, by rising number.
-pub struct Families(Vec<Family>);
+/// The families of a chart, by rising number, and how many there are at the location that has most.
+pub struct Families {
+    list: Vec<Family>,
+    fullest: u32,
+}
 
 impl Families {
     /// Goes through the locations, rising. The live timers of a location that are in no family yet begin one family
-    /// each, and these propagate along their links all at once, as one word at each location.
-    pub fn of(chart: &Chart, liveness: &Liveness) -> Self {
+    /// each, and these propagate along their links all at once, as one word at each location. Twins are one timer here.
+    pub fn of(chart: &Chart, liveness: &Liveness, twins: &Twins) -> Self {
+        let merged = liveness.merged(twins);
         let mut families = Vec::new();
         let mut propagation = Propagation::default();
         let mut place = [0; TIMERS];
-        for (first, &live) in liveness.sets().iter().enumerate() {
+        for (first, &live) in merged[..liveness.locations].iter().enumerate() {
             let begun = live.minus(propagation.placed[first]);
             if begun.is_empty() {
                 continue;
@@ -300,19 +307,26 @@ impl Families {
                 place[usize::from(timer)] = families.len();
                 families.push(Family { timer, locations: LocationSet::EMPTY });
             }
-            propagation.run(chart, liveness, first as u8, begun);
+            propagation.run(chart, liveness, &merged, first as u8, begun);
             std::mem::take(&mut propagation.touched).iter().for_each(|location| {
                 for timer in std::mem::take(&mut propagation.members[usize::from(location)]) {
                     families[place[usize::from(timer)]].locations.add(location);
                 }
             });
         }
-        Families(families)
+        // Each live timer of a location is in a family of its own there.
+        let fullest = merged[..liveness.locations].iter().map(|set| set.len()).max().unwrap_or(0);
+        Families { list: families, fullest }
     }
 
     /// The families, by rising number.
     pub fn list(&self) -> &[Family] {
-        &self.0
+        &self.list
+    }
+
+    /// The size of the fullest live set, twins counted once.
+    pub fn fullest(&self) -> u32 {
+        self.fullest
     }
 
     /// Gives each family the smallest number below `limit` that no earlier family which it meets holds; none if all
@@ -320,8 +334,8 @@ impl Families {
     pub fn first_fit(&self, limit: usize) -> Option<Vec<u16>> {
         // Of each location the numbers held there, as many to a row as a word has bits.
         let mut held: Vec<ByLocation<u64>> = Vec::new();
-        let mut numbers = Vec::with_capacity(self.0.len());
-        for Family { locations, .. } in &self.0 {
+        let mut numbers = Vec::with_capacity(self.list.len());
+        for Family { locations, .. } in &self.list {
             let mut row = 0;
             let free = loop {
                 let Some(words) = held.get(row) else {
@@ -370,16 +384,16 @@ impl Default for Propagation {
 }
 
 impl Propagation {
-    /// Follows the links of `begun` from their first location.
-    fn run(&mut self, chart: &Chart, liveness: &Liveness, first: u8, begun: TimerSet) {
+    /// Follows the links of `begun` from their first location. `merged` has the live sets with twins as one timer.
+    fn run(&mut self, chart: &Chart, liveness: &Liveness, merged: &ByLocation<TimerSet>, first: u8, begun: TimerSet) {
         self.add(first, begun);
         while let Some(location) = self.pending.take_lowest() {
             let members = self.members[usize::from(location)];
             for transition in liveness.leaving.group(chart, location) {
-                let live = liveness.sets[usize::from(transition.target)];
+                let live = merged[usize::from(transition.target)];
                 self.add(transition.target, members.minus(transition.starts).common(live));
             }
-            // What is live at the target and not started is live at the source.
+            // What is live at the target and not started is live at the source; and twins are started together.
             for transition in liveness.entering.group(chart, location) {
                 self.add(transition.source, members.minus(transition.starts));
             }

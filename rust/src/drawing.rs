@@ -90,6 +90,19 @@ impl Drawing {
         self
     }
 
+    /// The same chart with transitions from the initial location to itself that tell all timers apart, so that none has a
+    /// twin: each is for a binary digit of the timers' numbers, and starts the timers that have a 1 there; six for 64
+    /// timers. Nothing is tested on them, and in an accepted chart nothing is live at the initial location: so live sets
+    /// and rounds stay, and families and numbers are what they are if each timer counts for itself.
+    pub fn told_apart(mut self) -> Self {
+        let digits = u8::BITS - self.timers.saturating_sub(1).leading_zeros();
+        for digit in 0..digits {
+            let starts: Vec<u8> = (0..self.timers).filter(|timer| timer >> digit & 1 == 1).collect();
+            self.transitions.push(Arrow::new(self.initial, self.initial).starts(&starts));
+        }
+        self
+    }
+
     /// The bytes of a constant: two in version 1, four in version 2 and in those that there are not.
     fn width(&self) -> usize {
         match self.version {
@@ -295,6 +308,62 @@ pub fn started_anew() -> Drawing {
             Arrow::new(0, 1).starts(&[0]),
             Arrow::new(1, 2).tests(0, AT_LEAST, 1).starts(&[0]),
             Arrow::new(2, 3).tests(0, AT_LEAST, 1),
+        ],
+    )
+}
+
+/// Twins 0 and 1: 0→1 starts both; 1→2 tests 0 at least 2; 2→3 tests 1 at most 9. One board timer serves both.
+pub fn two_twins() -> Drawing {
+    Drawing::new(
+        4,
+        2,
+        vec![
+            Arrow::new(0, 1).starts(&[0, 1]),
+            Arrow::new(1, 2).tests(0, AT_LEAST, 2),
+            Arrow::new(2, 3).tests(1, AT_MOST, 9),
+        ],
+    )
+}
+
+/// Twins 0 and 2, and timer 1 between them: 0→1 starts 0, 2; 1→2 tests 0 at least 1, starts 1; 2→3 tests 2 at most 4, 1 at
+/// most 4.
+pub fn twins_around() -> Drawing {
+    Drawing::new(
+        4,
+        3,
+        vec![
+            Arrow::new(0, 1).starts(&[0, 2]),
+            Arrow::new(1, 2).tests(0, AT_LEAST, 1).starts(&[1]),
+            Arrow::new(2, 3).tests(2, AT_MOST, 4).tests(1, AT_MOST, 4),
+        ],
+    )
+}
+
+/// Twins 0 and 2, of which 0 is tested nowhere, and yet names their family, so that it comes before timer 1's: 0→2 starts
+/// 0, 2; 2→1 starts 1; 1→3 tests 1 at most 4, 2 at most 4.
+pub fn lowest_untested() -> Drawing {
+    Drawing::new(
+        4,
+        3,
+        vec![
+            Arrow::new(0, 2).starts(&[0, 2]),
+            Arrow::new(2, 1).starts(&[1]),
+            Arrow::new(1, 3).tests(1, AT_MOST, 4).tests(2, AT_MOST, 4),
+        ],
+    )
+}
+
+/// Twins 0 and 1, both live at location 1, and 1 alone at 3: 0→1 starts both; 1→2 tests 0 at least 1; 1→3; 3→4 tests 1 at
+/// most 3. That is one family.
+pub fn twins_on_two_ways() -> Drawing {
+    Drawing::new(
+        5,
+        2,
+        vec![
+            Arrow::new(0, 1).starts(&[0, 1]),
+            Arrow::new(1, 2).tests(0, AT_LEAST, 1),
+            Arrow::new(1, 3),
+            Arrow::new(3, 4).tests(1, AT_MOST, 3),
         ],
     )
 }

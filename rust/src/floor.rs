@@ -1,9 +1,9 @@
 //! The floor (document 02, P1): with few families the smallest number of timers in any plan that gives meeting families
-//! different numbers, found by search; with more, the size of the fullest live set.
+//! different numbers, found by search; with more, the size of the fullest live set. Twins count once in both (P6).
 
 use std::collections::HashSet;
 
-use crate::analysis::{Families, Liveness};
+use crate::analysis::Families;
 use crate::limits::MOST_SEARCHED;
 
 /// How many timers a board needs at least, as far as the analysis tells.
@@ -16,9 +16,9 @@ pub struct Floor {
 
 impl Floor {
     /// The floor of a chart for which first fit uses `used` timers.
-    pub fn of(families: &Families, liveness: &Liveness, used: u32) -> Self {
+    pub fn of(families: &Families, used: u32) -> Self {
         // Families that are live at one location meet: no plan has fewer timers.
-        let fullest = liveness.fullest();
+        let fullest = families.fullest();
         if families.list().len() > MOST_SEARCHED {
             return Floor { timers: fullest, searched: false };
         }

@@ -88,7 +88,8 @@ pub struct Shape {
     pub transitions: u16,
     /// Of 100 transitions, how many start timers at all.
     pub starting: u64,
-    /// The fewest and the most timers that such a transition starts, where there are as many.
+    /// The fewest and the most timers that such a transition starts, where there are as many; groups of timers where there
+    /// are groups.
     pub starts: (u8, u8),
     /// The fewest and the most tests of a transition, where enough timers are surely started.
     pub tests: (u8, u8),
@@ -100,6 +101,9 @@ pub struct Shape {
     pub cycle: bool,
     /// Whether all tests are met for some 65,000 ticks.
     pub lenient: bool,
+    /// The most groups that its timers fall into: those of a group are always started together. With as many groups as
+    /// timers, or more, each is started for itself.
+    pub groups: u8,
 }
 
 impl Shape {
@@ -126,6 +130,7 @@ impl Shape {
             constant: random.pick(&[0, 3, 10, 10, 1_000, LARGEST_CONSTANT_VERSION_1, version.largest_constant()]),
             cycle: random.chance(1, 3),
             lenient: random.chance(1, 4),
+            groups: if random.chance(1, 2) { random.between(1, u64::from(timers.max(1))) as u8 } else { MOST_TIMERS },
         }
     }
 
@@ -142,6 +147,7 @@ impl Shape {
         constant: 20,
         cycle: false,
         lenient: false,
+        groups: MOST_TIMERS,
     };
 
     /// Many timers live everywhere and most of them started anew everywhere: many small families, whose numbers often
@@ -179,23 +185,28 @@ pub fn accepted(random: &mut Random, shape: &Shape) -> Drawing {
         accepting: (0..shape.locations).filter(|_| random.chance(1, 3)).collect(),
         transitions,
     };
+    let count = shape.groups.min(shape.timers);
+    let groups = groups(random, shape.timers, count);
     for transition in &mut drawing.transitions {
         transition.event = random.word() as u8;
         if shape.start_all && transition.source == order[0] {
             transition.starts = (0..shape.timers).collect();
         } else if shape.timers > 0 && random.below(100) < shape.starting {
-            let (fewest, most) = (shape.starts.0.min(shape.timers), shape.starts.1.min(shape.timers));
-            let mut timers: Vec<u8> = (0..shape.timers).collect();
-            random.shuffle(&mut timers);
-            timers.truncate(random.between(u64::from(fewest), u64::from(most)) as usize);
-            timers.sort_unstable();
-            transition.starts = timers;
+            let (fewest, most) = (shape.starts.0.min(count), shape.starts.1.min(count));
+            let mut chosen: Vec<u8> = (0..count).collect();
+            random.shuffle(&mut chosen);
+            chosen.truncate(random.between(u64::from(fewest), u64::from(most)) as usize);
+            let chosen = chosen.iter().fold(0_u64, |word, group| word | 1 << group);
+            let starts = |timer: &u8| chosen >> groups[usize::from(*timer)] & 1 == 1;
+            transition.starts = (0..shape.timers).filter(starts).collect();
         }
     }
+    // Where there are twins, some timers are tested nowhere: often the lowest of a group.
+    let tested = if count < shape.timers { random.word() } else { u64::MAX };
     let started = surely_started(&drawing);
     for transition in &mut drawing.transitions {
-        let usable: Vec<u8> =
-            (0..shape.timers).filter(|&timer| started[usize::from(transition.source)] >> timer & 1 == 1).collect();
+        let usable = started[usize::from(transition.source)] & tested;
+        let usable: Vec<u8> = (0..shape.timers).filter(|timer| usable >> timer & 1 == 1).collect();
         if usable.is_empty() {
             continue;
         }
@@ -205,6 +216,12 @@ pub fn accepted(random: &mut Random, shape: &Shape) -> Drawing {
         }
     }
     drawing
+}
+
+/// Of each timer the number of its group, below `count`. With as many groups as timers each has its own.
+fn groups(random: &mut Random, timers: u8, count: u8) -> Vec<u8> {
+    let group = |timer| if count < timers { random.below(u64::from(count)) as u8 } else { timer };
+    (0..timers).map(group).collect()
 }
 
 /// A comparison code and a constant for a test of such a chart.
@@ -246,6 +263,35 @@ pub fn store_about_counter(random: &mut Random, drawing: &mut Drawing, whole: u6
     }
 }
 
+/// Gives a chart more timers, if it may have more, each of which is started wherever one of those that it has is: a twin.
+/// All are numbered anew. A test of a timer names any of its twins, or all tests of it name one of them, so that often the
+/// lowest is tested nowhere.
+pub fn add_twins(random: &mut Random, drawing: &mut Drawing) {
+    let timers = usize::from(drawing.timers);
+    if timers == 0 || timers == TIMERS {
+        return;
+    }
+    // Of each timer by its new number the one that it was, or that it is a twin of.
+    let mut was: Vec<u8> = (0..drawing.timers).collect();
+    for _ in 0..random.between(1, (TIMERS - timers).min(timers) as u64) {
+        was.push(random.below(timers as u64) as u8);
+    }
+    random.shuffle(&mut was);
+    let named_now = |timer: u8| (0..was.len() as u8).filter(|&new| was[usize::from(new)] == timer).collect();
+    let mut names: Vec<Vec<u8>> = (0..drawing.timers).map(named_now).collect();
+    for transition in &mut drawing.transitions {
+        transition.starts = transition.starts.iter().flat_map(|&timer| names[usize::from(timer)].clone()).collect();
+        transition.starts.sort_unstable();
+    }
+    if random.chance(1, 2) {
+        names.iter_mut().for_each(|names| *names = vec![random.pick(names)]);
+    }
+    for test in drawing.transitions.iter_mut().flat_map(|transition| &mut transition.tests) {
+        test.0 = random.pick(&names[usize::from(test.0)]);
+    }
+    drawing.timers = was.len() as u8;
+}
+
 /// Of each location the timers that every path to it starts, as a word.
 fn surely_started(drawing: &Drawing) -> Vec<u64> {
     let mut started = vec![u64::MAX; usize::from(drawing.locations)];
@@ -271,7 +317,8 @@ fn surely_started(drawing: &Drawing) -> Vec<u64> {
 /// The timers are two halves, A and B. Each level has a group of families of A and one of B; but the last has no group
 /// of B, and so the last but one needs none of A. For any two different levels, a location has the A group of the one
 /// and the B group of the other, so that a group of level i meets groups that hold all numbers of the levels before it.
-/// A group's locations lie on a cycle that starts the other half only.
+/// A group's locations lie on a cycle that starts the other half only. The timers are told apart, since those of a half
+/// would be twins.
 pub fn many_numbers(levels: u16, half: u8) -> Drawing {
     let mut pairs = Vec::new();
     for level in 1..levels {
@@ -305,7 +352,7 @@ pub fn many_numbers(levels: u16, half: u8) -> Drawing {
             }
         }
     }
-    Drawing::new(pairs.len() as u16 + 2, 2 * half, transitions)
+    Drawing::new(pairs.len() as u16 + 2, 2 * half, transitions).told_apart()
 }
 
 /// The timers' second half, then the first.
@@ -315,7 +362,8 @@ fn swapped(all: &[u8], half: u8) -> (&[u8], &[u8]) {
 }
 
 /// A chart of five locations for which first fit hands out 65 numbers: the second family of timer 0 meets all others
-/// at location 3 and, at location 4, a family of timer `other` that holds number 0. `other` is not 0.
+/// at location 3 and, at location 4, a family of timer `other` that holds number 0. `other` is not 0. The timers are told
+/// apart, since all but these two would be twins.
 pub fn sixty_five_numbers(other: u8) -> Drawing {
     let all: Vec<u8> = (0..MOST_TIMERS).collect();
     let mut transitions = vec![
@@ -330,7 +378,7 @@ pub fn sixty_five_numbers(other: u8) -> Drawing {
         transition.tests = timers.iter().map(|&timer| (timer, 2, 0)).collect();
         transitions.push(transition);
     }
-    Drawing::new(5, MOST_TIMERS, transitions)
+    Drawing::new(5, MOST_TIMERS, transitions).told_apart()
 }
 
 /// A chart with one family for each entry of `timers`, in that order, each of the timer that the entry names, and
@@ -475,7 +523,8 @@ pub fn random_chain(random: &mut Random) -> Drawing {
 }
 
 /// The longest file of a version that passes 1 to 10, 54,254 bytes in version 1 and 62,430 in version 2: all limits are
-/// reached, but the one transition that leaves the initial location has no tests.
+/// reached, but the one transition that leaves the initial location has no tests. Every transition starts all timers, so
+/// that all are twins.
 pub fn longest(random: &mut Random, version: Version) -> Drawing {
     let all: Vec<u8> = (0..MOST_TIMERS).collect();
     let last = MOST_LOCATIONS - 1;

@@ -8,7 +8,8 @@
 //! - [`chart`]: the chart, its reader (refusals 1 to 8) and its writer;
 //! - [`lists`]: the same reader and writer over lent lists;
 //! - [`analysis`]: reached, unstarted, live with the number of rounds; families, their board numbers, used;
-//! - [`floor`]: the fewest timers of any plan, or the fullest live set;
+//! - [`twins`]: timers that are always started together, which count as one before families are formed;
+//! - [`floor`]: the fewest timers of any plan, or the fullest live set with twins counted once;
 //! - [`rewriting`]: the chart's file for a board of K timers;
 //! - [`player`]: a step list, played on a file;
 //! - [`counter`]: the same on readings of a counter, for a board without timers;
@@ -41,6 +42,7 @@ pub mod rewriting;
 pub mod sets;
 pub mod tally;
 pub mod trials;
+pub mod twins;
 pub mod version;
 
 #[cfg(feature = "library")]

@@ -6,6 +6,7 @@ use crate::floor::Floor;
 use crate::limits::{MOST_TIMERS, TIMERS};
 use crate::refusal::{Answer, Refusal};
 use crate::sets::TimerSet;
+use crate::twins::Twins;
 
 /// What the rewriting returns beside the file.
 #[derive(Clone, Copy, Debug, PartialEq, Eq)]
@@ -16,13 +17,14 @@ pub struct Rewriting {
     pub length: u64,
 }
 
-/// A chart with its live sets and the board number of each pair of a location and a live timer.
+/// A chart with its live sets and the board number of each pair of a location and a live timer; twins share theirs.
 pub struct Plan {
     chart: Chart,
     liveness: Liveness,
+    twins: Twins,
     families: Families,
     used: u8,
-    /// By [`pair`]; 0 where the timer is not live.
+    /// By [`pair`] of a location and a lowest twin; 0 where none of the twins is live.
     numbers: Vec<u8>,
 }
 
@@ -48,7 +50,8 @@ impl Plan {
         let graph = judge(&chart)?;
         judge_board(k)?;
         let liveness = Liveness::of(&chart, graph);
-        let families = Families::of(&chart, &liveness);
+        let twins = Twins::of(&chart);
+        let families = Families::of(&chart, &liveness, &twins);
         let given = families.first_fit(k as usize).ok_or(Refusal::nowhere(20))?;
         let mut numbers = vec![0; TIMERS * usize::from(chart.locations())];
         for (family, &number) in families.list().iter().zip(&given) {
@@ -56,7 +59,7 @@ impl Plan {
                 numbers[pair(location, family.timer)] = number as u8;
             });
         }
-        Ok(Plan { chart, liveness, families, used: used(&given) as u8, numbers })
+        Ok(Plan { chart, liveness, twins, families, used: used(&given) as u8, numbers })
     }
 
     /// One more than the largest number given: at most [`MOST_TIMERS`].
@@ -66,26 +69,28 @@ impl Plan {
 
     /// The chart's floor. It is found anew at each call.
     pub fn floor(&self) -> Floor {
-        Floor::of(&self.families, &self.liveness, u32::from(self.used))
+        Floor::of(&self.families, u32::from(self.used))
     }
 
-    /// The live set of each location of the chart.
+    /// The live set of each location of the chart, by drawn timers.
     pub fn live(&self) -> &[TimerSet] {
         self.liveness.sets()
     }
 
-    /// The board number of the family of a timer that is live at the location.
+    /// The board number of the family of a timer that is live at the location; the family is that of its twins.
     #[inline]
     pub fn number(&self, location: u8, timer: u8) -> u8 {
-        self.numbers[pair(location, timer)]
+        self.numbers[pair(location, self.twins.lowest(timer))]
     }
 
     /// Writes the rewritten chart's file to the front of `out` and returns its length. Judges 21.
     ///
     /// A test reads the number at the transition's source. Of the starts only those live at the target remain, under
-    /// their number there; they form a set, so they stand rising and each once.
+    /// their number there, which twins share; they form a set, so they stand rising and each once.
     fn write(&self, out: &mut [u8]) -> Answer<usize> {
-        let born = |transition: &Transition| transition.starts.common(self.live()[usize::from(transition.target)]);
+        let born = |transition: &Transition| {
+            self.twins.merged(transition.starts.common(self.live()[usize::from(transition.target)]))
+        };
         let length = self.chart.file_length_with(|transition| born(transition).len());
         let Some(file) = out.get_mut(..length) else {
             return Err(Refusal::nowhere(21));

@@ -8,6 +8,7 @@
 use std::collections::BTreeMap;
 
 use timing_chart::analysis::{self, Analysis};
+use timing_chart::chart::Chart;
 use timing_chart::controller::{self, Board, Head, Parts, Report, SetUp, Start, State, Turn};
 use timing_chart::counter::{self, CounterPlaying};
 use timing_chart::limits::{LARGEST_FILE, LOCATIONS};
@@ -15,11 +16,83 @@ use timing_chart::listing::listing;
 use timing_chart::lists::{self, Header, Lists};
 use timing_chart::player::{self, Playing};
 use timing_chart::rewriting::{self, Rewriting};
+use timing_chart::twins::Twins;
 use timing_chart::{Answer, Refusal};
 
-/// The cases that hold now: of each file how many there are, and how many of them expect a number of rounds.
-const CASES: [(&str, usize, usize); 5] =
-    [("p01.jsonl", 48, 0), ("p02.jsonl", 125, 0), ("p03.jsonl", 52, 52), ("p04.jsonl", 81, 0), ("p05.jsonl", 86, 0)];
+/// The cases that hold now, but for those of [`SUPERSEDED`]: of each file how many there are, and how many of them expect
+/// a number of rounds.
+const CASES: [(&str, usize, usize); 6] = [
+    ("p01.jsonl", 48, 0),
+    ("p02.jsonl", 125, 0),
+    ("p03.jsonl", 52, 52),
+    ("p04.jsonl", 81, 0),
+    ("p05.jsonl", 86, 0),
+    ("p06.jsonl", 53, 15),
+];
+
+/// The cases whose answers a later request has changed, with the figures that hold now: by document 02, P6, since their
+/// charts have twins. They were computed for the request of their file, and stand there as they were.
+const SUPERSEDED: [Superseded; 8] = [
+    Superseded { file: "p01.jsonl", line: 46, used: 10, floor: 10, searched: true },
+    Superseded { file: "p01.jsonl", line: 47, used: 10, floor: 10, searched: true },
+    Superseded { file: "p01.jsonl", line: 48, used: 10, floor: 10, searched: true },
+    Superseded { file: "p03.jsonl", line: 13, used: 10, floor: 10, searched: true },
+    Superseded { file: "p03.jsonl", line: 25, used: 4, floor: 4, searched: true },
+    Superseded { file: "p03.jsonl", line: 27, used: 10, floor: 10, searched: false },
+    Superseded { file: "p03.jsonl", line: 28, used: 9, floor: 9, searched: true },
+    Superseded { file: "p03.jsonl", line: 36, used: 20, floor: 20, searched: false },
+];
+
+/// A case, and its figures by now; of the rewriting `used` alone counts.
+struct Superseded {
+    file: &'static str,
+    line: usize,
+    used: u64,
+    floor: u64,
+    searched: bool,
+}
+
+impl Superseded {
+    /// The case with the answer that holds now. What twins do not change stays the case's: the live sets and the rounds,
+    /// and which timers the program lists. The board numbers and the rewritten file are this crate's, which
+    /// tests/definitions.rs compares with the definitions.
+    fn now(&self, case: &Json) -> Json {
+        let chart = Chart::read(&case.bytes("file")).expect("the chart is accepted");
+        assert_ne!(Twins::of(&chart), Twins::NONE);
+        let now = match case.text("call") {
+            "analysis" => {
+                let answer = case.get("answer").expect("a result").clone();
+                let figures = answer.with("used", Json::Number(self.used)).with("floor", Json::Number(self.floor));
+                figures.with("searched", Json::Bool(self.searched))
+            }
+            "program" => {
+                let text = listing(&program_input(case));
+                let word = if self.searched { "floor" } else { "seen" };
+                let figures = format!("used {} {word} {} limit {}\n", self.used, self.floor, case.number("k"));
+                assert!(text.starts_with(&figures));
+                assert_eq!(listed(&text), listed(case.text("answer")));
+                Json::Text(text)
+            }
+            "rewriting" => {
+                let mut out = vec![0; LARGEST_FILE];
+                let answer = rewriting::rewrite(&case.bytes("file"), case.number("k") as u32, &mut out);
+                let length = answer.expect("the chart fits the board").length as usize;
+                let file = out[..length].iter().map(|byte| format!("{byte:02x}")).collect();
+                let answer = case.get("answer").expect("a result").clone();
+                answer.with("used", Json::Number(self.used)).with("file", Json::Text(file))
+            }
+            call => panic!("no figures of {call}"),
+        };
+        assert_ne!(Some(&now), case.get("answer"));
+        case.clone().with("answer", now)
+    }
+}
+
+/// The locations of the program's text with the timers that are listed there, without their board numbers.
+fn listed(text: &str) -> Vec<Vec<&str>> {
+    let timer = |word| str::split(word, '>').next().expect("a word has a first part");
+    text.lines().skip(1).map(|line| line.split(' ').map(timer).collect()).collect()
+}
 
 /// JSON as the cases have it: whole numbers, and texts with no escape but `\n`.
 #[derive(Clone, Debug, PartialEq)]
@@ -141,6 +214,13 @@ impl Json {
         entries.iter().map(|entry| number(entry).expect("a number of the call's type")).collect()
     }
 
+    /// The object with another value under a name.
+    fn with(mut self, name: &str, value: Json) -> Json {
+        let Json::Object(entries) = &mut self else { panic!("no object: {self:?}") };
+        entries.insert(name.to_string(), value);
+        self
+    }
+
     /// The number of rounds that a case of the analysis expects; none in the cases from before it was asked for.
     fn rounds(&self) -> Option<u64> {
         match self.get("answer") {
@@ -206,8 +286,7 @@ impl Calls {
     }
 
     fn check_program(&self, case: &Json) {
-        let k = u8::try_from(case.number("k")).expect("K is a byte");
-        let input = [vec![k], case.bytes("file")].concat();
+        let input = program_input(case);
         let expected = case.expected(|_| case.text("answer").to_string());
         assert_eq!((self.print)(&input), expected.unwrap_or_else(|refusal| format!("{refusal}\n")));
     }
@@ -326,12 +405,21 @@ impl Calls {
             let cases: Vec<Json> = text.lines().map(Json::read).collect();
             assert_eq!(cases.len(), count);
             assert_eq!(cases.iter().filter(|case| case.rounds().is_some()).count(), with_rounds);
-            for (index, case) in cases.iter().enumerate() {
-                println!("{name}, line {}", index + 1);
-                self.check(case);
+            for (line, case) in (1..).zip(&cases) {
+                println!("{name}, line {line}");
+                match SUPERSEDED.iter().find(|superseded| superseded.file == name && superseded.line == line) {
+                    Some(superseded) => self.check(&superseded.now(case)),
+                    None => self.check(case),
+                }
             }
         }
     }
+}
+
+/// The program's input of a case: K, then the file.
+fn program_input(case: &Json) -> Vec<u8> {
+    let k = u8::try_from(case.number("k")).expect("K is a byte");
+    [vec![k], case.bytes("file")].concat()
 }
 
 /// The heads of a case on their board, with their starting counts.

@@ -3,10 +3,13 @@
 
 use std::collections::BTreeSet;
 
-use timing_chart::analysis::{analyse, Analysis};
+use timing_chart::analysis::{self, analyse, Analysis};
 use timing_chart::chart::Chart;
 use timing_chart::counter::{play_counter, CounterPlaying};
-use timing_chart::drawing::{chart_a, chart_b, chart_c, dwell, over_floor, self_loop, Arrow, Drawing, AT_LEAST};
+use timing_chart::drawing::{
+    chart_a, chart_b, chart_c, dwell, lowest_untested, over_floor, self_loop, twins_around, twins_on_two_ways,
+    two_twins, Arrow, Drawing, AT_LEAST,
+};
 use timing_chart::generator::*;
 use timing_chart::limits::{
     LARGEST_CONSTANT_VERSION_1, LARGEST_FILE, LOCATIONS, MOST_LOCATIONS, MOST_SEARCHED, MOST_TESTS, MOST_TICKS,
@@ -16,6 +19,7 @@ use timing_chart::lists::{self, Header, LentLists, Lists};
 use timing_chart::player::{play, Playing};
 use timing_chart::rewriting::{rewrite, Rewriting};
 use timing_chart::tally::{number_of, ByNumber};
+use timing_chart::twins::Twins;
 use timing_chart::version::Version;
 use timing_chart::{Answer, Refusal, NOWHERE};
 
@@ -77,21 +81,48 @@ fn in_rounds(drawing: &Drawing) -> (Vec<u64>, u64) {
     }
 }
 
+/// Whether every transition starts both timers or neither.
+fn are_twins(drawing: &Drawing, first: u8, second: u8) -> bool {
+    drawing.transitions.iter().all(|transition| transition.is_start(first) == transition.is_start(second))
+}
+
+/// Of each timer the lowest of its twins.
+fn lowest_twins(drawing: &Drawing) -> Vec<u8> {
+    let lowest = |timer| (0..=timer).find(|&other| are_twins(drawing, other, timer)).expect("it is its own twin");
+    (0..drawing.timers).map(lowest).collect()
+}
+
 /// A pair of a location and a timer, ordered as 64 times the location plus the timer.
 type Pair = (u16, u8);
 
 struct Planned {
+    /// The pairs of drawn timers that are live.
+    drawn: BTreeSet<Pair>,
+    /// Of each drawn timer the one that stands for it in families.
+    stands: Vec<u8>,
+    /// The pairs of these.
     pairs: BTreeSet<Pair>,
     /// Each family with its board number.
     families: Vec<(BTreeSet<Pair>, usize)>,
 }
 
 impl Planned {
+    /// Twins count as the lowest of them.
     fn of(drawing: &Drawing) -> Self {
-        let mut pairs = BTreeSet::new();
+        Planned::with(drawing, lowest_twins(drawing))
+    }
+
+    /// Each timer counts for itself, as it did before twins were looked for.
+    fn without_twins(drawing: &Drawing) -> Self {
+        Planned::with(drawing, (0..drawing.timers).collect())
+    }
+
+    fn with(drawing: &Drawing, stands: Vec<u8>) -> Self {
+        let mut drawn = BTreeSet::new();
         for location in 0..drawing.locations {
-            pairs.extend((0..drawing.timers).filter(|&j| is_live(drawing, location, j)).map(|j| (location, j)));
+            drawn.extend((0..drawing.timers).filter(|&j| is_live(drawing, location, j)).map(|j| (location, j)));
         }
+        let pairs: BTreeSet<Pair> = drawn.iter().map(|&(q, j)| (q, stands[usize::from(j)])).collect();
         let mut left = pairs.clone();
         let mut families: Vec<(BTreeSet<Pair>, usize)> = Vec::new();
         while let Some(first) = left.pop_first() {
@@ -113,7 +144,7 @@ impl Planned {
             let number = (0..).find(|number| !held.contains(number)).unwrap();
             families.push((family, number));
         }
-        Planned { pairs, families }
+        Planned { drawn, stands, pairs, families }
     }
 
     fn used(&self) -> usize {
@@ -159,18 +190,24 @@ impl Planned {
         if self.families.len() <= MOST_SEARCHED {
             return (self.fewest(), true);
         }
-        let sizes = self.live_sets(drawing).into_iter().map(|set| u64::from(set.count_ones()));
-        (sizes.max().unwrap(), false)
+        let sizes = (0..drawing.locations).map(|q| self.pairs.iter().filter(|pair| pair.0 == q).count());
+        (sizes.max().unwrap() as u64, false)
     }
 
-    fn number(&self, location: u16, timer: u8) -> u8 {
-        let family = self.families.iter().find(|family| family.0.contains(&(location, timer)));
-        family.expect("the timer is live there").1 as u8
+    /// The board number of a drawn timer that is live at the location.
+    fn number(&self, location: u16, timer: u8) -> usize {
+        let pair = (location, self.stands[usize::from(timer)]);
+        self.families.iter().find(|family| family.0.contains(&pair)).expect("the timer is live there").1
+    }
+
+    /// The board numbers of all drawn timers that are live somewhere.
+    fn numbers(&self) -> Vec<(Pair, usize)> {
+        self.drawn.iter().map(|&(location, timer)| ((location, timer), self.number(location, timer))).collect()
     }
 
     fn live_sets(&self, drawing: &Drawing) -> Vec<u64> {
         let set =
-            |location| self.pairs.iter().filter(|pair| pair.0 == location).fold(0, |word, pair| word | 1 << pair.1);
+            |location| self.drawn.iter().filter(|pair| pair.0 == location).fold(0, |word, pair| word | 1 << pair.1);
         (0..drawing.locations).map(set).collect()
     }
 
@@ -179,10 +216,10 @@ impl Planned {
         result.timers = self.used() as u8;
         for transition in &mut result.transitions {
             for test in &mut transition.tests {
-                test.0 = self.number(transition.source, test.0);
+                test.0 = self.number(transition.source, test.0) as u8;
             }
-            let born = transition.starts.iter().filter(|&&timer| self.pairs.contains(&(transition.target, timer)));
-            let numbers: BTreeSet<u8> = born.map(|&timer| self.number(transition.target, timer)).collect();
+            let born = transition.starts.iter().filter(|&&timer| self.drawn.contains(&(transition.target, timer)));
+            let numbers: BTreeSet<u8> = born.map(|&timer| self.number(transition.target, timer) as u8).collect();
             transition.starts = numbers.into_iter().collect();
         }
         result
@@ -211,7 +248,8 @@ fn all_met(transition: &Arrow, counts: &[u64]) -> bool {
     })
 }
 
-fn played(drawing: &Drawing, counts: &[u32], steps: &Steps) -> Answer<Playing> {
+/// Where a step list ends, and when, with the counts of all timers.
+fn end_of(drawing: &Drawing, counts: &[u32], steps: &Steps) -> Answer<(u16, u64, Vec<u64>)> {
     judged_lists(drawing, counts, steps.transitions.len(), steps.times.len())?;
     let mut counts: Vec<u64> = counts.iter().map(|&count| u64::from(count)).collect();
     let (mut location, mut now) = (drawing.initial, 0);
@@ -241,7 +279,12 @@ fn played(drawing: &Drawing, counts: &[u32], steps: &Steps) -> Answer<Playing> {
         }
         (location, now) = (transition.target, time);
     }
-    Ok(Playing { location: u64::from(location), time: now, accepting: drawing.accepting.contains(&location) })
+    Ok((location, now, counts))
+}
+
+fn played(drawing: &Drawing, counts: &[u32], steps: &Steps) -> Answer<Playing> {
+    let (location, time, _) = end_of(drawing, counts, steps)?;
+    Ok(Playing { location: u64::from(location), time, accepting: drawing.accepting.contains(&location) })
 }
 
 /// How often a step's tests read a count that had stopped on the counter board, and were met or were not.
@@ -363,6 +406,10 @@ fn analysis_and_rewriting_follow_the_definitions() {
         chart_b(),
         chart_c(),
         over_floor(),
+        two_twins(),
+        twins_around(),
+        lowest_untested(),
+        twins_on_two_ways(),
         many_numbers(4, 16),
         many_numbers(5, 16),
         sixty_five_numbers(1),
@@ -383,6 +430,125 @@ fn dense_charts_follow_the_definitions() {
         let drawing = accepted(&mut random, &shape);
         check_analysis_and_rewriting(&mut random, &drawing);
     }
+}
+
+/// The board numbers that this crate gives to all drawn timers that are live somewhere, if `twins` stand for them.
+fn given_numbers(drawing: &Drawing, twins: &Twins) -> Vec<(Pair, usize)> {
+    let chart = Chart::read(&drawing.file()).unwrap();
+    let liveness = analysis::Liveness::of(&chart, analysis::judge(&chart).unwrap());
+    let families = analysis::Families::of(&chart, &liveness, twins);
+    let numbers = families.first_fit(usize::MAX).unwrap();
+    let number = |q: u8, timer: u8| {
+        let holds = |family: &analysis::Family| family.timer == timer && family.locations.has(q);
+        usize::from(numbers[families.list().iter().position(holds).expect("the timer is live there")])
+    };
+    let live = liveness.sets().iter().enumerate().flat_map(|(q, &set)| set.into_iter().map(move |j| (q as u8, j)));
+    live.map(|(q, j)| ((u16::from(q), j), number(q, twins.lowest(j)))).collect()
+}
+
+/// Random charts that pass 1 to 10, and the document's charts with twins.
+fn charts_with_twins(random: &mut Random, count: usize) -> Vec<Drawing> {
+    let mut all: Vec<Drawing> = drawings(random, count, 8).filter(|drawing| judged(drawing).is_ok()).collect();
+    all.extend([two_twins(), twins_around(), lowest_untested(), twins_on_two_ways()]);
+    all
+}
+
+#[test]
+fn twins_follow_the_definition() {
+    let mut random = Random::new(13);
+    let (mut pairs, mut groups, mut met) = (0, 0, 0);
+    for drawing in charts_with_twins(&mut random, 500) {
+        let twins = Twins::of(&Chart::read(&drawing.file()).unwrap());
+        let lowest = lowest_twins(&drawing);
+        // Every timer is its own twin, and twins of twins are twins: these are the timers with one lowest twin.
+        for first in 0..drawing.timers {
+            assert_eq!(twins.lowest(first), lowest[usize::from(first)]);
+            for second in 0..drawing.timers {
+                let same = lowest[usize::from(first)] == lowest[usize::from(second)];
+                assert_eq!(are_twins(&drawing, first, second), same);
+                pairs += u64::from(first < second && same);
+            }
+        }
+        groups += u64::from(lowest.iter().any(|first| lowest.iter().filter(|other| *other == first).count() > 2));
+        // On every path they are last started at the same step, or not at all.
+        let mut location = drawing.initial;
+        let mut started = vec![None; usize::from(drawing.timers)];
+        for step in 0..40 {
+            let leaving: Vec<&Arrow> = drawing.transitions.iter().filter(|arrow| arrow.source == location).collect();
+            if leaving.is_empty() {
+                break;
+            }
+            let taken = random.pick(&leaving);
+            taken.starts.iter().for_each(|&timer| started[usize::from(timer)] = Some(step));
+            location = taken.target;
+            for timer in 0..usize::from(drawing.timers) {
+                assert_eq!(started[timer], started[usize::from(lowest[timer])]);
+                met += u64::from(started[timer].is_some() && usize::from(lowest[timer]) < timer);
+            }
+        }
+    }
+    assert!(pairs > 500 && groups > 50 && met > 1_000, "{pairs} {groups} {met}");
+}
+
+#[test]
+fn twins_have_one_number_where_they_are_live() {
+    let mut random = Random::new(14);
+    let (mut shared, mut unled, mut parted) = (0, 0, 0);
+    for drawing in charts_with_twins(&mut random, 800) {
+        let planned = Planned::of(&drawing);
+        let numbers = given_numbers(&drawing, &Twins::of(&Chart::read(&drawing.file()).unwrap()));
+        assert_eq!(numbers, planned.numbers());
+        let is_live = |location, timer| planned.drawn.contains(&(location, timer));
+        let somewhere = |timer| (0..drawing.locations).any(|location| is_live(location, timer));
+        // A pair of a location and a lowest twin is there exactly where some of the twins is live.
+        for location in 0..drawing.locations {
+            for lowest in (0..drawing.timers).filter(|&timer| planned.stands[usize::from(timer)] == timer) {
+                let of_twins = |&timer: &u8| are_twins(&drawing, lowest, timer) && is_live(location, timer);
+                let any = (0..drawing.timers).any(|timer| of_twins(&timer));
+                assert_eq!(planned.pairs.contains(&(location, lowest)), any);
+                unled += u64::from(any && !somewhere(lowest));
+                parted += u64::from(any && !is_live(location, lowest) && somewhere(lowest));
+            }
+        }
+        // At one location twins have one number and others have different ones.
+        for &((location, first), number) in &numbers {
+            for &((_, second), other) in numbers.iter().filter(|((q, second), _)| *q == location && *second != first) {
+                assert_eq!(are_twins(&drawing, first, second), other == number);
+                shared += u64::from(other == number);
+            }
+        }
+    }
+    assert!(shared > 500 && unled > 100 && parted > 50, "{shared} {unled} {parted}");
+}
+
+#[test]
+fn without_twins_the_numbers_are_what_they_were() {
+    let mut random = Random::new(15);
+    let (mut apart, mut others) = (0, 0);
+    for drawing in charts_with_twins(&mut random, 800) {
+        let before = Planned::without_twins(&drawing);
+        assert_eq!(given_numbers(&drawing, &Twins::NONE), before.numbers());
+        let told_apart = drawing.clone().told_apart();
+        let analysed = |drawing: &Drawing| {
+            let mut live = [5; LOCATIONS];
+            (analyse(&drawing.file(), &mut live).expect("a chart that is accepted"), live)
+        };
+        let ((figures, live), (told, told_live)) = (analysed(&drawing), analysed(&told_apart));
+        let (floor, searched) = before.floor(&drawing);
+        assert_eq!(told, Analysis { used: before.used() as u64, floor, searched, rounds: figures.rounds });
+        assert_eq!(live, told_live);
+        let twins = Twins::of(&Chart::read(&told_apart.file()).unwrap());
+        assert_eq!(twins, Twins::NONE);
+        assert_eq!(given_numbers(&told_apart, &twins), before.numbers());
+        match Twins::of(&Chart::read(&drawing.file()).unwrap()) {
+            Twins::NONE => {
+                assert_eq!(figures, told);
+                apart += 1;
+            }
+            twins => others += u64::from(given_numbers(&drawing, &twins) != before.numbers()),
+        }
+    }
+    assert!(apart > 100 && others > 100, "{apart} {others}");
 }
 
 #[test]
@@ -423,11 +589,27 @@ fn rounds_follow_the_definitions() {
     assert!([1, 2, 256].iter().all(|rounds| numbers.contains(rounds)) && numbers.len() > 50, "{numbers:?}");
 }
 
+/// Whether at every point of a run the board timer of each live drawn timer shows its count: after each step that is
+/// taken, since both grow alike until the next one. Answers how many counts of twins that are not the lowest were compared.
+fn shows_all(planned: &Planned, drawn: (&Drawing, &[u32]), board: (&Drawing, &[u32]), steps: &Steps) -> u64 {
+    let mut compared = 0;
+    for count in 0..=steps.times.len().min(steps.transitions.len()) {
+        let part = Steps { transitions: steps.transitions[..count].to_vec(), times: steps.times[..count].to_vec() };
+        let ends = [drawn, board].map(|(drawing, start)| end_of(drawing, start, &part));
+        let [Ok((location, _, counts)), Ok((_, _, on_board))] = &ends else { break };
+        for &(_, timer) in planned.drawn.iter().filter(|pair| pair.0 == *location) {
+            assert_eq!(counts[usize::from(timer)], on_board[planned.number(*location, timer)]);
+            compared += u64::from(planned.stands[usize::from(timer)] != timer);
+        }
+    }
+    compared
+}
+
 #[test]
 fn the_player_follows_the_definitions_and_boards_play_alike() {
     let mut random = Random::new(3);
     let drawings: Vec<Drawing> = drawings(&mut random, 2_000, 10).filter(|drawing| judged(drawing).is_ok()).collect();
-    let (mut taken, mut large) = (0, [0; 2]);
+    let (mut taken, mut shown, mut large) = (0, 0, [0; 2]);
     for drawing in &drawings {
         let planned = Planned::of(drawing);
         for _ in 0..4 {
@@ -452,12 +634,13 @@ fn the_player_follows_the_definitions_and_boards_play_alike() {
             }
             if planned.used() <= 64 && answer.err().map(|refusal| refusal.number) != Some(12) {
                 let board = planned.rewritten(drawing);
-                let start = counts(&mut random, planned.used(), true);
-                assert_eq!(play(&board.file(), &start, &steps.transitions, &steps.times), answer);
+                let for_board = counts(&mut random, planned.used(), true);
+                assert_eq!(play(&board.file(), &for_board, &steps.transitions, &steps.times), answer);
+                shown += shows_all(&planned, (drawing, &start), (&board, &for_board), &steps);
             }
         }
     }
-    assert!(taken > 500, "{taken}");
+    assert!(taken > 500 && shown > 1_000, "{taken} {shown}");
     assert!(large.iter().all(|&count| count > 20), "{large:?}");
 }
 

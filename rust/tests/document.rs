@@ -12,6 +12,7 @@ use timing_chart::listing::listing;
 use timing_chart::lists::{self, Header, Lists};
 use timing_chart::player::{play, Playing};
 use timing_chart::rewriting::{rewrite, Rewriting};
+use timing_chart::twins::Twins;
 use timing_chart::version::Version;
 use timing_chart::{Answer, Refusal, NOWHERE};
 
@@ -42,7 +43,7 @@ fn seen(used: u64, floor: u64, rounds: u64) -> Analysis {
 fn families(drawing: &Drawing) -> Vec<(usize, u16)> {
     let chart = Chart::read(&drawing.file()).unwrap();
     let graph = analysis::judge(&chart).unwrap();
-    let families = analysis::Families::of(&chart, &analysis::Liveness::of(&chart, graph));
+    let families = analysis::Families::of(&chart, &analysis::Liveness::of(&chart, graph), &Twins::of(&chart));
     let numbers = families.first_fit(usize::MAX).unwrap();
     let number = |family: &analysis::Family| {
         let lowest = family.locations.iter().next().unwrap();
@@ -972,7 +973,14 @@ fn used_may_exceed_64() {
     let (live, answer) = live_of(&small.file());
     assert_eq!(answer, seen(65, 64, 3));
     assert_eq!(live[3], (0..64).collect::<Vec<_>>());
-    assert_eq!(rewritten(&small, 64), refused(20, NOWHERE));
+    assert_eq!(families(&small).len(), 66);
+    assert!((0..=64).all(|k| rewritten(&small, k) == refused(20, NOWHERE)));
+    // Without the six transitions that tell its timers apart, 62 of them are twins.
+    let mut twins = small.clone();
+    twins.transitions.retain(|transition| transition.source != transition.target);
+    assert_eq!(twins.transitions.len() + 6, small.transitions.len());
+    assert_eq!(families(&twins), [(69, 0), (128, 0), (129, 1), (133, 2), (192, 3)]);
+    assert_eq!(live_of(&twins.file()), (live, searched(4, 3, 3)));
     for (levels, half) in [(3, 8), (4, 16), (8, 32), (17, 5), (17, 32)] {
         let drawing = many_numbers(levels, half);
         let answer = live_of(&drawing.file()).1;
@@ -985,6 +993,11 @@ fn used_may_exceed_64() {
     }
 }
 
+/// The program's text for a board of K timers and a chart.
+fn with_k(k: u8, file: Vec<u8>) -> String {
+    listing(&[vec![k], file].concat())
+}
+
 #[test]
 fn all_64_timers_at_once() {
     let all: Vec<u8> = (0..64).collect();
@@ -994,24 +1007,141 @@ fn all_64_timers_at_once() {
         transition.tests = timers.iter().map(|&timer| (timer, AT_LEAST, 0)).collect();
         transitions.push(transition);
     }
-    let drawing = Drawing::new(2, 64, transitions);
+    let twins = Drawing::new(2, 64, transitions);
+    let drawing = twins.clone().told_apart();
     assert_eq!(live_of(&drawing.file()).1, seen(64, 64, 2));
-    assert_eq!(rewritten(&drawing, 64), Ok(drawing.file()));
+    let mut board = drawing.clone();
+    board.transitions[9..].iter_mut().for_each(|transition| transition.starts.clear());
+    assert_eq!(rewritten(&drawing, 64), Ok(board.file()));
     assert_eq!(rewritten(&drawing, 63), refused(20, NOWHERE));
-    let mut input = vec![64];
-    input.extend(drawing.file());
-    let text = listing(&input);
+    let text = with_k(64, drawing.file());
     assert!(text.starts_with("used 64 seen 64 limit 64\nat 0\nat 1 0>0 1>1 "));
     assert!(text.ends_with(" 62>62 63>63\n"));
+
+    // As twins they take one timer, and are live each for itself.
+    let (live, answer) = live_of(&twins.file());
+    assert_eq!((&live[1], answer), (&all, searched(1, 1, 2)));
+    let mut board = twins.clone();
+    board.timers = 1;
+    board.transitions[0].starts = vec![0];
+    board.transitions.iter_mut().flat_map(|transition| &mut transition.tests).for_each(|test| test.0 = 0);
+    assert_eq!(rewritten(&twins, 1), Ok(board.file()));
+    assert_eq!(rewritten(&twins, 0), refused(20, NOWHERE));
+    let text = with_k(1, twins.file());
+    assert!(text.starts_with("used 1 floor 1 limit 1\nat 0\nat 1 0>0 1>0 "));
+    assert!(text.ends_with(" 62>0 63>0\n"));
+}
+
+#[test]
+fn twins_share_a_number() {
+    let drawing = two_twins();
+    assert_eq!(live_of(&drawing.file()), (vec![vec![], vec![0, 1], vec![1], vec![]], searched(1, 1, 3)));
+    assert_eq!(families(&drawing), [(64, 0)]);
+    assert_eq!(with_k(2, drawing.file()), "used 1 floor 1 limit 2\nat 0\nat 1 0>0 1>0\nat 2 1>0\nat 3\n");
+    // Both tests read board timer 0, which is started once.
+    let mut board = drawing.clone();
+    board.timers = 1;
+    board.transitions[0].starts = vec![0];
+    board.transitions[2].tests[0].0 = 0;
+    assert_eq!(rewritten(&drawing, 1), Ok(board.file()));
+    assert_eq!(rewritten(&drawing, 0), refused(20, NOWHERE));
+    for (times, answer) in [
+        ([3, 5, 12], Ok(Playing { location: 3, time: 12, accepting: true })),
+        ([3, 4, 12], refused(24, 1)),
+        ([3, 5, 13], refused(24, 2)),
+    ] {
+        assert_eq!(play(&drawing.file(), &[7, 9], &[0, 1, 2], &times), answer);
+        assert_eq!(play(&board.file(), &[16_777_215], &[0, 1, 2], &times), answer);
+    }
+    // A loop that starts one of the two for itself: they are twins no longer.
+    let apart = drawing.told_apart();
+    assert_eq!(families(&apart), [(64, 0), (65, 1)]);
+    assert_eq!(with_k(2, apart.file()), "used 2 floor 2 limit 2\nat 0\nat 1 0>0 1>1\nat 2 1>1\nat 3\n");
+}
+
+#[test]
+fn twins_need_not_be_neighbours() {
+    let drawing = twins_around();
+    assert_eq!(families(&drawing), [(64, 0), (129, 1)]);
+    let text = "used 2 floor 2 limit 3\nat 0\nat 1 0>0 2>0\nat 2 1>1 2>0\nat 3\n";
+    assert_eq!(with_k(3, drawing.file()), text);
+    let mut board = drawing.clone();
+    board.timers = 2;
+    board.transitions[0].starts = vec![0];
+    board.transitions[2].tests = vec![(0, AT_MOST, 4), (1, AT_MOST, 4)];
+    assert_eq!(rewritten(&drawing, 2), Ok(board.file()));
+}
+
+#[test]
+fn the_lowest_twin_names_the_family_though_it_is_tested_nowhere() {
+    let drawing = lowest_untested();
+    assert_eq!(live_of(&drawing.file()), (vec![vec![], vec![1, 2], vec![2], vec![]], searched(2, 2, 3)));
+    // By timer 2 itself, the families were 65 and 66, and the numbers the other way round.
+    assert_eq!(families(&drawing), [(64, 0), (65, 1)]);
+    assert_eq!(with_k(3, drawing.file()), "used 2 floor 2 limit 3\nat 0\nat 1 1>1 2>0\nat 2 2>0\nat 3\n");
+    let apart = drawing.clone().told_apart();
+    assert_eq!(families(&apart), [(65, 0), (66, 1)]);
+    let mut board = drawing.clone();
+    board.timers = 2;
+    board.transitions[0].starts = vec![0];
+    board.transitions[2].tests = vec![(1, AT_MOST, 4), (0, AT_MOST, 4)];
+    assert_eq!(rewritten(&drawing, 2), Ok(board.file()));
+}
+
+#[test]
+fn the_lowest_twin_is_live_where_any_of_them_is() {
+    let drawing = twins_on_two_ways();
+    assert_eq!(families(&drawing), [(64, 0)]);
+    assert_eq!(with_k(1, drawing.file()), "used 1 floor 1 limit 1\nat 0\nat 1 0>0 1>0\nat 2\nat 3 1>0\nat 4\n");
+}
+
+#[test]
+fn timers_that_nothing_starts_are_twins() {
+    // Timers 0 and 3 are started nowhere, 1 and 2 together.
+    let drawing = Drawing::new(
+        3,
+        4,
+        vec![Arrow::new(0, 1).starts(&[1, 2]), Arrow::new(1, 2).tests(2, AT_LEAST, 1), Arrow::new(2, 2)],
+    );
+    let twins = Twins::of(&Chart::read(&drawing.file()).unwrap());
+    assert_eq!([0, 1, 2, 3].map(|timer| twins.lowest(timer)), [0, 1, 1, 0]);
+    assert_eq!(families(&drawing), [(65, 0)]);
+    // 10 goes by the drawn timer.
+    let mut unstarted = drawing.clone();
+    unstarted.transitions[2].tests = vec![(3, AT_LEAST, 0)];
+    assert_eq!(analyse(&unstarted.file(), &mut [0; 3]), refused(10, 2));
+}
+
+#[test]
+fn twins_count_once_in_the_20_families() {
+    // Each family of the row twice, by timer 0 or 1 and by its twin 2 or 3.
+    let doubled = |count| {
+        let mut drawing = lone_families(count);
+        drawing.timers = 4;
+        for transition in &mut drawing.transitions {
+            transition.starts.extend(transition.starts.clone().iter().map(|timer| timer + 2));
+            transition.tests.extend(transition.tests.clone().iter().map(|test| (test.0 + 2, test.1, test.2)));
+        }
+        drawing
+    };
+    let figures = |drawing: Drawing| live_of(&drawing.file()).1;
+    assert_eq!(families(&doubled(20)).len(), 20);
+    assert_eq!(figures(doubled(20)), searched(1, 1, 2));
+    assert_eq!(figures(doubled(21)), seen(1, 1, 2));
+    assert_eq!(families(&doubled(11).told_apart()).len(), 22);
+    assert_eq!(figures(doubled(11).told_apart()), seen(2, 2, 2));
+    assert_eq!(figures(doubled(11)), searched(1, 1, 2));
+}
+
+#[test]
+fn the_charts_of_document_01_have_no_twins() {
+    for drawing in [chart_a(), chart_b(), chart_c(), one_location(), self_loop(), never_started(), started_anew()] {
+        assert_eq!(Twins::of(&Chart::read(&drawing.file()).unwrap()), Twins::NONE);
+    }
 }
 
 #[test]
 fn the_programs_text() {
-    let with_k = |k: u8, file: Vec<u8>| {
-        let mut input = vec![k];
-        input.extend(file);
-        listing(&input)
-    };
     assert_eq!(with_k(16, chart_b().file()), "used 1 floor 1 limit 16\nat 0\nat 1 0>0\nat 2 1>0\nat 3\n");
     assert_eq!(
         with_k(3, chart_a().file()),

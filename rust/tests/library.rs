@@ -7,8 +7,8 @@ use timing_chart::analysis::Analysis;
 use timing_chart::controller::{Head, Report, Start, State, Turn};
 use timing_chart::counter::CounterPlaying;
 use timing_chart::drawing::{
-    chain, chart_a, chart_a_continued, chart_b, dwell, looped_chain, never_started, over_floor, self_loop, Drawing,
-    AT_LEAST, AT_MOST,
+    chain, chart_a, chart_a_continued, chart_b, dwell, looped_chain, lowest_untested, never_started, over_floor,
+    self_loop, two_twins, Drawing, AT_LEAST, AT_MOST,
 };
 use timing_chart::library::{analyse, play, play_counter, rewrite, Controller};
 use timing_chart::player::Playing;
@@ -51,6 +51,37 @@ fn rewriting() {
     expected.transitions[0].starts.clear();
     assert_eq!(rewrite(&self_loop().file(), 0, &mut out), Ok(Rewriting { used: 0, length: 25 }));
     assert_eq!(out[..25], expected.file());
+}
+
+#[test]
+fn twins() {
+    // Each is live for itself, and they share board timer 0, which is started once.
+    let mut live = [77; 5];
+    let figures = Analysis { used: 1, floor: 1, searched: true, rounds: 3 };
+    assert_eq!(analyse(&two_twins().file(), &mut live), Ok(figures));
+    assert_eq!(live, [0, 3, 2, 0, 77]);
+    let mut out = [0xAA; 60];
+    assert_eq!(rewrite(&two_twins().file(), 0, &mut out), Err(Refusal { number: 20, place: NOWHERE }));
+    assert_eq!(rewrite(&two_twins().file(), 1, &mut out[..51]), Err(Refusal { number: 21, place: NOWHERE }));
+    assert_eq!(out, [0xAA; 60]);
+    let mut expected = two_twins();
+    expected.timers = 1;
+    expected.transitions[0].starts = vec![0];
+    expected.transitions[2].tests[0].0 = 0;
+    assert_eq!(rewrite(&two_twins().file(), 1, &mut out[..52]), Ok(Rewriting { used: 1, length: 52 }));
+    assert_eq!(out[..52], expected.file());
+    // Told apart they take two.
+    let figures = Analysis { used: 2, floor: 2, searched: true, rounds: 3 };
+    assert_eq!(analyse(&two_twins().told_apart().file(), &mut live), Ok(figures));
+    // Timer 0 is tested nowhere, and yet its twin, timer 2, has number 0 and comes before timer 1.
+    let mut expected = lowest_untested();
+    expected.timers = 2;
+    expected.transitions[0].starts = vec![0];
+    expected.transitions[2].tests = vec![(1, AT_MOST, 4), (0, AT_MOST, 4)];
+    let length = expected.file().len();
+    let answer = Rewriting { used: 2, length: length as u64 };
+    assert_eq!(rewrite(&lowest_untested().file(), 2, &mut out), Ok(answer));
+    assert_eq!(out[..length], expected.file());
 }
 
 #[test]

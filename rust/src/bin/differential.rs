@@ -3,7 +3,7 @@
 //!
 //! usage: differential [TRIALS] [SEED] [--without-program]
 //!
-//! Exit status 0 if all agree and every refusal number, every kind of floor, of number of rounds, of version and
+//! Exit status 0 if all agree and every refusal number, every kind of floor, of twins, of number of rounds, of version and
 //! constant, of step on the counter board and of what a controller meets came; 1 at the first difference, or where a
 //! controller or the counter board breaks a promise or gives a refusal that its call does not have, with the input in
 //! hex; 2 if one that should come never did, or the program is missing. What no call can answer, such as a transition
@@ -14,20 +14,22 @@ use std::io::{ErrorKind, Write};
 use std::path::{Path, PathBuf};
 use std::process::{exit, Command, Stdio};
 
-use timing_chart::analysis::{self, Analysis};
-use timing_chart::chart::{Chart, Comparison, Test};
+use timing_chart::analysis::{self, Analysis, Families, Liveness};
+use timing_chart::chart::{Chart, Comparison, Test, Transition};
 use timing_chart::counter::{self, CounterPlaying};
 use timing_chart::drawing::*;
 use timing_chart::generator::*;
 use timing_chart::limits::{
     COUNTER_LARGEST_CONSTANT, COUNTER_LARGEST_COUNT, COUNTER_READINGS, LARGEST_CONSTANT_VERSION_1, MOST_INPUT,
-    MOST_LOCATIONS, MOST_STARTS, MOST_TESTS, MOST_TICKS, MOST_TIMERS, NOWHERE, TIMERS,
+    MOST_LOCATIONS, MOST_SEARCHED, MOST_STARTS, MOST_TESTS, MOST_TICKS, MOST_TIMERS, MOST_TRANSITIONS, NOWHERE, TIMERS,
 };
 use timing_chart::listing::listing;
 use timing_chart::player::{self, Playing};
 use timing_chart::rewriting::{self, Rewriting};
+use timing_chart::sets::TimerSet;
 use timing_chart::tally::{number_of, ByNumber};
 use timing_chart::trials::{Calls, Trials};
+use timing_chart::twins::Twins;
 use timing_chart::version::Version;
 use timing_chart::{library, Answer, Refusal};
 
@@ -57,6 +59,7 @@ struct Tally {
     /// The program's, the number taken from its text.
     listings: ByNumber,
     floors: Floors,
+    twins: TwinKinds,
     live_rounds: LiveRounds,
     versions: Versions,
     counter_kinds: CounterKinds,
@@ -102,6 +105,104 @@ impl Display for Floors {
         let Floors { used_over_most, seen, searched, over_fullest, below_used } = self;
         write!(f, "used over {MOST_TIMERS}: {used_over_most}; floor not searched: {seen}, searched: {searched}, ")?;
         write!(f, "of these above the fullest live set: {over_fullest}, below used: {below_used}")
+    }
+}
+
+/// How many charts came with twins of which kind.
+#[derive(Default)]
+struct TwinKinds {
+    /// No two timers are twins.
+    none: u64,
+    /// Two timers that are live somewhere are twins; three or more are.
+    two: u64,
+    three: u64,
+    /// A timer is live somewhere and its lowest twin is not.
+    lowest_not_live: u64,
+    /// Each of two twins is live at a location where the other is not.
+    parted: u64,
+    /// A transition starts several twins that are live at its target: one start on the board.
+    one_start: u64,
+    /// Some timer's number differs from the one that it has if each timer counts for itself; the same though no two timers
+    /// that are live somewhere are twins, so that only the order of the families is another.
+    other_numbers: u64,
+    other_order: u64,
+    /// Fewer timers are used than if each counts for itself; the floor is searched, and would not be then.
+    fewer_used: u64,
+    searched: u64,
+}
+
+impl TwinKinds {
+    /// Counts a chart that is accepted.
+    fn count(&mut self, chart: &Chart) {
+        let twins = Twins::of(chart);
+        if twins == Twins::NONE {
+            self.none += 1;
+            return;
+        }
+        let liveness = Liveness::of(chart, analysis::judge(chart).expect("the chart is accepted"));
+        let sets = liveness.sets();
+        let live = sets.iter().fold(TimerSet::EMPTY, |all, &set| all.joined(set));
+        // The timers that are live somewhere, by their lowest twins.
+        let group = |lowest| live.into_iter().filter(|&timer| twins.lowest(timer) == lowest).collect();
+        let groups: Vec<TimerSet> = twins.merged(live).into_iter().map(group).collect();
+        let most = groups.iter().map(|group| group.len()).max().unwrap_or(0);
+        self.two += u64::from(most >= 2);
+        self.three += u64::from(most >= 3);
+        self.lowest_not_live += u64::from(!twins.merged(live).minus(live).is_empty());
+        let alone = |timer: u8, other: u8| sets.iter().any(|set| set.has(timer) && !set.has(other));
+        let parts = |group: &TimerSet| {
+            let with = |timer: u8| group.into_iter().any(|other| alone(timer, other) && alone(other, timer));
+            group.into_iter().any(with)
+        };
+        self.parted += u64::from(groups.iter().any(parts));
+        let joins = |transition: &Transition| {
+            let born = transition.starts.common(sets[usize::from(transition.target)]);
+            twins.merged(born).len() < born.len()
+        };
+        self.one_start += u64::from(chart.transitions().iter().any(joins));
+
+        let families = Families::of(chart, &liveness, &twins);
+        let singly = Families::of(chart, &liveness, &Twins::NONE);
+        let (numbers, before) = (numbers_of(&families, sets, &twins), numbers_of(&singly, sets, &Twins::NONE));
+        self.other_numbers += u64::from(numbers != before);
+        self.other_order += u64::from(numbers != before && most == 1);
+        self.fewer_used += u64::from(numbers.iter().max() < before.iter().max());
+        let few = |families: &Families| families.list().len() <= MOST_SEARCHED;
+        self.searched += u64::from(few(&families) && !few(&singly));
+    }
+
+    /// Whether each came.
+    fn all_came(&self) -> bool {
+        let TwinKinds { none, two, three, lowest_not_live, parted, one_start, .. } = *self;
+        let numbers = [self.other_numbers, self.other_order, self.fewer_used, self.searched];
+        [none, two, three, lowest_not_live, parted, one_start].iter().chain(&numbers).all(|&count| count > 0)
+    }
+}
+
+/// The board numbers of the live timers of each location, rising, if `twins` stand for them in the families.
+fn numbers_of(families: &Families, sets: &[TimerSet], twins: &Twins) -> Vec<u16> {
+    let given = families.first_fit(usize::MAX).expect("without a limit every family gets a number");
+    let mut table = vec![[0; TIMERS]; sets.len()];
+    for (family, number) in families.list().iter().zip(given) {
+        family.locations.iter().for_each(|location| table[usize::from(location)][usize::from(family.timer)] = number);
+    }
+    let of_location = |(set, row): (&TimerSet, [u16; TIMERS])| {
+        set.into_iter().map(move |timer| row[usize::from(twins.lowest(timer))]).collect::<Vec<u16>>()
+    };
+    sets.iter().zip(table).flat_map(of_location).collect()
+}
+
+impl Display for TwinKinds {
+    fn fmt(&self, f: &mut Formatter<'_>) -> std::fmt::Result {
+        let TwinKinds { none, two, three, lowest_not_live, parted, one_start, .. } = self;
+        let TwinKinds { other_numbers, other_order, fewer_used, searched, .. } = self;
+        write!(f, "no twins: {none}; two live ones: {two}, three: {three}, the lowest not live: {lowest_not_live}, ")?;
+        write!(f, "each live without the other: {parted}, one start for several: {one_start}; numbers other than if ")?;
+        write!(
+            f,
+            "each timer counts for itself: {other_numbers}, by the order of the families alone: {other_order}, "
+        )?;
+        write!(f, "fewer used: {fewer_used}, few enough families for the search: {searched}")
     }
 }
 
@@ -346,6 +447,7 @@ impl ChartTrials {
             let sets = &rust[..usize::from(chart.locations())];
             let fullest = sets.iter().map(|set| u64::from(set.count_ones())).max().unwrap_or(0);
             self.tally.floors.count(figures, fullest);
+            self.tally.twins.count(&chart);
             self.tally.live_rounds.count(figures.rounds);
             self.tally.versions.analysed[place_of(chart.version())] += 1;
         }
@@ -581,6 +683,10 @@ impl ChartTrials {
                 never_started,
                 started_anew,
                 over_floor,
+                two_twins,
+                twins_around,
+                lowest_untested,
+                twins_on_two_ways,
                 || chart_a_continued(17),
                 || chart_a_continued(18),
                 || lone_families(20),
@@ -616,6 +722,13 @@ impl ChartTrials {
             96..=97 => random_chain(random),
             _ => sixty_five_numbers(random.between(1, u64::from(MOST_TIMERS) - 1) as u8),
         };
+        match random.below(8) {
+            0 if drawing.transitions.len() + 6 <= usize::from(MOST_TRANSITIONS) => drawing = drawing.told_apart(),
+            // Where loops alone tell timers apart, there are twins without them.
+            1 => drawing.transitions.retain(|transition| transition.source != transition.target),
+            2 => add_twins(random, &mut drawing),
+            _ => {}
+        }
         if random.chance(1, 4) {
             let whole = random.pick(&[1, 4, 20]);
             store_large(random, &mut drawing, whole);
@@ -773,6 +886,7 @@ fn main() {
     println!("trials {trials}, seed {seed}; largest chart {} bytes", tally.largest);
     println!("steps taken: {}", tally.steps_taken);
     println!("analyses with {}", tally.floors);
+    println!("analyses of charts with {}", tally.twins);
     println!("{}", tally.live_rounds);
     println!("{}", tally.versions);
     println!("{}", tally.counter_kinds);
@@ -803,16 +917,17 @@ fn main() {
     let program = charts.program.is_some().then_some(OF_PROGRAM);
     let missing: Vec<usize> = EXPECTED.into_iter().chain(program).filter(|&number| !tally.came(number)).collect();
     let words_came = charts.program.is_none() || tally.printed_floor > 0 && tally.printed_seen > 0;
-    let Tally { floors, live_rounds, versions, counter_kinds, .. } = tally;
-    let kinds_came = floors.all_came() && live_rounds.all_came() && versions.all_came() && counter_kinds.all_came();
+    let Tally { floors, twins, live_rounds, versions, counter_kinds, .. } = tally;
+    let figures_came = floors.all_came() && twins.all_came() && live_rounds.all_came();
+    let kinds_came = figures_came && versions.all_came() && counter_kinds.all_came();
     let of_counter: Vec<usize> =
         OF_COUNTER_BOARD.into_iter().chain([0]).filter(|&number| counter_playings[number] == 0).collect();
     let of_controllers = controllers.tally.missing();
     let all_came = missing.is_empty() && of_counter.is_empty() && of_controllers.is_empty() && kinds_came && words_came;
     if !all_came {
         println!("never came with a controller: {of_controllers:?}; with the counter board: {of_counter:?}");
-        print!("never came: {missing:?}, or one of: {floors}; or one of: {live_rounds}; or one of: {versions}; ");
-        println!("or one of: {counter_kinds}; or a word of the program");
+        print!("never came: {missing:?}, or one of: {floors}; or one of: {twins}; or one of: {live_rounds}; ");
+        println!("or one of: {versions}; or one of: {counter_kinds}; or a word of the program");
         exit(2);
     }
     let calls: u64 = columns.iter().map(|(_, numbers)| numbers.total()).sum();

@@ -1,7 +1,7 @@
 //! Measures the proved library beside this crate: analysis, rewriting, player and counter board on small, typical and
-//! largest charts, the larger ones as version 2 too, the analysis where there are most numbers or rounds or the floor is
-//! hard to find, growth by transitions, the player's and the counter board's time for a step, and the controller's calls
-//! with one and with eight heads.
+//! largest charts, the larger ones as version 2 too, and the largest with all timers twins; the analysis where there are
+//! most numbers or rounds or the floor is hard to find, growth by transitions, the player's and the counter board's time
+//! for a step, and the controller's calls with one and with eight heads.
 //!
 //! usage: measure [REPETITIONS]
 
@@ -150,7 +150,8 @@ fn most_rounds() -> Drawing {
 }
 
 /// A ring of all locations but the initial one, on which 64 timers are tested, each once, four locations apart: its live
-/// sets take 256 rounds too, and each round but the last changes 64 of them.
+/// sets take 256 rounds too, and each round but the last changes 64 of them. All its timers are twins, which makes one
+/// family; the rounds are by drawn timers.
 fn ring() -> Drawing {
     let last = MOST_LOCATIONS - 1;
     let every: Vec<u8> = (0..MOST_TIMERS).collect();
@@ -166,6 +167,14 @@ fn ring() -> Drawing {
 /// The same chart with each transition twice.
 fn twice(mut drawing: Drawing) -> Drawing {
     drawing.transitions.extend_from_within(..);
+    drawing
+}
+
+/// The same chart with all timers twins: each transition that starts a timer starts all.
+fn all_twins(mut drawing: Drawing) -> Drawing {
+    let every: Vec<u8> = (0..drawing.timers).collect();
+    let starting = drawing.transitions.iter_mut().filter(|transition| !transition.starts.is_empty());
+    starting.for_each(|transition| transition.starts.clone_from(&every));
     drawing
 }
 
@@ -335,6 +344,7 @@ fn main() {
         ("typical, version 2", typical().version(2)),
         ("largest, version 2", largest(MOST_TRANSITIONS).version(2)),
         ("longest file, version 2", longest(&mut Random::new(1), Version::Two)),
+        ("largest, all twins", all_twins(largest(MOST_TRANSITIONS))),
     ];
     for (name, drawing) in &charts {
         describe(name, drawing);
@@ -347,7 +357,8 @@ fn main() {
         ("most rounds", most_rounds()),
         ("most rounds, last to first", most_rounds().last_to_first()),
         ("most rounds, 512 transitions", twice(most_rounds())),
-        ("most rounds, a ring", ring()),
+        ("most rounds, a ring", ring().told_apart()),
+        ("ring, all twins", ring()),
         ("ring, 512 transitions", twice(ring())),
     ];
     for (name, drawing) in &figures {
