@@ -51,11 +51,13 @@ FIG_1 = chart(7, 3, [(0, 1, [0], []), (1, 2, [1], [(0, AT_LEAST, 1)]), (2, 3, [2
 RESTART = chart(4, 1, [(0, 1, [0], []), (1, 2, [0], [(0, AT_MOST, 1)]), (2, 3, [], [(0, AT_MOST, 1)])])
 PARALLEL = chart(4, 1, [(0, 1, [0], []), (1, 2, [0], []), (1, 2, [], []), (2, 3, [], [(0, AT_MOST, 1)])])
 # Families of timers 0 to 63 hold 0 to 63 at location 1; timer 1, started anew, holds 0 at 2 and 4; timer 0, started anew, lives at 3 beside 1 to
-# 63 and at 4 beside that 0: it gets 64
+# 63 and at 4 beside that 0: it gets 64. No two timers are twins: transition b of the six at location 5, where nothing is live, starts those whose
+# binary digit b is 1.
 EVERY = list(range(64))
-OVER_64 = chart(6, 64, [(0, 1, EVERY, []), (1, 2, [1], []), (1, 3, [0], [(0, AT_MOST, 1)]), (2, 4, [0], []), (3, 4, [1], [])]
-                + [(3, 5, [], [(j, AT_MOST, 1) for j in range(k, min(k + 8, 64))]) for k in range(1, 64, 8)]
-                + [(4, 5, [], [(0, AT_MOST, 1), (1, AT_MOST, 1)])])
+ARROWS_OF_MANY = ([(0, 1, EVERY, []), (1, 2, [1], []), (1, 3, [0], [(0, AT_MOST, 1)]), (2, 4, [0], []), (3, 4, [1], [])]
+                  + [(3, 5, [], [(j, AT_MOST, 1) for j in range(k, min(k + 8, 64))]) for k in range(1, 64, 8)]
+                  + [(4, 5, [], [(0, AT_MOST, 1), (1, AT_MOST, 1)])])
+OVER_64 = chart(6, 64, ARROWS_OF_MANY + [(5, 5, [j for j in EVERY if j >> b & 1], []) for b in range(6)])
 ALL = 2 ** 64 - 1
 
 
@@ -95,9 +97,11 @@ def lone(q, n):
     return [(q + i, q + i + 1, [(i + 1) % 2], [(i % 2, AT_LEAST, 0)]) for i in range(n)]
 
 
-def a_and_lone(n):
-    return chart(7 + n, 3, [(0, 1, [0], []), (1, 2, [1], []), (2, 3, [2], [(0, AT_LEAST, 3)]), (2, 4, [2], [(1, AT_MOST, 7)]),
-                            (3, 5, [], [(1, BELOW, 9)]), (4, 5, [], [(0, EQUAL, 4)]), (5, 6, [0], [(2, ABOVE, 2)])] + lone(6, n))
+def a_and_lone(n, third=(2,)):
+    """A, then so many families more. The timers of `third` stand in the place of timer 2."""
+    return chart(7 + n, 2 + len(third), [(0, 1, [0], []), (1, 2, [1], []), (2, 3, third, [(0, AT_LEAST, 3)]), (2, 4, third, [(1, AT_MOST, 7)]),
+                                         (3, 5, [], [(1, BELOW, 9)]), (4, 5, [], [(0, EQUAL, 4)]),
+                                         (5, 6, [0], [(j, ABOVE, 2) for j in third])] + lone(6, n))
 
 
 # 15 families of timer 5 that meet none, each at a location of its own; then timers 0 to 4, one family each: alone at a location, and with each other
@@ -107,6 +111,49 @@ CYCLES = [(5, [q]) for q in range(15)] + [(j, [q for q, live in enumerate(PLACES
 LONE_THEN_FIVE = chart(31, 6, [(0, q + 1, range(6), []) for q in range(20)]
                        + [(q + 1, cycle[(i + 1) % len(cycle)] + 1, [k for k in range(6) if k != j], [(j, AT_LEAST, 0)])
                           for j, cycle in CYCLES for i, q in enumerate(cycle)])
+
+# ---- twins (document 02, P6): a family is numbered by the lowest twin, live lists and rounds go by drawn timer
+# Timers 0 and 1 are twins; both are live at location 1, timer 1 alone at location 2: family 64
+TWINS = chart(4, 2, [(0, 1, [0, 1], []), (1, 2, [], [(0, AT_LEAST, 2)]), (2, 3, [], [(1, AT_MOST, 9)])])
+TWINS_BOARD = bytes.fromhex('01 0000002f 0004 0000 01 0001 0003 0003 0008 0000 0001 00 01 00 00'
+                            '000b 0001 0002 00 00 01 00 02 0002 000b 0002 0003 00 00 01 00 00 0009')
+# Timers 0 and 2 are twins; both are live at location 1, timer 2 alone at location 2, beside timer 1: families 64 and 129
+TWINS_AROUND = chart(4, 3, [(0, 1, [0, 2], []), (1, 2, [1], [(0, AT_LEAST, 1)]), (2, 3, [], [(2, AT_MOST, 4), (1, AT_MOST, 4)])])
+TWINS_AROUND_BOARD = chart(4, 2, [(0, 1, [0], []), (1, 2, [1], [(0, AT_LEAST, 1)]), (2, 3, [], [(0, AT_MOST, 4), (1, AT_MOST, 4)])])
+# Timers 0 and 2 are twins. Nothing tests timer 0, yet their family, at locations 1 and 2, is 64, before 65 of timer 1: timer 2 has 0, timer 1 has 1.
+UNTESTED_TWIN = chart(4, 3, [(0, 2, [0, 2], []), (2, 1, [1], []), (1, 3, [], [(1, AT_MOST, 4), (2, AT_MOST, 4)])])
+UNTESTED_TWIN_BOARD = chart(4, 2, [(0, 2, [0], []), (2, 1, [1], []), (1, 3, [], [(1, AT_MOST, 4), (0, AT_MOST, 4)])])
+# Timers 0 and 1 are twins; both are live at location 1, timer 1 alone at location 3, none at location 2: family 64
+TWINS_APART = chart(5, 2, [(0, 1, [0, 1], []), (1, 2, [], [(0, AT_LEAST, 1)]), (1, 3, [], []), (3, 4, [], [(1, AT_MOST, 3)])])
+TWINS_APART_BOARD = chart(5, 1, [(0, 1, [0], []), (1, 2, [], [(0, AT_LEAST, 1)]), (1, 3, [], []), (3, 4, [], [(0, AT_MOST, 3)])])
+# Timers 62 and 63 are twins, and so are all of 0 to 60, which nothing starts: families 64 + 62 at locations 1 and 2, 128 + 61 at location 2
+LAST_TWINS = chart(4, 64, [(0, 1, [62, 63], []), (1, 2, [61], [(63, AT_LEAST, 1)]), (2, 3, [], [(62, AT_MOST, 4), (61, AT_MOST, 9)])])
+LAST_TWINS_BOARD = chart(4, 2, [(0, 1, [0], []), (1, 2, [1], [(0, AT_LEAST, 1)]), (2, 3, [], [(0, AT_MOST, 4), (1, AT_MOST, 9)])])
+# Timers 1, 3 and 4 are twins, and timers 2 and 5; nothing starts timer 0 and nothing tests timer 1. Family 65, at locations 1, 2 and 3, has 0; family
+# 66, at locations 1 and 3, has 1. By the lowest twin that is tested the first would be 67 and come second. Of what 1→1 starts, timers 2 to 5 are live
+# at location 1 and have 1, 0, 0 and 1: it starts 0 and 1.
+THREE_TWINS = chart(5, 6, [(0, 2, [1, 3, 4], []), (2, 1, [2, 5], [(4, AT_LEAST, 2)]), (1, 1, [1, 2, 3, 4, 5], [(3, ABOVE, 1)]),
+                           (1, 3, [], [(5, AT_MOST, 5), (3, AT_MOST, 9)]), (3, 4, [], [(2, AT_MOST, 8), (4, EQUAL, 7)])])
+THREE_TWINS_BOARD = chart(5, 2, [(0, 2, [0], []), (2, 1, [1], [(0, AT_LEAST, 2)]), (1, 1, [0, 1], [(0, ABOVE, 1)]),
+                                 (1, 3, [], [(1, AT_MOST, 5), (0, AT_MOST, 9)]), (3, 4, [], [(1, AT_MOST, 8), (0, EQUAL, 7)])])
+# Timers 0 and 1 are live at the same location, and every transition but one starts both or neither: no twins. That one starts what is not live at its
+# target.
+FIRST_DIFFERS = chart(3, 2, [(0, 0, [0], []), (0, 1, [0, 1], []), (1, 2, [], [(0, AT_LEAST, 1), (1, AT_MOST, 9)])])
+FIRST_DIFFERS_BOARD = chart(3, 2, [(0, 0, [], []), (0, 1, [0, 1], []), (1, 2, [], [(0, AT_LEAST, 1), (1, AT_MOST, 9)])])
+LAST_DIFFERS = chart(3, 2, [(0, 1, [0, 1], []), (1, 2, [], [(0, AT_LEAST, 1), (1, AT_MOST, 9)]), (2, 2, [1], [])])
+# Timers 0 and 1 are twins. Live are at location 1 both, at 2 timers 0 and 3, at 3 timers 1 and 2, at 4 timers 2 and 3. The twins' family 64, at
+# locations 1, 2 and 3, meets 131 and 194, which meet at 4: three numbers. Counted apart, as 64 at 1 and 2 and 65 at 1 and 3, they would leave it at
+# two.
+DEAR_TWINS = chart(6, 4, [(0, 1, [0, 1], []), (1, 2, [3], []), (1, 3, [2], []), (2, 5, [], [(0, AT_MOST, 4)]), (2, 4, [2], []),
+                          (3, 5, [], [(1, AT_MOST, 4)]), (3, 4, [3], []), (4, 5, [], [(2, AT_MOST, 9), (3, AT_LEAST, 1)])])
+DEAR_TWINS_BOARD = chart(6, 3, [(0, 1, [0], []), (1, 2, [1], []), (1, 3, [2], []), (2, 5, [], [(0, AT_MOST, 4)]), (2, 4, [2], []),
+                                (3, 5, [], [(0, AT_MOST, 4)]), (3, 4, [1], []), (4, 5, [], [(2, AT_MOST, 9), (1, AT_LEAST, 1)])])
+# OVER_64 without the transitions at location 5: timers 2 to 63 are twins. Families 64 at location 1, 65 and 66 at 1 and 3, 129 at 2 and 4, 192 at 3
+# and 4 get 0, 1, 2, 0, 3. With 1 for 129 and 0 for 192 three timers would do.
+MANY_TWINS = chart(6, 64, ARROWS_OF_MANY)
+MANY_TWINS_BOARD = chart(6, 4, [(0, 1, [0, 1, 2], []), (1, 2, [0], []), (1, 3, [3], [(0, AT_MOST, 1)]), (2, 4, [3], []), (3, 4, [0], []),
+                                (3, 5, [], [(1, AT_MOST, 1)] + [(2, AT_MOST, 1)] * 7)] + [(3, 5, [], [(2, AT_MOST, 1)] * 8)] * 6
+                         + [(3, 5, [], [(2, AT_MOST, 1)] * 7), (4, 5, [], [(3, AT_MOST, 1), (0, AT_MOST, 1)])])
 
 
 def analyse(comment, file, room, lines):
@@ -144,9 +191,10 @@ analyse('a chain of three locations', chart(3, 1, open_chain(3)), 3, ['used 1 fl
 analyse('a chain of four locations', chart(4, 1, open_chain(4)), 4, ['used 1 floor 1 searched 1 rounds 3 beyond 0', 'live 0 1 1 0'])
 analyse('A, its transitions last to first: sweeps in place in the order of the file would be 2', chart(7, 3, ARROWS_OF_A[::-1]), 7,
         ['used 3 floor 3 searched 1 rounds 3 beyond 0', 'live 0 1 3 6 5 4 0'])
+# The timers are twins, one family. Rounds go by drawn timer; counted by twins there would be three.
 analyse('two locations change in one round, and one of them feeds the other: read in place, location 3 would have both timers a round too early',
         chart(5, 2, [(0, 3, [0, 1], []), (3, 2, [], []), (2, 1, [], []), (1, 4, [], [(0, AT_LEAST, 0)]), (2, 4, [], [(1, AT_LEAST, 0)])]), 5,
-        ['used 2 floor 2 searched 1 rounds 4 beyond 0', 'live 0 1 3 3 0'])
+        ['used 1 floor 1 searched 1 rounds 4 beyond 0', 'live 0 1 3 3 0'])
 analyse('used over 64', OVER_64, 6, ['used 65 floor 64 searched 0 rounds 3 beyond 0', 'live 0 %d 2 %d 3 0' % (ALL, ALL)])
 analyse('floor below used', D, 5, ['used 3 floor 2 searched 1 rounds 3 beyond 0', 'live 0 0 5 3 6'])
 analyse('A and 17 families more, 20 in all', a_and_lone(17), 24, ['used 3 floor 3 searched 1 rounds 3 beyond 0', 'live 0 1 3 6 5 4 1 2 0'])
@@ -156,6 +204,24 @@ for n, searched in (20, 1), (21, 0):
             ['used 1 floor 1 searched %d rounds 2 beyond 0' % searched, 'live 0 1 2 1 2 1 2 1 0'])
 analyse('15 families that meet none, then five that meet pairwise', LONE_THEN_FIVE, 31,
         ['used 5 floor 5 searched 1 rounds 2 beyond 0', 'live 0 32 32 32 32 32 32 32 24'])
+analyse('twins', TWINS, 4, ['used 1 floor 1 searched 1 rounds 3 beyond 0', 'live 0 3 2 0'])
+analyse('twins with a timer between them', TWINS_AROUND, 4, ['used 2 floor 2 searched 1 rounds 3 beyond 0', 'live 0 5 6 0'])
+analyse('a lowest twin that nothing tests', UNTESTED_TWIN, 4, ['used 2 floor 2 searched 1 rounds 3 beyond 0', 'live 0 6 4 0'])
+analyse('twins live at different locations', TWINS_APART, 5, ['used 1 floor 1 searched 1 rounds 3 beyond 0', 'live 0 3 0 2 0'])
+analyse('twins 62 and 63', LAST_TWINS, 4,
+        ['used 2 floor 2 searched 1 rounds 3 beyond 0', 'live 0 %d %d 0' % (2 ** 62 + 2 ** 63, 2 ** 61 + 2 ** 62)])
+analyse('three twins and two', THREE_TWINS, 5, ['used 2 floor 2 searched 1 rounds 3 beyond 0', 'live 0 60 24 20 0'])
+analyse('the first transition starts one of two', FIRST_DIFFERS, 3, ['used 2 floor 2 searched 1 rounds 2 beyond 0', 'live 0 3 0'])
+analyse('the last transition starts one of two', LAST_DIFFERS, 3, ['used 2 floor 2 searched 1 rounds 2 beyond 0', 'live 0 3 0'])
+analyse('64 timers and no transition', chart(1, 64, []), 1, ['used 0 floor 0 searched 1 rounds 1 beyond 0', 'live 0'])
+analyse('twins that need three numbers, though counted apart they would need two', DEAR_TWINS, 6,
+        ['used 3 floor 3 searched 1 rounds 3 beyond 0', 'live 0 3 9 6 12 0'])
+analyse('62 twins', MANY_TWINS, 6, ['used 4 floor 3 searched 1 rounds 3 beyond 0', 'live 0 %d 2 %d 3 0' % (ALL, ALL)])
+# By drawn timer there is a family more, and three timers are live at 3 and at 4
+analyse('A with a twin of timer 2 and 17 families more, 20 in all', a_and_lone(17, (2, 3)), 24,
+        ['used 3 floor 3 searched 1 rounds 3 beyond 0', 'live 0 1 3 14 13 12 1 2 0'])
+analyse('A with a twin of timer 2 and 18 families more: not searched', a_and_lone(18, (2, 3)), 25,
+        ['used 3 floor 2 searched 0 rounds 3 beyond 0', 'live 0 1 3 14 13 12 1 2 0'])
 analyse('location 2 is not reached', chart(4, 0, [(0, 1, [], []), (1, 3, [], []), (2, 3, [], [])]), 4, 'refused 9 2 changed 0')
 analyse('location 0 is not reached from 2', chart(3, 0, [(2, 1, [], []), (0, 1, [], [])], initial=2), 3, 'refused 9 0 changed 0')
 analyse('9 comes before 10', chart(3, 1, [(0, 1, [], [(0, AT_MOST, 1)])]), 3, 'refused 9 2 changed 0')
@@ -222,6 +288,22 @@ rewrite('constants 65,537 and 4,294,967,295',
         rewritten(1, bytes.fromhex('02 0000002a 0003 0000 01 0001 0002 0002 0008 0000 0001 00 01 00 00'
                                    '0013 0001 0002 07 00 02 00 02 00010001 00 04 ffffffff'), 65536))
 
+# Twins share a number, which a transition starts once.
+rewrite('twins with K = 1, room for exactly the file', TWINS, 1, 52, rewritten(1, TWINS_BOARD, 52))
+rewrite('twins, one byte too short', TWINS, 1, 51, 'refused 21 65535 changed 0')
+rewrite('twins with K = 0', TWINS, 0, 65536, 'refused 20 65535 changed 0')
+for name, file, used, board in [
+        ('twins with a timer between them', TWINS_AROUND, 2, TWINS_AROUND_BOARD),
+        ('a lowest twin that nothing tests', UNTESTED_TWIN, 2, UNTESTED_TWIN_BOARD),
+        ('twins live at different locations', TWINS_APART, 1, TWINS_APART_BOARD), ('three twins and two', THREE_TWINS, 2, THREE_TWINS_BOARD),
+        ('the first transition starts one of two', FIRST_DIFFERS, 2, FIRST_DIFFERS_BOARD),
+        ('twins that need three numbers', DEAR_TWINS, 3, DEAR_TWINS_BOARD), ('62 twins', MANY_TWINS, 4, MANY_TWINS_BOARD)]:
+    rewrite('%s, with K = %d' % (name, used), file, used, 65536, rewritten(used, board, 65536))
+    rewrite('%s, with K = %d' % (name, used - 1), file, used - 1, 65536, 'refused 20 65535 changed 0')
+rewrite('the last transition starts one of two, with K = 1', LAST_DIFFERS, 1, 65536, 'refused 20 65535 changed 0')
+rewrite('twins 62 and 63', LAST_TWINS, 64, 65536, rewritten(2, LAST_TWINS_BOARD, 65536))
+rewrite('64 timers and no transition', chart(1, 64, []), 0, 65536, rewritten(0, chart(1, 0, []), 65536))
+
 
 # counts, then steps (transition, time); or a list of transitions and one of times of its own; `repeat` steps of transition 0 at time 0 come first
 def play(comment, file, counts, steps, line, transitions=None, times=None, repeat=0):
@@ -275,3 +357,12 @@ for ticks, met in (0, (1, 2)), (65535, (1, 2)), (65536, (1, 3, 5)), (65537, (3, 
     for r in range(1, 6):
         play('transition %d of five around 65,536, after %d ticks' % (r, ticks), AROUND_65536, [0], [(0, 0), (r, ticks)],
              'location 2 time %d accepting 1' % ticks if r in met else 'refused 24 1 changed 0')
+
+# Twins read through their number. Timers 1, 3 and 4 start at 1, 2 and 5 at 4, all at 6; the last tests: 2 at most 8, 4 equal 7.
+for name, file, counts in ('drawn', TWINS, [MOST, 0]), ('rewritten', TWINS_BOARD, [MOST]):
+    play('twins %s: 1 at most 9, after 9 ticks' % name, file, counts, [(0, 5), (1, 7), (2, 14)], 'location 3 time 14 accepting 1')
+    play('twins %s: 1 at most 9, after 10 ticks' % name, file, counts, [(0, 5), (1, 7), (2, 15)], 'refused 24 2 changed 0')
+for name, file, counts in ('drawn', THREE_TWINS, [0] * 6), ('rewritten', THREE_TWINS_BOARD, [MOST, MOST]):
+    play('three twins and two %s: 4 equal 7, after 7 ticks' % name, file, counts, [(0, 1), (1, 4), (2, 6), (3, 8), (4, 13)],
+         'location 4 time 13 accepting 1')
+    play('three twins and two %s: 4 equal 7, after 8 ticks' % name, file, counts, [(0, 1), (1, 4), (2, 6), (3, 8), (4, 14)], 'refused 24 4 changed 0')
