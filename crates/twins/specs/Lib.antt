@@ -1,0 +1,2 @@
+pub mod LowestTwins
+pub mod Shared
