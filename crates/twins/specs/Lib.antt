@@ -1,2 +1,3 @@
 pub mod LowestTwins
 pub mod Shared
+pub mod LiveNumbered
