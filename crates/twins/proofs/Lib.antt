@@ -1,3 +1,4 @@
 pub mod Alike
 pub mod Own
 pub mod Merging
+pub mod Sharing
