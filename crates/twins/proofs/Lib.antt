@@ -2,3 +2,4 @@ pub mod Alike
 pub mod Own
 pub mod Merging
 pub mod Sharing
+pub mod Listed

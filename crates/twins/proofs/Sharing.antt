@@ -12,7 +12,6 @@ use lib.ListN.{length, getD, set, length-map}
 use lib.Seq.{getD-set-same, getD-set-other}
 use borrow.Author.Tests.{eqb-true}
 use Rattle.lists.proofs.Bools.{yes-or-no, not-both, is-no, is-yes, and-both}
-use Rattle.lists.proofs.Nth.{nth-below, getD-nth, getD-map}
 use Rattle.timer_set.specs.Members.{member, minus, image}
 use Rattle.timer_set.proofs.Members.{member-empty, member-minus}
 use Rattle.timer_set.proofs.Images.{image-out}
@@ -21,6 +20,7 @@ use Rattle.allocation.specs.Cells.{noNumber, cell, cellsOf}
 use Rattle.allocation.proofs.CellList.{cells-at, cells-is}
 use Rattle.twins.specs.LowestTwins.{lowestAt, LowestListed, LowestOf}
 use Rattle.twins.specs.Shared.{sharedCell, RowShared, OnlyIn}
+use Rattle.twins.proofs.Merging.{mapped-at}
 
 -- ---- one row
 
@@ -57,12 +57,12 @@ module _ (w : ℕ) (lowest : List ℕ) (q : ℕ) (before : List ℕ) where
 
 -- ---- all rows
 
-module _ (live lowest : List ℕ) (N : Numbering) (q j : ℕ) where
-  through-yes : member (getD live q 0) j ≡ true → through live (lowestAt lowest) N .number q j ≡ N .number q (lowestAt lowest j)
+module _ (live : List ℕ) (f : ℕ → ℕ) (N : Numbering) (q j : ℕ) where
+  pub through-yes : member (getD live q 0) j ≡ true → through live f N .number q j ≡ N .number q (f j)
   unfolding through
   through-yes e = rw (e, through)
 
-  through-no : member (getD live q 0) j ≡ false → through live (lowestAt lowest) N .number q j ≡ none
+  pub through-no : member (getD live q 0) j ≡ false → through live f N .number q j ≡ none
   unfolding through
   through-no e = rw (e, through)
 
@@ -76,8 +76,8 @@ module _ {live lowest : List ℕ} {own : ℕ} (s : LowestOf live lowest own) (N 
           → sharedCell (getD live q 0) lowest now q j ≡ cell (through live (lowestAt lowest) N .number q j)
       go (inl m) =
           shared-yes (getD live q 0) lowest now q j m ∙ was (lowestAt lowest j) (omega (arith, s .each q h .low j m))
-          ∙ ap cell (sym (through-yes live lowest N q j m))
-      go (inr m) = shared-no (getD live q 0) lowest now q j m ∙ ap cell (sym (through-no live lowest N q j m))
+          ∙ ap cell (sym (through-yes live (lowestAt lowest) N q j m))
+      go (inr m) = shared-no (getD live q 0) lowest now q j m ∙ ap cell (sym (through-no live (lowestAt lowest) N q j m))
 
   -- a row whose timers are all their own lowest twins
   module _ (word : getD live q 0 < 2 ^ 64) (all : minus (getD live q 0) own ≡ 0) where
@@ -93,16 +93,12 @@ module _ {live lowest : List ℕ} {own : ℕ} (s : LowestOf live lowest own) (N 
             let x = image-out (lowestAt lowest) (getD live q 0) word j t in
             not-both (x .1) (ap (member (getD live q 0)) (sym (own-low (x .0) (x .1)) ∙ x .2) ∙ m))
 
-        merged : getD (map (image (lowestAt lowest)) live) q 0 ≡ image (lowestAt lowest) (getD live q 0)
-        merged =
-            let x = nth-below live q h in
-            getD-map (image (lowestAt lowest)) live q (x .1) ∙ ap (image (lowestAt lowest)) (sym (getD-nth live q 0 (x .1)))
-
         go : (member (getD live q 0) j ≡ true) ⊎ (member (getD live q 0) j ≡ false) → N .number q j ≡ through live (lowestAt lowest) N .number q j
-        go (inl m) = sym (through-yes live lowest N q j m ∙ ap (N .number q) (own-low j m))
+        go (inl m) = sym (through-yes live (lowestAt lowest) N q j m ∙ ap (N .number q) (own-low j m))
         go (inr m) =
-            only .no-other q j (omega (arith, length-map live (image (lowestAt lowest)))) (ap (λ (w : ℕ). member w j) merged ∙ out m)
-            ∙ sym (through-no live lowest N q j m)
+            only .no-other q j (omega (arith, length-map live (image (lowestAt lowest))))
+            (ap (λ (w : ℕ). member w j) (mapped-at (image (lowestAt lowest)) live q h) ∙ out m)
+            ∙ sym (through-no live (lowestAt lowest) N q j m)
 
 -- the rows below q are shared, of whichever numbering the cells were, and the others are as they were
 pub record SharedTo (live lowest before : List ℕ) (q : ℕ) (now : List ℕ) : Type 0 where
@@ -138,7 +134,8 @@ module _ (live lowest before : List ℕ) where
 
     pub shared-row : {after : List ℕ} → RowShared (getD live q 0) lowest q now 0 after → SharedTo live lowest before (q + 1) after
     shared-row {after} x =
-        shared-more after (λ N was only j b. x .done j (omega arith) b ∙ number-shared s N q j h b now was) (λ y l. x .lower y (omega arith)) (x .behind)
+        shared-more after (λ N was only j b. x .done j (omega arith) b ∙ number-shared s N q j h b now was) (λ y l. x .lower y (omega arith))
+        (x .behind)
 
   pub shared-all : {q : ℕ} {now : List ℕ} → SharedTo live lowest before q now → length live ≤ q → length now ≡ 64 * length live → (N : Numbering)
       → before ≡ cellsOf N (length live) → OnlyIn (map (image (lowestAt lowest)) live) N

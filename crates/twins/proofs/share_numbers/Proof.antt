@@ -1,15 +1,13 @@
 -- `share_numbers` meets its contract: the rows below q are shared, and the others are as they were. Assumes nothing.
 use mathlib.Core.Path.{_≡_, refl, sym, _∙_}
-use Prim.Native.Nat.{_+_, _*_, _-_, _^_, _≤_, _<_}
+use Prim.Native.Nat.{_-_}
 use native.Mathlib.Omega.{arith}
 use borrow.Author.Needs.{needs}
 use borrow.Author.Tests.{eqb-true, not-false}
-use lib.ListN.{length, getD}
+use lib.ListN.{length}
 use Rattle.twins.proofs.Sharing.{SharedTo, shared-none, shared-kept, shared-row, shared-all}
 use Rattle.twins.proofs.share_numbers.Statement.{statement}
 use Rattle.twins.proofs.share_numbers.Tie as tie
-use Rattle.twins.proofs.share_numbers.Reads as reads
-use Rattle.twins.proofs.share_numbers.Lts as lts
 
 abbrev Inv-loop : tie.InvT-loop
 Inv-loop live lowest own cells₀ n q₀ cells q = (n ≡ length live) × (length cells ≡ length cells₀) × SharedTo live lowest cells₀ q cells

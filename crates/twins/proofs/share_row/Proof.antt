@@ -1,6 +1,6 @@
 -- `share_row` meets its contract: the cells of the row from j on are shared, and all others are as they were. Assumes nothing.
-use mathlib.Core.Path.{_≡_, refl, sym, _∙_}
-use Prim.Native.Nat.{_+_, _*_, _-_, _≤_, _<_}
+use mathlib.Core.Path.{_≡_, refl}
+use Prim.Native.Nat.{_≤_}
 use native.Mathlib.Omega.{arith}
 use borrow.Author.Needs.{needs}
 use lib.ListN.{length, length-set}
@@ -8,8 +8,6 @@ use Rattle.twins.specs.Shared.{RowShared}
 use Rattle.twins.proofs.Sharing.{row-none, row-next}
 use Rattle.twins.proofs.share_row.Statement.{statement}
 use Rattle.twins.proofs.share_row.Tie as tie
-use Rattle.twins.proofs.share_row.Reads as reads
-use Rattle.twins.proofs.share_row.Lts as lts
 
 abbrev Inv-loop : tie.InvT-loop
 Inv-loop set lowest q cells₀ j₀ cells j = (j ≤ 64) × (length cells ≡ length cells₀) × RowShared (set .bits) lowest q cells₀ j cells

@@ -9,8 +9,6 @@ use Rattle.twins.specs.LowestTwins.{lowestAt}
 use Rattle.twins.proofs.Sharing.{shared-yes, shared-no}
 use Rattle.twins.proofs.shared_cell.Statement.{statement}
 use Rattle.twins.proofs.shared_cell.Tie as tie
-use Rattle.twins.proofs.shared_cell.Reads as reads
-use Rattle.twins.proofs.shared_cell.Lts as lts
 
 has-requires : tie.Need-has-requires
 has-requires c κs = search needs
