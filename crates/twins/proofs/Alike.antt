@@ -8,11 +8,11 @@ use native.Mathlib.Numerals.{add-one}
 use native.Mathlib.Omega.{arith}
 use lib.ListN.{length, getD, drop, drop-of-length-le}
 use lib.Seq.{drop-cons}
-use Rattle.lists.specs.Lists.{anyOf, lowest}
-use Rattle.lists.proofs.Bools.{and-left, and-right, and-both}
+use Rattle.lists.specs.Lists.{anyOf}
+use Rattle.lists.proofs.Bools.{and-both}
 use Rattle.lists.proofs.Lowest.{lowest-most, lowest-passes, lowest-before, lowest-is}
 use Rattle.timer_set.specs.Members.{member, common, minus, lowestMember}
-use Rattle.timer_set.proofs.Members.{member-common, member-minus, member-full, common-lt, minus-lt}
+use Rattle.timer_set.proofs.Members.{member-common, member-minus, member-full}
 use Rattle.model.specs.Twins.{inSameSets, lowestInSame}
 use Rattle.twins.specs.LowestTwins.{narrowed}
 
@@ -46,13 +46,6 @@ module _ (w s j : ℕ) where
       go false e true f = rw (narrowed-no e, member-minus, f)
       go false e false f = rw (narrowed-no e, member-minus, f)
 
-  narrowed-lt : w < 2 ^ 64 → narrowed w s j < 2 ^ 64
-  narrowed-lt h = go (member s j) refl
-    where
-      go : (a : Bool) → member s j ≡ a → narrowed w s j < 2 ^ 64
-      go true e = rw (narrowed-yes e) (common-lt 64 w s h)
-      go false e = rw (narrowed-no e) (minus-lt 64 w s h)
-
 -- ---- a list of sets
 
 module _ (j k : ℕ) where
@@ -68,20 +61,18 @@ module _ (j k : ℕ) where
   unfolding inSameSets anyOf
   in-same-none = refl
 
-in-same-self : (ws : List ℕ) (j : ℕ) → inSameSets ws j j ≡ true
+pub in-same-self : (ws : List ℕ) (j : ℕ) → inSameSets ws j j ≡ true
 in-same-self [] j = in-same-none j j
 in-same-self (w ∷ ws) j = in-same-cons j j w ws ∙ and-both (same-self (member w j)) (in-same-self ws j)
 
 -- of the timers up to j those in w are in the same of the first i sets as j
 pub record Alike (sets : List ℕ) (j i w : ℕ) : Type 0 where
-  pub word : w < 2 ^ 64
   pub own : member w j ≡ true
   pub told : (k : ℕ) → k ≤ j → inSameSets sets j k ≡ (member w k && inSameSets (drop i sets) j k)
 
 module _ (sets : List ℕ) (j : ℕ) where
   pub alike-first : j < 64 → Alike sets j 0 (2 ^ 64 - 1)
   alike-first h = record {
-    word = omega arith;
     own = member-full 64 j h;
     told = λ k l. sym (ap (λ (b : Bool). b && inSameSets sets j k) (member-full 64 k (omega arith)));
   }
@@ -89,19 +80,20 @@ module _ (sets : List ℕ) (j : ℕ) where
   module _ {i w : ℕ} (a : Alike sets j i w) where
     pub alike-next : i < length sets → Alike sets j (i + 1) (narrowed w (getD sets i 0) j)
     alike-next h = record {
-      word = narrowed-lt w (getD sets i 0) j (a .word);
       own = member-narrowed w (getD sets i 0) j j ∙ and-both (a .own) (same-self _);
-      told = λ k l.
-          a .told k l ∙ rw (drop-cons sets i 0 h, in-same-cons, member-narrowed, add-one, and-assoc);
+      told = λ k l. a .told k l ∙ rw (drop-cons sets i 0 h, in-same-cons, member-narrowed, add-one, and-assoc);
     }
+
+    pub alike-low : lowestMember w ≤ j
+    unfolding lowestMember
+    alike-low = lowest-most (member w) 64 j (a .own)
 
     -- if it is in the same sets, the lowest of them is the lowest of all
     lowest-alike : inSameSets sets j (lowestMember w) ≡ true → (n : ℕ) → j < n → lowestMember w ≡ lowestInSame sets n j
     unfolding lowestMember lowestInSame
     lowest-alike passes n h =
-        let most = lowest-most (member w) 64 j (a .own) in
-        sym (lowest-is (inSameSets sets j) n (lowestMember w) (omega arith) (λ l. passes)
-        (λ k l. a .told k (omega arith) ∙ ap (λ (b : Bool). b && inSameSets (drop i sets) j k) (lowest-before (member w) 64 k l)))
+        sym (lowest-is (inSameSets sets j) n (lowestMember w) (omega (arith, alike-low)) (λ l. passes)
+        (λ k l. a .told k (omega (arith, alike-low)) ∙ ap (λ (b : Bool). b && inSameSets (drop i sets) j k) (lowest-before (member w) 64 k l)))
 
     -- none is lower than j
     pub alike-own : lowestMember w ≡ j → (n : ℕ) → j < n → j ≡ lowestInSame sets n j
@@ -110,11 +102,6 @@ module _ (sets : List ℕ) (j : ℕ) where
     -- all sets are gone over
     pub alike-all : length sets ≤ i → j < 64 → (n : ℕ) → j < n → lowestMember w ≡ lowestInSame sets n j
     unfolding lowestMember
-    alike-all e b n h =
-        let most = lowest-most (member w) 64 j (a .own) in
-        lowest-alike
-        (a .told (lowestMember w) most ∙ rw (drop-of-length-le sets e, in-same-none) (and-both (lowest-passes (member w) 64 (omega arith)) refl)) n h
-
-    pub alike-low : lowestMember w ≤ j
-    unfolding lowestMember
-    alike-low = lowest-most (member w) 64 j (a .own)
+    alike-all e b =
+        let passes = lowest-passes (member w) 64 (omega (arith, alike-low)) in
+        lowest-alike (a .told (lowestMember w) alike-low ∙ rw (drop-of-length-le sets e, in-same-none) (and-both passes refl))

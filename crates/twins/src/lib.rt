@@ -5,13 +5,13 @@ ghost use mathlib.Core.Bool.{true};
 ghost use mathlib.Core.List.{map};
 ghost use Prim.Native.Nat.{ℕ, _+_, _*_, _≤_, _<_};
 ghost use lib.Dec.{eqb};
-ghost use lib.ListN.{length, getD};
+ghost use lib.ListN.{length};
 ghost use Rattle.timer_set.specs.Members.{member, image};
 ghost use Rattle.model.specs.Twins.{lowestInSame};
 ghost use Rattle.model.specs.Rewrite.{Numbering, through};
 ghost use Rattle.allocation.specs.Cells.{cellsOf};
 ghost use Rattle.twins.specs.LowestTwins.{narrowed, ownLowest, lowestAt, LowestListed, LowestOf};
-ghost use Rattle.twins.specs.Shared.{sharedCell, OnlyIn};
+ghost use Rattle.twins.specs.Shared.{sharedCell, RowShared, OnlyIn};
 use allocation::NO_NUMBER;
 use timer_set::TimerSet;
 
@@ -109,10 +109,7 @@ fn shared_cell(set: TimerSet, lowest: &[u8], cells: &[u16], q: usize, j: u8) -> 
 // The row of cells of location q. Downwards, since a lowest twin is no higher: its own cell is read before it is written.
 fn share_row(set: TimerSet, lowest: &[u8], q: usize, cells: &mut [u16])
     requires { ⌜ LowestListed (set .bits) (now lowest) × (64 * q + 64 ≤ length (now cells)) ⌝ }
-    ensures row { λ _. ⌜ ((j : ℕ) → j < 64
-        → getD (now (cells .exit)) (64 * q + j) 0 ≡ sharedCell (set .bits) (now (lowest .entry)) (now (cells .entry)) q j) ⌝ }
-    ensures before { λ _. ⌜ ((x : ℕ) → x < 64 * q → getD (now (cells .exit)) x 0 ≡ getD (now (cells .entry)) x 0) ⌝ }
-    ensures behind { λ _. ⌜ ((x : ℕ) → 64 * q + 64 ≤ x → getD (now (cells .exit)) x 0 ≡ getD (now (cells .entry)) x 0) ⌝ }
+    ensures { λ _. ⌜ RowShared (set .bits) (now (lowest .entry)) q (now (cells .entry)) 0 (now (cells .exit)) ⌝ }
 {
     let mut j: u8 = 64;
     while j > 0 {

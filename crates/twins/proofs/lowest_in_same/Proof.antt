@@ -7,8 +7,6 @@ use lib.ListN.{length}
 use Rattle.twins.proofs.Alike.{Alike, alike-first, alike-next, alike-own, alike-all, alike-low}
 use Rattle.twins.proofs.lowest_in_same.Statement.{statement}
 use Rattle.twins.proofs.lowest_in_same.Tie as tie
-use Rattle.twins.proofs.lowest_in_same.Reads as reads
-use Rattle.twins.proofs.lowest_in_same.Lts as lts
 
 abbrev Inv-loop : tie.InvT-loop
 Inv-loop sets j n alike₀ i₀ alike i = (n ≡ length sets) × Alike sets j i (alike .bits)

@@ -4,15 +4,13 @@ use Prim.Native.Nat.{ℕ, _+_, _-_, _≤_, _<_}
 use native.Mathlib.Omega.{arith}
 use borrow.Author.Needs.{needs}
 use borrow.Author.Tests.{eq-eqb, ne-eqb}
-use lib.ListN.{length, getD, set, length-set}
+use lib.ListN.{length, set, length-set}
 use Rattle.lists.proofs.Nth.{filled-more}
 use Rattle.model.specs.Twins.{lowestInSame}
 use Rattle.twins.specs.LowestTwins.{lowestAt, ownLowest}
 use Rattle.twins.proofs.Own.{ownBelow, own-none, own-yes, own-no}
 use Rattle.twins.proofs.lowest_twins.Statement.{statement}
 use Rattle.twins.proofs.lowest_twins.Tie as tie
-use Rattle.twins.proofs.lowest_twins.Reads as reads
-use Rattle.twins.proofs.lowest_twins.Lts as lts
 
 abbrev Inv-loop : tie.InvT-loop
 Inv-loop starts timers lowest₀ own₀ j₀ lowest own j =

@@ -1,18 +1,16 @@
 -- `merge_sets` meets its contract: the sets below q are merged. Assumes nothing.
-use mathlib.Core.Path.{_≡_, refl, sym, ap, _∙_}
+use mathlib.Core.Path.{_≡_, refl}
 use mathlib.Core.List.{map}
-use Prim.Native.Nat.{ℕ, _+_, _-_, _≤_, _<_}
+use Prim.Native.Nat.{_-_}
 use native.Mathlib.Numerals.{add-one}
 use native.Mathlib.Omega.{arith}
 use borrow.Author.Needs.{needs}
 use lib.ListN.{length, take, length-set}
 use Rattle.timer_set.specs.Members.{image}
-use Rattle.twins.specs.LowestTwins.{lowestAt, LowestOf}
+use Rattle.twins.specs.LowestTwins.{lowestAt}
 use Rattle.twins.proofs.Merging.{mapped-more, mapped-all}
 use Rattle.twins.proofs.merge_sets.Statement.{statement}
 use Rattle.twins.proofs.merge_sets.Tie as tie
-use Rattle.twins.proofs.merge_sets.Reads as reads
-use Rattle.twins.proofs.merge_sets.Lts as lts
 
 abbrev Inv-loop : tie.InvT-loop
 Inv-loop live lowest own merged₀ n q₀ merged q =

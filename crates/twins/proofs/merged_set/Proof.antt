@@ -8,14 +8,12 @@ use borrow.Author.Needs.{needs}
 use borrow.Author.Tests.{eqb-true, eq-eqb, not-true, not-false}
 use Rattle.lists.proofs.Bools.{not-both, and-left}
 use Rattle.timer_set.specs.Members.{member}
-use Rattle.timer_set.proofs.LowestMember.{lowest-below, lowest-member, without-less}
+use Rattle.timer_set.proofs.LowestMember.{lowest-member, without-less}
 use Rattle.timer_set.proofs.Members.{member-minus, member-removed, minus-lt, removed-lt}
 use Rattle.twins.specs.LowestTwins.{lowestAt, LowestListed}
 use Rattle.twins.proofs.Merging.{MergedTo, merged-first, merged-more, merged-all, low-small, listed-fewer}
 use Rattle.twins.proofs.merged_set.Statement.{statement}
 use Rattle.twins.proofs.merged_set.Tie as tie
-use Rattle.twins.proofs.merged_set.Reads as reads
-use Rattle.twins.proofs.merged_set.Lts as lts
 
 abbrev Inv-loop : tie.InvT-loop
 Inv-loop lowest merged₀ left₀ merged left =
@@ -86,9 +84,10 @@ returns c =
     let s = c .before .before .before .before .before .before in
     let e : l .left .bits ≡ 0 = eqb-true _ _ (sym (c .before .is-empty .ensures) ∙ not-false _ (c .if1 .left)) in
     let w : s .args .set .bits < 2 ^ 64 = omega arith in
+    let m = c .before .before .before in
     let first = merged-first (lowestAt (s .args .lowest .now)) (s .args .set .bits) w (s .args .own .bits) (s .pre .1) in
     merged-all _ _ w (low-small (s .pre .0) w)
-    (rw e at (l .inv .2 (s .args .set .bits) (rw (c .before .before .before .minus .ensures, c .before .before .before .before .common .ensures) first)))
+    (rw e at (l .inv .2 (s .args .set .bits) (rw (m .minus .ensures, m .before .common .ensures) first)))
 
 pub merged-set-spec : {M : Type 1} → statement M
 merged-set-spec =
