@@ -2,54 +2,32 @@
 -- families' numbers, and sharing them the numbers of its timers. Nothing is hard: each step's equation is read with the chart's lists. Assumes
 -- nothing.
 use mathlib.Core.Path.{_≡_, refl, sym, ap, _∙_, subst}
-use mathlib.Core.Logic.{_⊎_, inl, inr}
-use mathlib.Core.Bool.{Bool, true, false}
+use mathlib.Core.Bool.{true, false}
 use mathlib.Core.Option.{Option, none, some}
 use mathlib.Core.List.{List, map}
 use Prim.Native.Nat.{ℕ, _≤_, _<_}
-use native.Mathlib.Omega.{arith}
-use lib.Dec.{eqb}
 use lib.ListN.{length, getD, length-map}
-use lib.Seq.{ext-getD}
-use Rattle.timer_set.specs.Members.{member, image, setOf}
-use Rattle.timer_set.proofs.Members.{member-setOf}
-use Rattle.timer_set.proofs.Images.{image-same, image-empty}
-use Rattle.lists.specs.Lists.{memb, pick}
-use Rattle.lists.proofs.Bools.{yes-or-no, not-both, same-bool}
-use Rattle.lists.proofs.Gather.{pick-in, pick-out}
-use Rattle.lists.proofs.Nth.{getD-map-all}
+use Rattle.timer_set.specs.Members.{member, image}
+use Rattle.lists.proofs.Bools.{not-both}
 use Rattle.model.specs.Chart.{Chart}
 use Rattle.model.specs.Valid.{Valid}
-use Rattle.model.specs.Live.{liveSets}
 use Rattle.model.specs.Twins.{lowestInSame, lowestTwin, mergedSets}
 use Rattle.model.specs.Family.{Pairs, isPair, families, livePairs}
 use Rattle.model.specs.FirstFit.{firstFit, usedBy, numberAt, board, used}
-use Rattle.model.specs.Rewrite.{Numbering, numbering, through, boardNumbering}
+use Rattle.model.specs.Rewrite.{numbering, through, boardNumbering}
 use Rattle.model.proofs.PairNumbers.{number-pair}
-use Rattle.model.proofs.Twins.{twins-refl, lowest-of-twins, live-word}
+use Rattle.model.proofs.Twins.{live-word}
 use Rattle.model.proofs.LivePairs.{live-pairs-formed}
 use Rattle.chart_lists.specs.Lists.{listsOf}
 use Rattle.families.specs.Pairs.{pairsOf, SafeTransitions}
-use Rattle.families.proofs.ChartPairs.{live-each, merged-each, live-member, chart-pairs, chart-safe}
+use Rattle.families.proofs.ChartPairs.{live-each, live-member, chart-pairs, chart-safe}
 use Rattle.allocation.specs.Cells.{cellsOf}
 use Rattle.allocation.specs.FamiliesAt.{FamiliesAt}
 use Rattle.allocation.specs.declared.Allocated.{Allocated}
 use Rattle.twins.specs.LowestTwins.{ownLowest, lowestAt, LowestOf}
 use Rattle.twins.specs.Shared.{OnlyIn}
 use Rattle.twins.specs.LiveNumbered.{LiveLists, LiveNumbered}
-
--- a numbering read through functions that agree on the sets
-through-same : (sets : List ℕ) (f g : ℕ → ℕ) (N : Numbering) → ((q j : ℕ) → member (getD sets q 0) j ≡ true → f j ≡ g j)
-    → through sets f N ≡ through sets g N
-unfolding through
-through-same sets f g N same = λ i. record { number = λ q j. at q j i; used = N .used }
-  where
-    at : (q j : ℕ) → through sets f N .number q j ≡ through sets g N .number q j
-    at q j = go (yes-or-no (member (getD sets q 0) j))
-      where
-        go : (member (getD sets q 0) j ≡ true) ⊎ (member (getD sets q 0) j ≡ false) → through sets f N .number q j ≡ through sets g N .number q j
-        go (inl h) = rw (h, through) (ap (N .number q) (same q j h))
-        go (inr h) = rw (h, through) refl
+use Rattle.twins.proofs.Listed.{lowest-of, merged-same, shared-same}
 
 -- a board number is that of a pair
 pair-number : {W : ℕ} {c : Chart} → Valid W c → (q j k : ℕ) → numberAt (board c) q j ≡ some k → member (getD (mergedSets c) q 0) j ≡ true
@@ -73,30 +51,15 @@ module _ {c : Chart} {s t w live : List ℕ} {timers : ℕ} (a : LiveLists c s t
     on-live q j m = lowest-are j (below q j m)
 
     -- what merging and sharing ask for
-    pub lowest-of : {own : ℕ} → own ≡ ownLowest w timers → LowestOf live lowest own
-    unfolding ownLowest
-    lowest-of e = record {
-      each = λ q h. record {
-        listed = λ j m. omega (arith, below q j m, room);
-        low = λ j m. omega (arith, on-live q j m, lowest-of-twins c j j (twins-refl j));
-      };
-      own-are = λ q h j m.
-          ap (λ (x : ℕ). member x j) e ∙ member-setOf _ j ∙ own-memb j (below q j m) ∙ ap (λ (x : ℕ). eqb x j) (sym (listed j (below q j m)));
-    }
-      where
-        own-memb : (j : ℕ) → j < timers → memb j (pick (λ i. eqb (lowestInSame w timers i) i) timers) ≡ eqb (lowestInSame w timers j) j
-        own-memb j h = same-bool _ _ (λ m. pick-out _ timers j m .1) (λ e. pick-in _ timers j h e)
+    pub asked : {own : ℕ} → own ≡ ownLowest w timers → LowestOf live lowest own
+    asked {own} e = lowest-of w live lowest timers own room listed e (λ q j h. below q j)
 
     module _ {merged : List ℕ} (made : merged ≡ map (image (lowestAt lowest)) live) where
       pub merged-are : merged ≡ mergedSets c
       unfolding mergedSets
-      merged-are = made ∙ ext-getD 0 (map (image (lowestAt lowest)) live) (map (image (lowestTwin c)) (liveSets c))
-          (length-map live _ ∙ ap length (a .live-are) ∙ sym (length-map (liveSets c) _))
-          (λ q h.
-          getD-map-all (image (lowestAt lowest)) (image-empty _) live q
-          ∙ ap (λ (l : List ℕ). image (lowestAt lowest) (getD l q 0)) (a .live-are)
-          ∙ image-same (lowestAt lowest) (getD (liveSets c) q 0) (live-word (a .valid) q) (lowestTwin c) (λ j m. on-live q j (rw (a .live-are) m))
-          ∙ sym (getD-map-all (image (lowestTwin c)) (image-empty _) (liveSets c) q))
+      merged-are =
+          made ∙ merged-same (lowestAt lowest) (lowestTwin c) live (λ q j h. on-live q j) (λ q h. rw (a .live-are) (live-word (a .valid) q))
+          ∙ ap (map (image (lowestTwin c))) (a .live-are)
 
       abbrev pairs : Pairs
       pairs = pairsOf s t w merged timers
@@ -106,6 +69,11 @@ module _ {c : Chart} {s t w live : List ℕ} {timers : ℕ} (a : LiveLists c s t
 
       pub as-many : length merged ≡ length live
       as-many = ap length made ∙ length-map live _
+
+      -- the cells that first fit leaves are one row for each location
+      pub first-cells : {cells : List ℕ} → cells ≡ cellsOf (numbering (firstFit pairs)) (length merged)
+          → cells ≡ cellsOf (numbering (firstFit pairs)) (length live)
+      first-cells e = e ∙ ap (cellsOf (numbering (firstFit pairs))) as-many
 
       pairs-are : pairs ≡ livePairs c
       pairs-are = rw (a .sources-are, a .targets-are, a .starts-are, merged-are, a .timers-are) (chart-pairs c)
@@ -135,7 +103,7 @@ module _ {c : Chart} {s t w live : List ℕ} {timers : ℕ} (a : LiveLists c s t
           merged-are = merged-are;
           cells-are =
               e
-              ∙ ap (λ (N : Numbering). cellsOf N (length live)) (through-same live (lowestAt lowest) (lowestTwin c) _ on-live)
+              ∙ shared-same (lowestAt lowest) (lowestTwin c) live (λ q j h. on-live q j) _
               ∙ rw (placed-are, a .live-are, live-each c) refl;
           used-is = u ∙ ap usedBy placed-are;
           families-is = f ∙ ap (λ (p : Pairs). length (families p)) pairs-are;

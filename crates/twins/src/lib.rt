@@ -12,6 +12,9 @@ ghost use Rattle.model.specs.Rewrite.{Numbering, through};
 ghost use Rattle.allocation.specs.Cells.{cellsOf};
 ghost use Rattle.twins.specs.LowestTwins.{narrowed, ownLowest, lowestAt, LowestListed, LowestOf};
 ghost use Rattle.twins.specs.Shared.{sharedCell, RowShared, OnlyIn};
+
+pub mod live;
+
 use allocation::NO_NUMBER;
 use timer_set::TimerSet;
 
