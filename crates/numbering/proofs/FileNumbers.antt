@@ -8,6 +8,7 @@ use lib.ListN.{length, take}
 use Rattle.model.specs.Answer.{Answer, result, refused}
 use Rattle.model.specs.Chart.{Chart}
 use Rattle.model.specs.Live.{liveSets, liveRounds}
+use Rattle.model.specs.Twins.{mergedSets}
 use Rattle.model.specs.FirstFit.{used}
 use Rattle.model.specs.Floor.{floor, searched}
 use Rattle.model.proofs.Answers.{result-refused, not-result, result-same, refused-same}
@@ -16,11 +17,22 @@ use Rattle.chart_lists.specs.declared.Header.{Header}
 use Rattle.chart_lists.specs.Begins.{Begins}
 use Rattle.chart_lists.proofs.Begins.{begins-take, begins-part, begins-room}
 use Rattle.chart_lists.proofs.Fronts.{locations-are}
-use Rattle.families.proofs.ChartPairs.{live-each}
+use Rattle.families.proofs.ChartPairs.{live-each, merged-each}
 use Rattle.judgement.specs.Judging.{judgedIn}
 use Rattle.numbering.specs.FileNumbers.{FileNumbers, fileNumbers, numberedIn, ListsNumbered}
 
 -- ---- of a chart
+
+module _ (c : Chart) {m : Header} (is : m ≡ headerOf c) {merged : List ℕ} (b : Begins (mergedSets c) merged) where
+  merged-each-is : m .locations ≡ length (mergedSets c)
+  merged-each-is = locations-are c is ∙ sym (merged-each c)
+
+  -- the part of the list that is looked at again is the merged sets
+  pub merged-front : take (m .locations) merged ≡ mergedSets c
+  merged-front = begins-take b merged-each-is
+
+  pub merged-part : length (take (m .locations) merged) ≡ m .locations
+  merged-part = begins-part b merged-each-is
 
 module _ (c : Chart) {m : Header} (is : m ≡ headerOf c) {live : List ℕ} (b : Begins (liveSets c) live) where
   each : m .locations ≡ length (liveSets c)

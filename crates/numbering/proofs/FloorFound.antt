@@ -1,5 +1,5 @@
 -- The floor of a chart by the number of its families: what is asked for the fewest timers of any plan, and what is found. Nothing is hard: the laws
--- of plans bound the fewest timers by the fullest live set and by what first fit uses. Assumes nothing.
+-- of plans bound the fewest timers by the fullest live set, twins counted as one, and by what first fit uses. Assumes nothing.
 use mathlib.Core.Path.{_≡_, sym, ap, _∙_}
 use mathlib.Core.Bool.{true, false}
 use mathlib.Core.List.{List}
@@ -29,22 +29,22 @@ use Rattle.meeting.specs.Meeting.{Asked}
 use Rattle.numbering.specs.ChartNumbered.{ChartNumbered}
 use Rattle.numbering.specs.FloorAsked.{FloorAsked}
 use Rattle.numbering.specs.declared.Numbered.{Numbered}
-use Rattle.numbering.proofs.FileNumbers.{live-front}
+use Rattle.numbering.proofs.FileNumbers.{merged-front}
 
 -- the fronts of the lists that a chart's numbering leaves are what is asked
-pub floor-asked : {W : ℕ} (c : Chart) {m : Header} (is : m ≡ headerOf c) {live cells at : List ℕ} {r : Numbered} → Valid W c
-    → ChartNumbered c live cells at r → m .locations ≤ length at → FloorAsked c (take (m .locations) live) (take (m .locations) at) r
+pub floor-asked : {W : ℕ} (c : Chart) {m : Header} (is : m ≡ headerOf c) {live merged cells at : List ℕ} {r : Numbered} → Valid W c
+    → ChartNumbered c live merged cells at r → m .locations ≤ length at → FloorAsked c (take (m .locations) merged) (take (m .locations) at) r
 floor-asked {W} c {m} is {at = at} valid n room = record {
   width = W;
   valid = valid;
-  live-are = live-front c is (n .live-are);
+  merged-are = merged-front c is (n .merged-are);
   at-are = rw (locations-are c is) (n .at-are);
   at-long = length-take-le (m .locations) at room ∙ locations-are c is;
   used-is = n .used-is;
   families-is = n .families-is;
 }
 
-module _ {c : Chart} {live at : List ℕ} {r : Numbered} (a : FloorAsked c live at r) where
+module _ {c : Chart} {merged at : List ℕ} {r : Numbered} (a : FloorAsked c merged at r) where
   -- at most 20 families
   module _ (few : r .families ≤ mostSearched) where
     inside : (i s : ℕ) (g : Family) → getElem? (families (livePairs c)) i ≡ some g → memb s (g .locations) ≡ true → s < length at
@@ -56,13 +56,13 @@ module _ {c : Chart} {live at : List ℕ} {r : Numbered} (a : FloorAsked c live 
         ap (λ (x : Family). memb s (x .locations)) (sym (f .whole)) ∙ h in
         omega (arith, rising-below (c .locations) 0 _ (family-rising formed (g .first) (g .timer) (f .pair)) s here .1, a .at-long)
 
-    pub few-asked : {m : ℕ} → m ≡ fullest live → Asked (families (livePairs c)) at (r .families) m (r .used)
+    pub few-asked : {m : ℕ} → m ≡ fullest merged → Asked (families (livePairs c)) at (r .families) m (r .used)
     few-asked e = record {
       at-are = a .at-are;
       inside = inside;
       count-is = a .families-is;
       few = few;
-      low-is = omega (arith, fullest-fewest (a .valid), e, ap fullest (a .live-are));
+      low-is = omega (arith, fullest-fewest (a .valid), e, ap fullest (a .merged-are));
       high-is = omega (arith, fewest-used (a .valid), a .used-is);
       high-few = omega (arith, used-families c, a .used-is, a .families-is);
     }
@@ -74,8 +74,8 @@ module _ {c : Chart} {live at : List ℕ} {r : Numbered} (a : FloorAsked c live 
         (e ∙ sym (floor-searched c h), sym h)
 
   -- more
-  pub many-found : {m : ℕ} → mostSearched < r .families → m ≡ fullest live → (m ≡ floor c) × (false ≡ searched c)
+  pub many-found : {m : ℕ} → mostSearched < r .families → m ≡ fullest merged → (m ≡ floor c) × (false ≡ searched c)
   unfolding searched
   many-found more e =
       let h : searched c ≡ false = lt-leb (length (families (livePairs c))) mostSearched (omega (arith, a .families-is)) in
-      (e ∙ ap fullest (a .live-are) ∙ sym (floor-unsearched c h), sym h)
+      (e ∙ ap fullest (a .merged-are) ∙ sym (floor-unsearched c h), sym h)

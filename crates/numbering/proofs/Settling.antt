@@ -1,5 +1,5 @@
--- The fronts of a chart's lists are what the rounds and the allocation ask for, and what these leave is the chart's. Assumes nothing.
-use mathlib.Core.Path.{_≡_, sym, ap, _∙_, subst₂}
+-- The fronts of a chart's lists are what the rounds and the numbering of live sets ask for, and what these leave is the chart's. Assumes nothing.
+use mathlib.Core.Path.{_≡_, sym, ap, _∙_, subst}
 use mathlib.Core.List.{List, _++_}
 use Prim.Native.Nat.{ℕ, _≤_}
 use native.Mathlib.Omega.{arith}
@@ -9,9 +9,8 @@ use Rattle.lists.proofs.Zeros.{take-zeros}
 use Rattle.model.specs.Chart.{Chart}
 use Rattle.model.specs.Flow.{Flow, settled, rounds}
 use Rattle.model.specs.Live.{testedSets, liveFlow, liveSets, liveRounds}
-use Rattle.model.specs.Family.{Pairs, families, livePairs}
-use Rattle.model.specs.FirstFit.{firstFit, usedBy, board, used}
-use Rattle.model.specs.Rewrite.{numbering}
+use Rattle.model.specs.Family.{families, livePairs}
+use Rattle.model.specs.FirstFit.{used}
 use Rattle.chart_lists.specs.Limits.{mostLocations}
 use Rattle.chart_lists.specs.Header.{headerOf}
 use Rattle.chart_lists.specs.declared.Header.{Header}
@@ -21,10 +20,10 @@ use Rattle.chart_lists.specs.Partly.{edgesOf}
 use Rattle.chart_lists.proofs.Fronts.{locations-are, timers-are, each-front, sources-front, targets-front, starts-front, begins-front}
 use Rattle.flow.specs.Edges.{flowOf, SafeEdges}
 use Rattle.flow.proofs.ChartFlows.{tested-each, live-flow, live-safe}
-use Rattle.families.specs.Pairs.{pairsOf, SafeTransitions}
-use Rattle.families.proofs.ChartPairs.{live-each, chart-pairs, chart-safe}
-use Rattle.allocation.specs.Cells.{cellsOf}
+use Rattle.families.proofs.ChartPairs.{live-each}
 use Rattle.allocation.specs.FamiliesAt.{FamiliesAt}
+use Rattle.allocation.specs.declared.Allocated.{Allocated}
+use Rattle.twins.specs.LiveNumbered.{LiveLists, LiveNumbered}
 use Rattle.numbering.specs.ChartNumbered.{ChartNumbered}
 use Rattle.numbering.specs.declared.Numbered.{Numbered}
 
@@ -84,34 +83,27 @@ module _ (c : Chart) {m : Header} (is : m ≡ headerOf c) {s t w u : List ℕ} (
       pub seen-length : length (seen m live rest) ≡ m .locations
       seen-length = ap length seen-are ∙ live-each c ∙ sym (locations-are c is)
 
-      pub allocate-safe : SafeTransitions (part m s) (part m t) (part m w) (seen m live rest) (m .timers)
-      allocate-safe =
-          rw (sources-front c is (h .sources), targets-front c is (h .targets), starts-front c is (h .starts), seen-are, timers-are c is)
-          (chart-safe (h .valid))
+      -- the lists that the numbering of live sets is lent
+      pub live-lists : LiveLists c (part m s) (part m t) (part m w) (seen m live rest) (m .timers)
+      live-lists = record {
+        width = h .width;
+        valid = h .valid;
+        sources-are = sources-front c is (h .sources);
+        targets-are = targets-front c is (h .targets);
+        starts-are = starts-front c is (h .starts);
+        live-are = seen-are;
+        timers-are = timers-are c is;
+      }
 
-      abbrev pairs : Pairs
-      pairs = pairsOf (part m s) (part m t) (part m w) (seen m live rest) (m .timers)
-
-      pairs-are : pairs ≡ livePairs c
-      pairs-are =
-          rw (sources-front c is (h .sources), targets-front c is (h .targets), starts-front c is (h .starts), seen-are, timers-are c is)
-          (chart-pairs c)
-
-      placed-are : firstFit pairs ≡ board c
-      unfolding board
-      placed-are = ap firstFit pairs-are
-
-      pub numbered : {cells : List ℕ} (beyond : List ℕ) {at : List ℕ} (past : List ℕ) {r : Numbered}
-          → cells ≡ cellsOf (numbering (firstFit pairs)) (length (seen m live rest)) → r .used ≡ usedBy (firstFit pairs)
-          → r .families ≡ length (families pairs) → FamiliesAt (families pairs) at → length at ≡ m .locations → r .rounds ≡ rounds flow
-          → ChartNumbered c (live ++ rest) (cells ++ beyond) (at ++ past) r
-      unfolding used
-      numbered beyond {at} past f g k a long n = record {
+      pub numbered : {merged cells at : List ℕ} (after beyond past : List ℕ) {l : Allocated} {r : Numbered} → LiveNumbered c merged cells at l
+          → length at ≡ m .locations → r .used ≡ l .used → r .families ≡ l .families → r .rounds ≡ rounds flow
+          → ChartNumbered c (live ++ rest) (merged ++ after) (cells ++ beyond) (at ++ past) r
+      numbered {at = at} after beyond past x long u f n = record {
         live-are = begins-front rest live-are;
-        cells-are = begins-front beyond (rw (placed-are, seen-length ∙ locations-are c is) at f);
-        used-is = g ∙ ap usedBy placed-are;
-        families-is = k ∙ ap (λ (p : Pairs). length (families p)) pairs-are;
+        merged-are = begins-front after (x .merged-are);
+        cells-are = begins-front beyond (x .cells-are);
+        used-is = u ∙ x .used-is;
+        families-is = f ∙ x .families-is;
         rounds-is = rounds-are n;
-        at-are = subst₂ (λ (p : Pairs) (l : List ℕ). FamiliesAt (families p) l) pairs-are
-            (sym (take-at at past (c .locations) (long ∙ locations-are c is))) a;
+        at-are = subst (FamiliesAt (families (livePairs c))) (sym (take-at at past (c .locations) (long ∙ locations-are c is))) (x .at-are);
       }

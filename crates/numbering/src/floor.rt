@@ -1,4 +1,4 @@
-// The floor of a chart, from its live sets and from the families at each location.
+// The floor of a chart, from its live sets with twins counted as one, and from the families at each location.
 ghost use mathlib.Core.Path.{_≡_};
 ghost use Rattle.model.specs.Chart.{Chart};
 ghost use Rattle.model.specs.Live.{fullest as Live·fullest};
@@ -31,14 +31,14 @@ fn fullest(sets: &[u64]) -> u32
     most
 }
 
-// The fewest timers of any plan where there are at most 20 families: no fewer than the fullest live set has, and no more than first fit uses. With
-// more families the fullest live set.
-pub fn find_floor(live: &[u64], families_at: &[u64], numbered: Numbered) -> FloorFound
-    requires { ⌜ ((c : Chart) × FloorAsked c (now live) (now «families_at») numbered) ⌝ }
-    ensures { λ r. ⌜ ((c : Chart) → FloorAsked c (now (live .entry)) (now («families_at» .entry)) numbered
+// The fewest timers of any plan where there are at most 20 families: no fewer than the fullest live set has, twins counted as one, and no more than
+// first fit uses. With more families the fullest live set, so counted.
+pub fn find_floor(merged: &[u64], families_at: &[u64], numbered: Numbered) -> FloorFound
+    requires { ⌜ ((c : Chart) × FloorAsked c (now merged) (now «families_at») numbered) ⌝ }
+    ensures { λ r. ⌜ ((c : Chart) → FloorAsked c (now (merged .entry)) (now («families_at» .entry)) numbered
         → (r .floor ≡ Floor·floor c) × (r .searched ≡ Floor·searched c)) ⌝ }
 {
-    let most = fullest(live);
+    let most = fullest(merged);
     if numbered.families > MOST_SEARCHED as u32 {
         return FloorFound {
             floor: most,

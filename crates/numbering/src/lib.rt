@@ -52,9 +52,9 @@ pub enum FileNumbered {
     Refused(Refusal),
 }
 
-// The live set of each location over the front of `live`, the board number of each pair (q, j) at 64 q + j over the front of `cells`, and over the
-// front of `families_at` of each location which of the first 20 families contain it. How many numbers are used, how many families there are, and how
-// many rounds found the live sets.
+// The live set of each location over the front of `live`, the same with twins counted as one over the front of `merged`, the board number of each live
+// timer j at 64 q + j over the front of `cells`, and over the front of `families_at` of each location which of the first 20 families contain it. How
+// many numbers are used, how many families there are, and how many rounds found the live sets.
 pub fn number_chart<'a>(
     header: Header,
     sources: &'a [u16],
@@ -62,15 +62,16 @@ pub fn number_chart<'a>(
     starts: &'a [u64],
     tested: &'a [u64],
     live: &mut [u64],
+    merged: &mut [u64],
     cells: &mut [u16],
     families_at: &mut [u64],
 ) -> Numbered
     requires { ⌜ ((c : Chart) × (header ≡ headerOf c) × Holds c (edgesOf c (now sources) (now targets) (now starts))
-        × Begins (testedSets c) (now tested)) × (header .locations ≤ length (now live)) × (64 * header .locations ≤ length (now cells))
-        × (header .locations ≤ length (now «families_at»)) ⌝ }
+        × Begins (testedSets c) (now tested)) × (header .locations ≤ length (now live)) × (header .locations ≤ length (now merged))
+        × (64 * header .locations ≤ length (now cells)) × (header .locations ≤ length (now «families_at»)) ⌝ }
     ensures { λ r. ⌜ ((c : Chart) → header ≡ headerOf c → Holds c (edgesOf c (now (sources .entry)) (now (targets .entry)) (now (starts .entry)))
         → Begins (testedSets c) (now (tested .entry))
-        → ChartNumbered c (now (live .exit)) (now (cells .exit)) (now («families_at» .exit)) r) ⌝ }
+        → ChartNumbered c (now (live .exit)) (now (merged .exit)) (now (cells .exit)) (now («families_at» .exit)) r) ⌝ }
 {
     let m = header.locations as usize;
     let n = header.transitions as usize;
@@ -79,12 +80,13 @@ pub fn number_chart<'a>(
     let started = &starts[..n];
     let own = [0u64; MOST_LOCATIONS];
     let rounds = flow::settle(from, to, started, &tested[..n], &own[..m], &mut live[..m]);
-    let allocated = allocation::allocate(
+    let allocated = twins::live::number_live(
         from,
         to,
         started,
         &live[..m],
         header.timers,
+        &mut merged[..m],
         &mut cells[..64 * m],
         &mut families_at[..m],
     );
@@ -124,6 +126,7 @@ fn number_judged<'a>(
         → Begins (testedSets c) (now (tested .entry))
         → (fileNumberedAs r ≡ result (fileNumbers c)) × ListsNumbered c (now (live .exit)) (now (cells .exit))) ⌝ }
 {
+    let mut merged = [0u64; MOST_LOCATIONS];
     let mut families_at = [0u64; MOST_LOCATIONS];
     let numbered = number_chart(
         header,
@@ -132,11 +135,12 @@ fn number_judged<'a>(
         starts,
         tested,
         live,
+        &mut merged,
         cells,
         &mut families_at,
     );
     let m = header.locations as usize;
-    let found = find_floor(&live[..m], &families_at[..m], numbered);
+    let found = find_floor(&merged[..m], &families_at[..m], numbered);
     FileNumbered::Chart {
         header,
         used: numbered.used,
