@@ -30,9 +30,9 @@ use Rattle.twin_laws.specs.Before.{pairsBefore, boardBefore, searchedBef
 use Rattle.model.proofs.Paths.{live-inside}
 use Rattle.model.proofs.Settled.{settled-words}
 use Rattle.model.proofs.LivePaths.{live-shaped, live-iff}
-use Rattle.model.proofs.Twins.{twins-refl, live-lowest, merged-at, pair-lowest}
+use Rattle.model.proofs.Twins.{twins-refl, live-lowest, lowest-of-twins, merged-at, pair-lowest, pair-own}
 use Rattle.model.proofs.PairNumbers.{number-pair}
-use Rattle.model.proofs.BoardPlan.{live-pairs-formed, board-used, number-iff}
+use Rattle.model.proofs.BoardPlan.{live-pairs-formed, board-used, number-iff, live-number}
 
 -- two that have the same number, if any, are equal
 same-option : (x y : Option ℕ) → ((k : ℕ) → x ≡ some k → y ≡ some k) → ((k : ℕ) → y ≡ some k → x ≡ some k) → x ≡ y
@@ -99,3 +99,12 @@ module _ {W : ℕ} {c : Chart} (valid : Valid W c) where
           unless (not (blocked K (same-board i))) 20 nowhere (
           result (record { used = usedBy (same-board i); chart = rewrittenBy (same-numbering i) c })));
     }
+
+  -- and only then
+  pub same-only : SameAsBefore c → NoLowerTwin c
+  unfolding numbering board
+  same-only same q j k l t =
+      let x = live-number valid q j l in
+      let number = ap (λ (ps : List Placed). numberAt ps q j) (same .same-board) ∙ ap (λ (N : Numbering). N .number q j) (sym (same .same-numbering)) ∙ x .1 in
+      let own = pair-own valid q j (number-pair (live-pairs-formed valid) q j (x .0) number .pair) in
+      omega (arith, own, lowest-of-twins c j k t)

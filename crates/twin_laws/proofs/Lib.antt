@@ -1,2 +1,3 @@
 pub mod InRuns
+pub mod Numbers
 pub mod Before
