@@ -1,17 +1,16 @@
 -- A chart in which no live timer has a lower twin has the results that it had before twins counted as one timer. Nothing is hard: each live timer
 -- stands for itself, so the merged sets are the live sets, and what is formed of them is equal. Assumes nothing.
 use mathlib.Core.Path.{_≡_, refl, sym, ap, _∙_, subst}
-use mathlib.Core.Logic.{⊎-elim}
 use mathlib.Core.Bool.{true, false, not}
 use mathlib.Core.Option.{Option, none, some}
-use mathlib.Core.List.{List, map, map-id}
-use Prim.Native.Nat.{ℕ, _^_, _≤_, _<_}
+use mathlib.Core.List.{List, map-id}
+use Prim.Native.Nat.{ℕ}
 use native.Mathlib.Nat.{le-antisymm}
 use native.Mathlib.Omega.{arith}
 use lib.Dec.{leb}
 use lib.ListN.{length, getD, length-map}
 use lib.Seq.{ext-getD}
-use Rattle.timer_set.specs.Members.{member, setOf, members, image}
+use Rattle.timer_set.specs.Members.{setOf, members, image}
 use Rattle.timer_set.proofs.Members.{setOf-members}
 use Rattle.timer_set.proofs.Images.{image-same}
 use Rattle.model.specs.Answer.{result, unless, nowhere}
@@ -19,8 +18,8 @@ use Rattle.model.specs.Chart.{Chart}
 use Rattle.model.specs.Valid.{Valid}
 use Rattle.model.specs.Path.{Live}
 use Rattle.model.specs.Live.{liveFlow, liveSets, live, fullest}
-use Rattle.model.specs.Twins.{Twins, lowestTwin, mergedSets}
-use Rattle.model.specs.Family.{Pairs, isPair, pairsWith, families, livePairs}
+use Rattle.model.specs.Twins.{lowestTwin, mergedSets}
+use Rattle.model.specs.Family.{Pairs, pairsWith, families, livePairs}
 use Rattle.model.specs.FirstFit.{Placed, firstFit, usedBy, numberAt, blocked, board}
 use Rattle.model.specs.SmallestPlan.{fewest}
 use Rattle.model.specs.Floor.{mostSearched, searched, floor}

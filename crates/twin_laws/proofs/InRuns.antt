@@ -1,7 +1,7 @@
 -- Twins are started together, so once started in a run they show one count; and the board timer of one shows that of all. Hard: that a timer which
 -- has a number where a run stands was started in the run. Backwards over steps that do not start it, it has had its number, at last at the initial
 -- location, where none has one. Assumes nothing.
-use mathlib.Core.Path.{_≡_, refl, sym, ap, ap₂, _∙_, subst}
+use mathlib.Core.Path.{_≡_, refl, sym, ap, _∙_, subst}
 use mathlib.Core.Logic.{_⊎_, inl, inr, ⊎-elim, _↔_}
 use mathlib.Core.Bool.{Bool, true, false}
 use mathlib.Core.Option.{Option, none, some}
@@ -11,11 +11,11 @@ use lib.Dec.{leb, eqb}
 use lib.ListN.{getElem?}
 use Rattle.lists.specs.Lists.{memb}
 use Rattle.lists.proofs.Bools.{yes-or-no, not-both, same-number}
-use Rattle.model.specs.Answer.{Answer, result, unless}
+use Rattle.model.specs.Answer.{result, unless}
 use Rattle.model.specs.Chart.{Transition, Chart, Nth}
 use Rattle.model.specs.Valid.{Valid}
 use Rattle.model.specs.Path.{StartsNowhere, Reached, Unstarted}
-use Rattle.model.specs.Run.{Counts, State, Step, Run, grown, restarted, after, enabled, attempt, steps, begin, outcome, everyTime, waited}
+use Rattle.model.specs.Run.{Counts, State, Step, Run, grown, after, enabled, attempt, steps, begin, outcome, everyTime, waited}
 use Rattle.model.specs.Twins.{Twins}
 use Rattle.model.specs.Rewrite.{Numbering, rewrittenBy, boardNumbering}
 use Rattle.model.specs.Plan.{Has, Plan}
@@ -45,9 +45,9 @@ passed a b c d n e =
     let x = unless-result b 22 n _ (unless-result a 15 n _ e .1) in
     (x .0, result-same (unless-result d 24 n _ (unless-result c 23 n _ (x .1) .1) .1))
 
-taken : (c : Chart) (n : ℕ) (s : State) (e : Step) (es : List Step) (t : State) → steps everyTime c n s (e ∷ es) ≡ result t → Taken c n s e es t
+step-taken : (c : Chart) (n : ℕ) (s : State) (e : Step) (es : List Step) (t : State) → steps everyTime c n s (e ∷ es) ≡ result t → Taken c n s e es t
 unfolding steps
-taken c n s e es t h = let x = then-result (attempt everyTime c n s e) _ h in go (x .0) (x .1) (x .2) (getElem? (c .transitions) (e .transition)) refl
+step-taken c n s e es t h = let x = then-result (attempt everyTime c n s e) _ h in go (x .0) (x .1) (x .2) (getElem? (c .transitions) (e .transition)) refl
   where
     go : (s′ : State) → attempt everyTime c n s e ≡ result s′ → steps everyTime c (suc n) s′ es ≡ result t
         → (o : Option Transition) → getElem? (c .transitions) (e .transition) ≡ o → Taken c n s e es t
@@ -95,7 +95,7 @@ module _ {c : Chart} {j k : ℕ} (t : Twins c j k) where
       → s′ .counts j ≡ s′ .counts k
   unfolding steps
   steps-same [] n s s′ h (inl e) = rw (← result-same h) e
-  steps-same (e ∷ es) n s s′ h x = let a = taken c n s e es s′ h in steps-same es (suc n) (after (a .transition) s (e .time)) s′ (a .onward) (go a x)
+  steps-same (e ∷ es) n s s′ h x = let a = step-taken c n s e es s′ h in steps-same es (suc n) (after (a .transition) s (e .time)) s′ (a .onward) (go a x)
     where
       go : (a : Taken c n s e es s′) → (s .counts j ≡ s .counts k) ⊎ (Starts c j e ⊎ StartedIn c j es)
           → (after (a .transition) s (e .time) .counts j ≡ after (a .transition) s (e .time) .counts k) ⊎ StartedIn c j es
@@ -122,7 +122,7 @@ module _ (c : Chart) (N : Numbering) (P : Plan c N) where
   unfolding steps after
   steps-started j k [] n s s′ reach h x = inr (rw (result-same h) x)
   steps-started j k (e ∷ es) n s s′ reach h x =
-      let a = taken c n s e es s′ h in
+      let a = step-taken c n s e es s′ h in
       let from : Reached c (a .transition .source) = rw (a .leaves) reach in
       go a from (steps-started j k es (suc n) (after (a .transition) s (e .time)) s′ (reached-step from (a .is-nth)) (a .onward) x)
     where
@@ -153,8 +153,7 @@ module _ (c : Chart) (N : Numbering) (P : Plan c N) where
           → ShownThroughTwins c N taken (waited d s) (waited d s′)
       shown d s s′ run a = record {
         shows = λ j i k t h.
-            let started = plan-started v taken s run i k h in
-            ap (λ (n : ℕ). n + d) (sym (a .shows i k h) ∙ twins-counts (twins-sym t) v taken s run started);
+            ap (λ (n : ℕ). n + d) (sym (a .shows i k h)) ∙ twins-waited (twins-sym t) d v taken s run (plan-started v taken s run i k h);
         started = a .started;
       }
 

@@ -1,3 +1,4 @@
 pub mod InRuns
 pub mod Numbers
 pub mod Before
+pub mod Examples
