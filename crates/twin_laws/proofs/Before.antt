@@ -1,5 +1,5 @@
--- A chart in which no live timer has a lower twin has the results that it had before twins counted as one timer. Nothing is hard: each live timer
--- stands for itself, so the merged sets are the live sets, and what is formed of them is equal. Assumes nothing.
+-- A chart has the results that it had before twins counted as one timer exactly if no live timer has a lower twin. Nothing is hard: each live timer
+-- then stands for itself, so the merged sets are the live sets, and what is formed of them is equal. Assumes nothing.
 use mathlib.Core.Path.{_≡_, refl, sym, ap, _∙_, subst}
 use mathlib.Core.Bool.{true, false, not}
 use mathlib.Core.Option.{Option, none, some}
@@ -104,6 +104,7 @@ module _ {W : ℕ} {c : Chart} (valid : Valid W c) where
   unfolding numbering board
   same-only same q j k l t =
       let x = live-number valid q j l in
-      let number = ap (λ (ps : List Placed). numberAt ps q j) (same .same-board) ∙ ap (λ (N : Numbering). N .number q j) (sym (same .same-numbering)) ∙ x .1 in
+      let as-before = ap (λ (N : Numbering). N .number q j) (sym (same .same-numbering)) ∙ x .1 in
+      let number = ap (λ (ps : List Placed). numberAt ps q j) (same .same-board) ∙ as-before in
       let own = pair-own valid q j (number-pair (live-pairs-formed valid) q j (x .0) number .pair) in
       omega (arith, own, lowest-of-twins c j k t)

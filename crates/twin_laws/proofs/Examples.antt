@@ -81,7 +81,7 @@ together-lower-twin own = omega (arith, own 2 1 0 (live-here read) (twins-sym to
     read : ReadAt startedTogether 2 1
     read = record { number = 2; transition = _; is-nth = record { there = refl }; leaves = refl; tests-it = refl }
 
--- there timer 0 is not live any more, and has no number; but board timer 0, which is that of timer 1, shows its count, from any counts, after every wait
+-- there timer 0 is not live any more, and has no number; but board timer 0, which is that of timer 1, shows its count too, after every wait
 pub together-shown : (boardNumbering startedTogether .number 2 0 ≡ none) × ((v w : Counts)
     → (x : ShownAtPoints startedTogether (boardNumbering startedTogether) v w twoSteps) × (x .left .location ≡ 2)
     × ((d : ℕ) → waited d (x .left′) .counts 0 ≡ waited d (x .left) .counts 0))

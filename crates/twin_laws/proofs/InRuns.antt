@@ -1,7 +1,7 @@
 -- Twins are started together, so once started in a run they show one count; and the board timer of one shows that of all. Hard: that a timer which
 -- has a number where a run stands was started in the run. Backwards over steps that do not start it, it has had its number, at last at the initial
 -- location, where none has one. Assumes nothing.
-use mathlib.Core.Path.{_≡_, refl, sym, ap, _∙_, subst}
+use mathlib.Core.Path.{_≡_, refl, sym, ap, _∙_}
 use mathlib.Core.Logic.{_⊎_, inl, inr, ⊎-elim, _↔_}
 use mathlib.Core.Bool.{Bool, true, false}
 use mathlib.Core.Option.{Option, none, some}
@@ -47,7 +47,9 @@ passed a b c d n e =
 
 step-taken : (c : Chart) (n : ℕ) (s : State) (e : Step) (es : List Step) (t : State) → steps everyTime c n s (e ∷ es) ≡ result t → Taken c n s e es t
 unfolding steps
-step-taken c n s e es t h = let x = then-result (attempt everyTime c n s e) _ h in go (x .0) (x .1) (x .2) (getElem? (c .transitions) (e .transition)) refl
+step-taken c n s e es t h =
+    let x = then-result (attempt everyTime c n s e) _ h in
+    go (x .0) (x .1) (x .2) (getElem? (c .transitions) (e .transition)) refl
   where
     go : (s′ : State) → attempt everyTime c n s e ≡ result s′ → steps everyTime c (suc n) s′ es ≡ result t
         → (o : Option Transition) → getElem? (c .transitions) (e .transition) ≡ o → Taken c n s e es t
@@ -79,29 +81,29 @@ module _ {c : Chart} {j k : ℕ} (t : Twins c j k) where
     λ u. record { path = u .path; leads = u .leads; nowhere = twins-nowhere (u .path) .1 (u .nowhere) },
   )
 
-  -- over a transition twins that show one count, or are started, show one count
-  after-same : {i : ℕ} {r : Transition} → Nth c i r → (s : State) (time : ℕ) → (s .counts j ≡ s .counts k) ⊎ (memb j (r .starts) ≡ true)
+  -- over a transition twins show one count afterwards that show one before or are started
+  after-same : {i : ℕ} {r : Transition} → Nth c i r → (s : State) (time : ℕ) → (memb j (r .starts) ≡ false → s .counts j ≡ s .counts k)
       → after r s time .counts j ≡ after r s time .counts k
   unfolding after grown
-  after-same {i} {r} n s time h = go (yes-or-no (memb j (r .starts))) h
-    where
-      go : (memb j (r .starts) ≡ true) ⊎ (memb j (r .starts) ≡ false) → (s .counts j ≡ s .counts k) ⊎ (memb j (r .starts) ≡ true)
-          → after r s time .counts j ≡ after r s time .counts k
-      go (inl m) h = restarted-yes j _ _ m ∙ sym (restarted-yes k _ _ (sym (t .together i r n) ∙ m))
-      go (inr f) (inl e) = restarted-no j _ _ f ∙ ap (λ (x : ℕ). x + (time - s .time)) e ∙ sym (restarted-no k _ _ (sym (t .together i r n) ∙ f))
-      go (inr f) (inr m) = absurd (not-both m f)
+  after-same {i} {r} n s time same = let both = sym (t .together i r n) in ⊎-elim
+      (λ m. restarted-yes j _ _ m ∙ sym (restarted-yes k _ _ (both ∙ m)))
+      (λ f. restarted-no j _ _ f ∙ ap (λ (x : ℕ). x + (time - s .time)) (same f) ∙ sym (restarted-no k _ _ (both ∙ f)))
+      (yes-or-no (memb j (r .starts)))
 
   steps-same : (es : List Step) (n : ℕ) (s s′ : State) → steps everyTime c n s es ≡ result s′ → (s .counts j ≡ s .counts k) ⊎ StartedIn c j es
       → s′ .counts j ≡ s′ .counts k
   unfolding steps
   steps-same [] n s s′ h (inl e) = rw (← result-same h) e
-  steps-same (e ∷ es) n s s′ h x = let a = step-taken c n s e es s′ h in steps-same es (suc n) (after (a .transition) s (e .time)) s′ (a .onward) (go a x)
+  steps-same (e ∷ es) n s s′ h x =
+      let a = step-taken c n s e es s′ h in
+      steps-same es (suc n) (after (a .transition) s (e .time)) s′ (a .onward) (go a x)
     where
       go : (a : Taken c n s e es s′) → (s .counts j ≡ s .counts k) ⊎ (Starts c j e ⊎ StartedIn c j es)
           → (after (a .transition) s (e .time) .counts j ≡ after (a .transition) s (e .time) .counts k) ⊎ StartedIn c j es
-      go a (inl x) = inl (after-same (a .is-nth) s (e .time) (inl x))
-      go a (inr (inl x)) = inl (after-same (a .is-nth) s (e .time)
-          (inr (subst (λ (r : Transition). memb j (r .starts) ≡ true) (nth-same (x .is-nth) (a .is-nth)) (x .starts-it))))
+      go a (inl x) = inl (after-same (a .is-nth) s (e .time) (λ f. x))
+      go a (inr (inl x)) =
+          let m = rw (nth-same (x .is-nth) (a .is-nth)) at (x .starts-it) in
+          inl (after-same (a .is-nth) s (e .time) (λ f. absurd (not-both m f)))
       go a (inr (inr x)) = inr x
 
   -- once started in a run twins show one count, after every wait
