@@ -1,4 +1,5 @@
--- The results as they are without twins, every timer counted by itself (document 01): for which charts they are the same. Assumes nothing.
+-- The results as they were formed before twins counted as one timer (document 02, P6), every timer by itself; and the charts that still have them.
+-- Assumes nothing.
 use mathlib.Core.Path.{_≡_}
 use mathlib.Core.Bool.{Bool, true, false, not}
 use mathlib.Core.List.{List}
@@ -53,6 +54,6 @@ pub record SameAsBefore (c : Chart) : Type 0 where
 abbrev pub NoTwins : Chart → Type 0
 NoTwins c = (j k : ℕ) → j < c .timers → k < c .timers → Twins c j k → j ≡ k
 
--- no timer that is live somewhere has a lower twin; that is enough
+-- no timer that is live somewhere has a lower twin; the twin need not be live. Exactly such charts have the results of before (proofs/Before)
 abbrev pub NoLowerTwin : Chart → Type 0
 NoLowerTwin c = (q j k : ℕ) → Live c q j → Twins c j k → j ≤ k
