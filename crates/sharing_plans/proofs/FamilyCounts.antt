@@ -13,14 +13,16 @@ use Rattle.lists.proofs.Membership.{nth-memb, memb-nth, nth-map, nth-unmap}
 use Rattle.lists.proofs.Gather.{length-upTo, upTo-rising, rising-below}
 use Rattle.model.specs.Chart.{Chart}
 use Rattle.model.specs.Valid.{Valid}
-use Rattle.model.specs.Family.{Family, meets, familyNumber, families, livePairs, WellFormed}
+use Rattle.model.specs.Twins.{lowestTwin}
+use Rattle.model.specs.Family.{Family, meets, familyNumber, familyOf, families, livePairs, WellFormed}
 use Rattle.model.specs.FirstFit.{Placed, held, free, place, firstFit, usedBy, board, used}
 use Rattle.model.specs.SharingRule.{FamilyNumber}
 use Rattle.sharing_plans.specs.SharingPlan.{FamiliesAtMost}
 use Rattle.model.specs.Floor.{mostSearched, searched}
 use Rattle.model.proofs.FirstFit.{free-least}
 use Rattle.model.proofs.FamilyList.{families-have, families-are, families-rising}
-use Rattle.model.proofs.LivePairs.{pair-live, live-pairs-formed}
+use Rattle.model.proofs.Twins.{live-itself, pair-lowest, pair-twin}
+use Rattle.model.proofs.LivePairs.{live-pairs-formed}
 use Rattle.model.proofs.FamilyNumbers.{number-unique, family-number}
 use Rattle.sharing_plans.proofs.DifferentNumbers.{few-members}
 
@@ -76,7 +78,7 @@ module _ {W : ℕ} {c : Chart} (valid : Valid W c) where
       named : (q j m : ℕ) → FamilyNumber c q j m → memb m numbers ≡ true
       named q j m f =
           let l = f .same .pair in
-          let e = families-have formed q j (pair-live valid q j .1 l) in
+          let e = families-have formed q (lowestTwin c j) (pair-twin valid q j .1 l) in
           rw (number-unique f (family-number valid q j l)) (nth-memb numbers (e .place) (nth-map familyNumber own (e .place) (e .is-nth)))
 
       among : (a : FamiliesAtMost n c) → (m : ℕ) → memb m numbers ≡ true → memb m (a .numbers) ≡ true
@@ -84,8 +86,10 @@ module _ {W : ℕ} {c : Chart} (valid : Valid W c) where
           let x = memb-nth numbers m h in
           let y = nth-unmap familyNumber own (x .0) (x .1) in
           let o = families-are formed (x .0) (y .0) (y .1) in
-          let l = pair-live valid (y .0 .first) (y .0 .timer) .0 (o .pair) in
-          a .named _ _ m (rw (ap familyNumber (sym (o .whole)) ∙ y .2) at (family-number valid (y .0 .first) (y .0 .timer) l))
+          let q = y .0 .first in
+          let t = pair-lowest valid q (y .0 .timer) .0 (o .pair) in
+          let whole = o .whole ∙ ap (familyOf (livePairs c) q) (sym (t .lowest-is)) in
+          a .named q (t .timer) m (rw (ap familyNumber (sym whole) ∙ y .2) at (family-number valid q (t .timer) (live-itself (t .live))))
 
   pub searched-iff : (searched c ≡ true) ↔ FamiliesAtMost mostSearched c
   unfolding searched

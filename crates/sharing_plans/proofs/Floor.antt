@@ -1,23 +1,26 @@
--- What the floor is: at most used, at least the count of every live set, with at most 20 families the fewest timers of any plan, with more the count
--- of the fullest live set. Nothing is hard. Assumes nothing.
-use mathlib.Core.Path.{_≡_, sym, subst}
+-- What the floor is: at most used, at least the count of every live set with twins counted once, with at most 20 families the fewest timers of any
+-- plan, with more the fullest such count. Nothing is hard. Assumes nothing.
+use mathlib.Core.Path.{_≡_, sym, _∙_, subst}
 use mathlib.Core.Logic.{_⊎_, inl, inr}
 use mathlib.Core.Bool.{true, false}
 use Prim.Native.Nat.{ℕ, _≤_, _<_}
 use native.Mathlib.Omega.{arith}
 use lib.Count.{ones}
-use lib.ListN.{length, getD}
+use lib.ListN.{length, getD, length-map}
 use Rattle.lists.proofs.Bools.{yes-or-no}
+use Rattle.timer_set.specs.Members.{image}
 use Rattle.model.specs.Chart.{Chart}
 use Rattle.model.specs.Valid.{Valid}
 use Rattle.model.specs.Live.{liveFlow, liveSets, fullest}
+use Rattle.model.specs.Twins.{lowestTwin, mergedSets}
 use Rattle.model.specs.Family.{families, livePairs}
 use Rattle.model.specs.FirstFit.{used}
-use Rattle.model.specs.Rewrite.{numbering, boardNumbering}
+use Rattle.model.specs.Rewrite.{boardNumbering}
 use Rattle.model.specs.SmallestPlan.{fewest}
 use Rattle.model.specs.Floor.{searched, floor}
 use Rattle.sharing_plans.specs.SharingPlan.{FewestTimers}
 use Rattle.model.proofs.Settled.{length-settled}
+use Rattle.model.proofs.BoardPlan.{board-used}
 use Rattle.sharing_plans.proofs.ChartPlans.{fewest-timers, first-fit-plan}
 use Rattle.sharing_plans.proofs.Fullest.{fullest-most, fullest-least, fullest-reached, plan-holds-live}
 
@@ -25,20 +28,20 @@ pub floor-searched : (c : Chart) → searched c ≡ true → floor c ≡ fewest 
 unfolding floor
 floor-searched c h = rw (h, floor)
 
--- with more families it is the figure of document 01
-pub floor-unsearched : (c : Chart) → searched c ≡ false → floor c ≡ fullest (liveSets c)
+-- with more families it is the figure of document 01, twins counted once
+pub floor-unsearched : (c : Chart) → searched c ≡ false → floor c ≡ fullest (mergedSets c)
 unfolding floor
 floor-unsearched c h = rw (h, floor)
 
 module _ {W : ℕ} {c : Chart} (valid : Valid W c) where
-  pub fullest-fewest : fullest (liveSets c) ≤ fewest (families (livePairs c))
+  pub fullest-fewest : fullest (mergedSets c) ≤ fewest (families (livePairs c))
   fullest-fewest =
       let x = fewest-timers valid in
-      fullest-least _ (liveSets c) (λ q h. omega (arith, plan-holds-live valid (x .plan) q, x .used-is))
+      fullest-least _ (mergedSets c) (λ q h. omega (arith, plan-holds-live valid (x .plan) q, x .used-is))
 
   pub fewest-used : fewest (families (livePairs c)) ≤ used c
-  unfolding used numbering
-  fewest-used = fewest-timers valid .least (boardNumbering c) (first-fit-plan valid)
+  unfolding used
+  fewest-used = rw (← board-used c) (fewest-timers valid .least (boardNumbering c) (first-fit-plan valid))
 
   pub floor-used : floor c ≤ used c
   floor-used = go (yes-or-no (searched c))
@@ -47,28 +50,28 @@ module _ {W : ℕ} {c : Chart} (valid : Valid W c) where
       go (inl h) = omega (arith, floor-searched c h, fewest-used)
       go (inr h) = omega (arith, floor-unsearched c h, fullest-fewest, fewest-used)
 
-  pub floor-most : (q : ℕ) → ones (getD (liveSets c) q 0) ≤ floor c
+  pub floor-most : (q : ℕ) → ones (getD (mergedSets c) q 0) ≤ floor c
   floor-most q = go (yes-or-no (searched c))
     where
-      go : (searched c ≡ true) ⊎ (searched c ≡ false) → ones (getD (liveSets c) q 0) ≤ floor c
-      go (inl h) = omega (arith, floor-searched c h, fullest-fewest, fullest-most (liveSets c) q)
-      go (inr h) = omega (arith, floor-unsearched c h, fullest-most (liveSets c) q)
+      go : (searched c ≡ true) ⊎ (searched c ≡ false) → ones (getD (mergedSets c) q 0) ≤ floor c
+      go (inl h) = omega (arith, floor-searched c h, fullest-fewest, fullest-most (mergedSets c) q)
+      go (inr h) = omega (arith, floor-unsearched c h, fullest-most (mergedSets c) q)
 
-  -- it is no smaller than the figure of document 01, and the same where first fit uses no more than that
-  pub floor-before : fullest (liveSets c) ≤ floor c
-  floor-before = fullest-least (floor c) (liveSets c) (λ q h. floor-most q)
+  -- it is no smaller than that figure, and the same where first fit uses no more
+  pub floor-before : fullest (mergedSets c) ≤ floor c
+  floor-before = fullest-least (floor c) (mergedSets c) (λ q h. floor-most q)
 
-  pub floor-same : used c ≤ fullest (liveSets c) → floor c ≡ fullest (liveSets c)
+  pub floor-same : used c ≤ fullest (mergedSets c) → floor c ≡ fullest (mergedSets c)
   floor-same h = omega (arith, floor-before, floor-used)
 
   -- with at most 20 families it is the fewest timers of any plan
   pub floor-fewest : searched c ≡ true → FewestTimers c (floor c)
   floor-fewest h = subst (FewestTimers c) (sym (floor-searched c h)) (fewest-timers valid)
 
-  -- with more it is the count of a live set, the fullest
-  pub floor-reached : searched c ≡ false → (q : ℕ) × (q < c .locations) × (ones (getD (liveSets c) q 0) ≡ floor c)
-  unfolding liveSets liveFlow
+  -- with more it is the count of a live set, twins counted once, the fullest
+  pub floor-reached : searched c ≡ false → (q : ℕ) × (q < c .locations) × (ones (getD (mergedSets c) q 0) ≡ floor c)
+  unfolding mergedSets liveSets liveFlow
   floor-reached h =
-      let each : length (liveSets c) ≡ c .locations = length-settled (liveFlow c) in
-      let x = fullest-reached (liveSets c) (omega (arith, each, valid .some-location)) in
+      let each : length (mergedSets c) ≡ c .locations = length-map (liveSets c) (image (lowestTwin c)) ∙ length-settled (liveFlow c) in
+      let x = fullest-reached (mergedSets c) (omega (arith, each, valid .some-location)) in
       (x .0, omega (arith, x .1, each), omega (arith, x .2, floor-unsearched c h))

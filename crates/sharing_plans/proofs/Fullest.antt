@@ -1,30 +1,29 @@
--- The count of the fullest set: none has more, and one has as many; and every plan has a timer for each timer of a live set. What is hard: the timers
--- of one live set have different numbers. Assumes nothing.
+-- The count of the fullest set: none has more, and one has as many; and every plan has a timer for each timer of a live set, twins counted once. What
+-- is hard: the timers of one live set that are not twins have different numbers. Assumes nothing.
 use mathlib.Core.Path.{_≡_, refl, sym, ap, _∙_}
 use mathlib.Core.Logic.{_⊎_, inl, inr}
-use mathlib.Core.Bool.{true}
+use mathlib.Core.Bool.{true, Bool-discrete}
 use mathlib.Core.Option.{some}
 use mathlib.Core.List.{List, [], _∷_}
-use Prim.Native.Nat.{ℕ, zero, suc, _^_, _≤_, _<_}
+use Prim.Native.Nat.{ℕ, zero, suc, _≤_, _<_}
 use native.Mathlib.Omega.{arith}
 use lib.Count.{ones}
 use lib.ListN.{length, getD}
 use Rattle.lists.specs.Lists.{memb}
 use Rattle.lists.proofs.Bools.{lt-or-le}
-use Rattle.timer_set.specs.Members.{members}
-use Rattle.timer_set.proofs.Members.{memb-members, members-rising}
-use Rattle.timer_set.proofs.Counts.{ones-members}
 use Rattle.model.specs.Chart.{Chart}
 use Rattle.model.specs.Valid.{Valid}
-use Rattle.model.specs.Live.{live, liveFlow, liveSets, fullest}
+use Rattle.model.specs.Live.{fullest}
+use Rattle.model.specs.Twins.{Twins, LowestTwin, mergedSets}
 use Rattle.model.specs.Rewrite.{Numbering}
 use Rattle.model.specs.Plan.{Has}
 use Rattle.model.specs.SharingRule.{SameFamily}
 use Rattle.sharing_plans.specs.SharingPlan.{SharingPlan}
-use Rattle.model.proofs.Settled.{settled-words}
-use Rattle.model.proofs.LivePaths.{live-shaped, live-iff}
+use Rattle.sharing_plans.specs.CountedOnce.{CountedOnce}
+use Rattle.model.proofs.Twins.{one-lowest, live-itself}
 use Rattle.sharing_plans.proofs.DifferentNumbers.{few-numbers}
-use Rattle.sharing_plans.proofs.ChartPlans.{numberOr0}
+use Rattle.sharing_plans.proofs.ChartPlans.{choose}
+use Rattle.sharing_plans.proofs.CountedOnce.{counted-once}
 
 -- ---- the fullest of sets
 
@@ -52,31 +51,37 @@ fullest-reached (w ∷ v ∷ l) h = go (fullest-reached (v ∷ l) (omega arith))
 
 -- ---- of a chart's plan
 
--- timers that have one number at a location are the same
-pub plan-different-here : {c : Chart} {N : Numbering} → SharingPlan c N → (q j i n : ℕ) → Has N q j n → Has N q i n → j ≡ i
+-- timers that have one number at a location are twins
+pub plan-different-here : {c : Chart} {N : Numbering} → SharingPlan c N → (q j i n : ℕ) → Has N q j n → Has N q i n → Twins c j i
 plan-different-here {c} {N} plan q j i n e e′ =
     plan .different q j q i n (record { location = q; of-one = itself j e; of-other = itself i e′ }) e e′
   where
     itself : (j : ℕ) → Has N q j n → SameFamily c j q q
-    itself j e = record { pair = plan .live q j n e; way = []; chain = refl }
+    itself j e = record { pair = live-itself (plan .live q j n e); way = []; chain = refl }
 
--- no live set has more timers than a plan
-module _ {W : ℕ} {c : Chart} (valid : Valid W c) {N : Numbering} (plan : SharingPlan c N) (q : ℕ) where
-  abbrev word : ℕ
-  word = getD (liveSets c) q 0
+-- no more timers are live at a location, twins counted once, than a plan has
+module _ {c : Chart} {N : Numbering} (plan : SharingPlan c N) (q : ℕ) where
+  -- m is the lowest twin of a timer that has the number n
+  record TwinNumber (m n : ℕ) : Type 0 where
+    timer : ℕ
+    is-lowest : LowestTwin c timer m
+    number : Has N q timer n
 
-  abbrev number : ℕ → ℕ
-  number j = numberOr0 (N .number q j)
+  counted-few : {n : ℕ} → CountedOnce c q n → n ≤ N .used
+  counted-few a =
+      let x = choose (λ m. Bool-discrete (memb m (a .timers)) true) number in
+      rw (← a .count) (few-numbers (x .0) (N .used) (c .timers) 0 (a .timers) (a .rising)
+      (λ m h. plan .below _ _ _ (x .1 m h .number))
+      (λ m m′ h h′ e. same (x .1 m h) (x .1 m′ h′) e))
+    where
+      number : (m : ℕ) → memb m (a .timers) ≡ true → (n : ℕ) × TwinNumber m n
+      number m h =
+          let y = a .are m .0 h in
+          let n = plan .numbered q (y .0) (y .1) in
+          (n .0, record { timer = y .0; is-lowest = y .2; number = n .1 })
 
-  small : word < 2 ^ 64
-  unfolding liveSets
-  small = settled-words (liveFlow c) (live-shaped valid) q
+      same : {m m′ n n′ : ℕ} → TwinNumber m n → TwinNumber m′ n′ → n ≡ n′ → m ≡ m′
+      same a b e = one-lowest (plan-different-here plan q _ _ _ (a .number) (b .number ∙ ap some (sym e))) (a .is-lowest) (b .is-lowest)
 
-  numbered : (j : ℕ) → memb j (members word) ≡ true → Has N q j (number j)
-  unfolding live
-  numbered j m = let n = plan .numbered q j (live-iff valid q j .0 (sym (memb-members word j small) ∙ m)) in rw (n .1) refl
-
-  pub plan-holds-live : ones word ≤ N .used
-  plan-holds-live = rw (ones-members word small) (few-numbers number (N .used) 64 0 (members word) (members-rising word)
-      (λ j m. plan .below q j (number j) (numbered j m))
-      (λ i j m n e. plan-different-here plan q i j (number i) (numbered i m) (numbered j n ∙ ap some (sym e))))
+pub plan-holds-live : {W : ℕ} {c : Chart} → Valid W c → {N : Numbering} → SharingPlan c N → (q : ℕ) → ones (getD (mergedSets c) q 0) ≤ N .used
+plan-holds-live valid plan q = counted-few plan q (counted-once valid q)

@@ -1,2 +1,3 @@
 pub mod SharingPlan
 pub mod FamilyPlans
+pub mod CountedOnce
