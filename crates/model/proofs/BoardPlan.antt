@@ -1,16 +1,12 @@
 -- The board numbers of a chart are a plan; each transition of the rewritten chart starts the numbers of the timers born on it; and 20 is given
 -- exactly where more than K numbers are used. Hard: that a timer keeps its number over a transition that does not start it: it is live at both ends,
 -- so the transition links the two pairs. Assumes nothing.
-use mathlib.Core.Path.{_≡_, refl, sym, _∙_}
-use mathlib.Core.Logic.{_⊎_, inl, inr, _↔_}
-use mathlib.Core.Bool.{true, false}
-use mathlib.Core.Option.{none, some, Option·none-ne-some}
-use mathlib.Core.List.{List}
+use mathlib.Core.Path.{_≡_, refl, _∙_}
+use mathlib.Core.Logic.{inl, _↔_}
+use mathlib.Core.Bool.{true}
+use mathlib.Core.Option.{some}
 use Prim.Native.Nat.{ℕ, _<_}
-use lib.ListN.{getD}
-use Rattle.timer_set.specs.Members.{member}
 use Rattle.lists.specs.Lists.{memb}
-use Rattle.lists.proofs.Bools.{yes-or-no}
 use Rattle.lists.proofs.Gather.{pick-in, pick-out}
 use Rattle.lists.proofs.Elements.{filter-in, filter-out}
 use Rattle.model.specs.Chart.{Transition, Chart, Nth}
@@ -20,37 +16,18 @@ use Rattle.model.specs.Live.{liveSets, live}
 use Rattle.model.specs.Twins.{Twins, lowestTwin}
 use Rattle.model.specs.Family.{livePairs, families}
 use Rattle.model.specs.FirstFit.{firstFit, usedBy, numberAt, blocked, board, used}
-use Rattle.model.specs.Rewrite.{Numbering, numbering, through, boardNumbering, newStarts}
+use Rattle.model.specs.Rewrite.{numbering, through, boardNumbering, newStarts}
 use Rattle.model.specs.Plan.{Has, Plan}
 use Rattle.model.specs.SharingRule.{LiveLink}
 use Rattle.model.proofs.Paths.{live-here, live-back, live-unstarted}
 use Rattle.model.proofs.LivePaths.{live-iff}
 use Rattle.model.proofs.Twins.{live-itself, lowest-twins, pair-twin}
+use Rattle.model.proofs.Through.{through-in, through-has}
 pub use Rattle.model.proofs.LivePairs.{live-pairs-formed}
 use Rattle.model.proofs.LivePairs.{linked-iff}
 use Rattle.model.proofs.FirstFit.{blocked-iff}
 use Rattle.model.proofs.NumberAt.{number-below}
 use Rattle.model.proofs.PairNumbers.{number-of-pair, linked-same, apart}
-
--- ---- a numbering read through a function
-
-module _ (sets : List ℕ) (f : ℕ → ℕ) (N : Numbering) (q j : ℕ) where
-  pub through-in : member (getD sets q 0) j ≡ true → through sets f N .number q j ≡ N .number q (f j)
-  unfolding through
-  through-in h = rw (h, through)
-
-  pub through-has : (k : ℕ) → Has (through sets f N) q j k → (member (getD sets q 0) j ≡ true) × Has N q (f j) k
-  unfolding through
-  through-has k e = go (yes-or-no (member (getD sets q 0) j))
-    where
-      out : member (getD sets q 0) j ≡ false → through sets f N .number q j ≡ none
-      out h = rw (h, through)
-
-      go : (member (getD sets q 0) j ≡ true) ⊎ (member (getD sets q 0) j ≡ false) → (member (getD sets q 0) j ≡ true) × Has N q (f j) k
-      go (inl h) = (h, sym (through-in h) ∙ e)
-      go (inr h) = absurd (Option·none-ne-some _ (sym (out h) ∙ e))
-
--- ---- the board numbers of a chart
 
 -- as many are used as the families need
 pub board-used : (c : Chart) → boardNumbering c .used ≡ usedBy (board c)

@@ -24,6 +24,7 @@ pub mod PlacedOnce
 pub mod EarlierFamilies
 pub mod LivePairs
 pub mod FamilyNumbers
+pub mod Through
 pub mod BoardPlan
 pub mod UsedNumbers
 pub mod FirstFitShares

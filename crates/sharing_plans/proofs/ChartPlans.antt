@@ -1,15 +1,12 @@
 -- A plan of a chart by paths gives one of its list of families, and back, with as many timers, so `fewest` of that list is the fewest timers of any
 -- plan; and first fit is such a plan. Hard: a timer has the number of the one place where its family stands. Assumes nothing.
 use mathlib.Core.Path.{_≡_, refl, sym, ap, _∙_}
-use mathlib.Core.Logic.{_⊎_, inl, inr}
-use mathlib.Core.Bool.{true, false}
-use mathlib.Core.Option.{some, Option·none-ne-some, Option·some-injective}
+use mathlib.Core.Option.{some, Option·some-injective}
 use mathlib.Core.List.{List, map}
 use Prim.Native.Nat.{ℕ, _*_, _<_}
 use native.Mathlib.Decide.{ℕ-discrete, decLt}
 use native.Mathlib.Omega.{arith}
 use lib.ListN.{length, getElem?}
-use Rattle.lists.proofs.Bools.{yes-or-no}
 use Rattle.lists.proofs.Membership.{nth-map}
 use Rattle.lists.proofs.Nth.{nth-below, below-nth}
 use Rattle.model.specs.Chart.{Chart}
@@ -33,7 +30,7 @@ use Rattle.model.proofs.LivePaths.{live-iff}
 use Rattle.model.proofs.Twins.{live-itself, same-lowest, lowest-twins, pair-lowest, pair-twin}
 use Rattle.model.proofs.LivePairs.{live-pairs-formed, joined-iff}
 use Rattle.model.proofs.FamilyNumbers.{family, meets-iff}
-use Rattle.model.proofs.BoardPlan.{through-in, through-out}
+use Rattle.model.proofs.Through.{through-in, through-has}
 use Rattle.model.proofs.FirstFitShares.{first-fit-shares}
 use Rattle.model.proofs.SharingDetermined.{meeting-apart}
 use Rattle.sharing_plans.specs.FamilyPlans.{FamilyPlan}
@@ -136,21 +133,18 @@ module _ {W : ℕ} {c : Chart} (valid : Valid W c) where
 
     number-place : (q j n : ℕ) → Has N q j n → PlaceNumber q j n
     unfolding live
-    number-place q j n e = go (yes-or-no (live c q j))
-      where
-        go : (live c q j ≡ true) ⊎ (live c q j ≡ false) → PlaceNumber q j n
-        go (inl h) =
-            let x = number-out q (lowestTwin c j) (given f own) n (sym (through-in (liveSets c) (lowestTwin c) M q j h) ∙ e) in
-            let y = nth-given f own (x .place) (x .is-nth) in
-            let g = x .placed .family in
-            let a = families-are formed (x .place) g (y .0) in
-            record {
-              live = live-iff valid q j .0 h;
-              place = x .place;
-              is-nth = y .0 ∙ ap some (has-whole formed g q (lowestTwin c j) a (x .holds));
-              number = sym (y .1) ∙ x .number;
-            }
-        go (inr h) = absurd (Option·none-ne-some _ (sym (through-out (liveSets c) (lowestTwin c) M q j h) ∙ e))
+    number-place q j n e =
+        let h = through-has (liveSets c) (lowestTwin c) M q j n e in
+        let x = number-out q (lowestTwin c j) (given f own) n (h .1) in
+        let y = nth-given f own (x .place) (x .is-nth) in
+        let g = x .placed .family in
+        let a = families-are formed (x .place) g (y .0) in
+        record {
+          live = live-iff valid q j .0 (h .0);
+          place = x .place;
+          is-nth = y .0 ∙ ap some (has-whole formed g q (lowestTwin c j) a (x .holds));
+          number = sym (y .1) ∙ x .number;
+        }
 
     place-number : (q j i : ℕ) → Live c q j → getElem? own i ≡ some (family valid q j) → Has N q j (f i)
     unfolding live

@@ -18,12 +18,12 @@ use Rattle.timer_set.proofs.Members.{member-setOf}
 use Rattle.timer_set.proofs.Images.{image-same}
 use Rattle.model.specs.Rewrite.{Numbering, through}
 use Rattle.model.specs.Twins.{inSameSets, lowestInSame}
+use Rattle.model.proofs.Through.{through-in, through-out}
 use Rattle.allocation.specs.Cells.{cell, cellsOf}
 use Rattle.allocation.proofs.CellList.{cells-length, cells-at, cells-is}
 use Rattle.twins.specs.LowestTwins.{ownLowest, lowestAt, LowestOf}
 use Rattle.twins.proofs.Alike.{in-same-self}
 use Rattle.twins.proofs.Merging.{mapped-at}
-use Rattle.twins.proofs.Sharing.{through-yes, through-no}
 
 module _ (ws : List ℕ) (n j : ℕ) where
   lowest-no-higher : lowestInSame ws n j ≤ j
@@ -59,5 +59,5 @@ module _ (f g : ℕ → ℕ) (sets : List ℕ) (same : (q j : ℕ) → q < lengt
     where
       go : (q j : ℕ) → q < length sets → (member (getD sets q 0) j ≡ true) ⊎ (member (getD sets q 0) j ≡ false)
           → through sets f N .number q j ≡ through sets g N .number q j
-      go q j h (inl m) = through-yes sets f N q j m ∙ ap (N .number q) (same q j h m) ∙ sym (through-yes sets g N q j m)
-      go q j h (inr m) = through-no sets f N q j m ∙ sym (through-no sets g N q j m)
+      go q j h (inl m) = through-in sets f N q j m ∙ ap (N .number q) (same q j h m) ∙ sym (through-in sets g N q j m)
+      go q j h (inr m) = through-out sets f N q j m ∙ sym (through-out sets g N q j m)

@@ -3,7 +3,6 @@
 use mathlib.Core.Path.{_≡_, refl, sym, ap, _∙_}
 use mathlib.Core.Logic.{_⊎_, inl, inr}
 use mathlib.Core.Bool.{Bool, true, false, not}
-use mathlib.Core.Option.{none}
 use mathlib.Core.List.{List, map}
 use Prim.Native.Nat.{ℕ, _+_, _*_, _^_, _≤_, _<_}
 use native.Mathlib.Decide.{ℕ-discrete}
@@ -16,6 +15,7 @@ use Rattle.timer_set.specs.Members.{member, minus, image}
 use Rattle.timer_set.proofs.Members.{member-empty, member-minus}
 use Rattle.timer_set.proofs.Images.{image-out}
 use Rattle.model.specs.Rewrite.{Numbering, through}
+use Rattle.model.proofs.Through.{through-in, through-out}
 use Rattle.allocation.specs.Cells.{noNumber, cell, cellsOf}
 use Rattle.allocation.proofs.CellList.{cells-at, cells-is}
 use Rattle.twins.specs.LowestTwins.{lowestAt, LowestListed, LowestOf}
@@ -57,15 +57,6 @@ module _ (w : ℕ) (lowest : List ℕ) (q : ℕ) (before : List ℕ) where
 
 -- ---- all rows
 
-module _ (live : List ℕ) (f : ℕ → ℕ) (N : Numbering) (q j : ℕ) where
-  pub through-yes : member (getD live q 0) j ≡ true → through live f N .number q j ≡ N .number q (f j)
-  unfolding through
-  through-yes e = rw (e, through)
-
-  pub through-no : member (getD live q 0) j ≡ false → through live f N .number q j ≡ none
-  unfolding through
-  through-no e = rw (e, through)
-
 module _ {live lowest : List ℕ} {own : ℕ} (s : LowestOf live lowest own) (N : Numbering) (q j : ℕ) (h : q < length live) (small : j < 64) where
   -- a row that is shared
   number-shared : (now : List ℕ) → ((i : ℕ) → i < 64 → getD now (64 * q + i) 0 ≡ cell (N .number q i))
@@ -76,8 +67,8 @@ module _ {live lowest : List ℕ} {own : ℕ} (s : LowestOf live lowest own) (N 
           → sharedCell (getD live q 0) lowest now q j ≡ cell (through live (lowestAt lowest) N .number q j)
       go (inl m) =
           shared-yes (getD live q 0) lowest now q j m ∙ was (lowestAt lowest j) (omega (arith, s .each q h .low j m))
-          ∙ ap cell (sym (through-yes live (lowestAt lowest) N q j m))
-      go (inr m) = shared-no (getD live q 0) lowest now q j m ∙ ap cell (sym (through-no live (lowestAt lowest) N q j m))
+          ∙ ap cell (sym (through-in live (lowestAt lowest) N q j m))
+      go (inr m) = shared-no (getD live q 0) lowest now q j m ∙ ap cell (sym (through-out live (lowestAt lowest) N q j m))
 
   -- a row whose timers are all their own lowest twins
   module _ (word : getD live q 0 < 2 ^ 64) (all : minus (getD live q 0) own ≡ 0) where
@@ -94,11 +85,11 @@ module _ {live lowest : List ℕ} {own : ℕ} (s : LowestOf live lowest own) (N 
             not-both (x .1) (ap (member (getD live q 0)) (sym (own-low (x .0) (x .1)) ∙ x .2) ∙ m))
 
         go : (member (getD live q 0) j ≡ true) ⊎ (member (getD live q 0) j ≡ false) → N .number q j ≡ through live (lowestAt lowest) N .number q j
-        go (inl m) = sym (through-yes live (lowestAt lowest) N q j m ∙ ap (N .number q) (own-low j m))
+        go (inl m) = sym (through-in live (lowestAt lowest) N q j m ∙ ap (N .number q) (own-low j m))
         go (inr m) =
             only .no-other q j (omega (arith, length-map live (image (lowestAt lowest))))
             (ap (λ (w : ℕ). member w j) (mapped-at (image (lowestAt lowest)) live q h) ∙ out m)
-            ∙ sym (through-no live (lowestAt lowest) N q j m)
+            ∙ sym (through-out live (lowestAt lowest) N q j m)
 
 -- the rows below q are shared, of whichever numbering the cells were, and the others are as they were
 pub record SharedTo (live lowest before : List ℕ) (q : ℕ) (now : List ℕ) : Type 0 where

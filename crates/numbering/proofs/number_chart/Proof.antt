@@ -7,7 +7,7 @@ use lib.Seq.{length-take-le}
 use Rattle.chart_lists.proofs.Holds.{sources-each, targets-each, starts-each}
 use Rattle.chart_lists.proofs.Fronts.{each-part}
 use Rattle.flow.proofs.ChartFlows.{tested-each}
-use Rattle.numbering.proofs.Settling.{few, own-length, settle-safe, seen-length, allocate-safe, numbered}
+use Rattle.numbering.proofs.Settling.{few, own-length, settle-safe, seen-length, number-live-safe, numbered}
 use Rattle.numbering.proofs.number_chart.Statement.{statement}
 use Rattle.numbering.proofs.number_chart.Tie as tie
 
@@ -21,7 +21,7 @@ shared c = known (c .before .before .before)
 abbrev settled : tie.After-settle → tie.Start
 settled c = shared (c .before .before .before .before)
 
-abbrev lent : tie.After-allocate-arg2 → tie.After-settle
+abbrev lent : tie.After-number-live-arg2 → tie.After-settle
 lent c = c .before .before .before .before
 
 cast-m : tie.Need-cast-m
@@ -60,38 +60,38 @@ settle-requires c κs =
     let x = p .0 in
     (settle-safe (x .0) (x .1) (x .2) (x .3), length-take-le _ _ (p .1) ∙ sym (own-length (x .0) (x .1) (x .2) (x .3)))
 
-slice-reshare-prefix-allocate : tie.Need-slice-reshare-prefix-allocate
-slice-reshare-prefix-allocate c = search needs
+slice-reshare-prefix-number-live : tie.Need-slice-reshare-prefix-number-live
+slice-reshare-prefix-number-live c = search needs
 
-slice-aggregate-allocate : tie.Need-slice-aggregate-allocate
-slice-aggregate-allocate c =
+slice-aggregate-number-live : tie.Need-slice-aggregate-number-live
+slice-aggregate-number-live c =
     let r = c .before .before .before in
     let p = settled r .pre .0 in
     sym (seen-length (p .0) (p .1) (p .2) (p .3) (r .settle .ensures .0) _)
 
-mul-allocate : tie.Need-mul-allocate
-mul-allocate c = search needs
+mul-number-live : tie.Need-mul-number-live
+mul-number-live c = search needs
 
-slice-relend-prefix-allocate : tie.Need-slice-relend-prefix-allocate
-slice-relend-prefix-allocate c = search needs
+slice-relend-prefix-number-live : tie.Need-slice-relend-prefix-number-live
+slice-relend-prefix-number-live c = search needs
 
-slice-aggregate-allocate-2 : tie.Need-slice-aggregate-allocate-2
-slice-aggregate-allocate-2 c = sym (length-take-le _ _ (settled (lent c) .pre .2))
+slice-aggregate-number-live-2 : tie.Need-slice-aggregate-number-live-2
+slice-aggregate-number-live-2 c = sym (length-take-le _ _ (settled (lent c) .pre .2))
 
-slice-relend-prefix-allocate-2 : tie.Need-slice-relend-prefix-allocate-2
-slice-relend-prefix-allocate-2 c = search needs
+slice-relend-prefix-number-live-2 : tie.Need-slice-relend-prefix-number-live-2
+slice-relend-prefix-number-live-2 c = search needs
 
-slice-aggregate-allocate-3 : tie.Need-slice-aggregate-allocate-3
-slice-aggregate-allocate-3 c = sym (length-take-le _ _ (settled (lent (c .before)) .pre .3))
+slice-aggregate-number-live-3 : tie.Need-slice-aggregate-number-live-3
+slice-aggregate-number-live-3 c = sym (length-take-le _ _ (settled (lent (c .before)) .pre .3))
 
-allocate-requires : tie.Need-allocate-requires
-allocate-requires c κs =
+number-live-requires : tie.Need-number-live-requires
+number-live-requires c κs =
     let r = lent (c .before) in
     let p = settled r .pre in
     let x = p .0 in
     let e = r .settle .ensures .0 in
     let long = sym (seen-length (x .0) (x .1) (x .2) (x .3) e _) in (
-      allocate-safe (x .0) (x .1) (x .2) (x .3) e _,
+      number-live-safe (x .0) (x .1) (x .2) (x .3) e _,
       length-take-le _ _ (p .2) ∙ ap (λ (n : ℕ). 64 * n) long,
       length-take-le _ _ (p .3) ∙ long,
     )
@@ -109,9 +109,9 @@ returns : tie.Need-returns
 returns c chart is holds tested =
     let a = c .before .before .before .before in
     let r = lent (a .before .before) in
-    let e = a .allocate .ensures in
+    let e = a .number-live .ensures in
     numbered chart is holds tested (r .settle .ensures .0) _ _ _ (e .0) (e .1 .0) (e .1 .1 .0) (e .1 .1 .1)
-    (a .allocate .kept .1 .1 .1 .1 .1 .1 .0 ∙ length-take-le _ _ (settled r .pre .3)) (r .settle .ensures .1)
+    (a .number-live .kept .1 .1 .1 .1 .1 .1 .0 ∙ length-take-le _ _ (settled r .pre .3)) (r .settle .ensures .1)
 
 pub number-chart-spec : {M : Type 1} → statement M
 number-chart-spec =
@@ -128,14 +128,14 @@ number-chart-spec =
     slice-relend-prefix-settle
     slice-aggregate-settle-3
     settle-requires
-    slice-reshare-prefix-allocate
-    slice-aggregate-allocate
-    mul-allocate
-    slice-relend-prefix-allocate
-    slice-aggregate-allocate-2
-    slice-relend-prefix-allocate-2
-    slice-aggregate-allocate-3
-    allocate-requires
+    slice-reshare-prefix-number-live
+    slice-aggregate-number-live
+    mul-number-live
+    slice-relend-prefix-number-live
+    slice-aggregate-number-live-2
+    slice-relend-prefix-number-live-2
+    slice-aggregate-number-live-3
+    number-live-requires
     same-length
     same-length-2
     same-length-3
