@@ -1,12 +1,11 @@
 -- A call of the analysis that finds a chart leaves what `FoundValues` says, and this determines the values and the list. What is hard is only to
 -- read the list's front as the live sets, and what is behind as it was. Assumes nothing.
-use mathlib.Core.Path.{_≡_, refl, sym, ap, _∙_}
+use mathlib.Core.Path.{_≡_, refl, sym, ap, _∙_, subst}
 use mathlib.Core.Logic.{_⊎_, inl, inr, _↔_, Iff·trans, Iff·symm}
 use mathlib.Core.Bool.{true, false}
 use mathlib.Core.List.{List, _++_}
 use Prim.Native.Nat.{ℕ, zero, suc, _+_, _-_, _^_, _≤_, _<_}
 use native.Mathlib.Omega.{arith}
-use lib.Count.{ones}
 use lib.ListN.{length, getD, drop, List·getD-append}
 use lib.Seq.{getD-append-add, getD-drop}
 use Rattle.lists.proofs.Bools.{yes-or-no, lt-or-le, same-bool}
@@ -17,14 +16,17 @@ use Rattle.model.specs.Chart.{Chart}
 use Rattle.model.specs.Version.{widthOf}
 use Rattle.model.specs.Valid.{Valid}
 use Rattle.model.specs.Live.{liveSets, liveRounds}
-use Rattle.model.specs.FirstFit.{board, used}
+use Rattle.model.specs.FirstFit.{used}
+use Rattle.model.specs.Rewrite.{boardNumbering}
 use Rattle.model.specs.Floor.{floor, searched}
 use Rattle.model.proofs.LiveRounds.{rounds-by-paths, one-rounds, rounds-accepted}
-use Rattle.model.proofs.NumberAt.{number-below}
+use Rattle.model.proofs.BoardPlan.{board-used, number-under}
 use Rattle.model.proofs.UsedNumbers.{used-reached}
 use Rattle.file_format.specs.Parse.{Bytes}
 use Rattle.file_format.proofs.File.{reads-valid}
+use Rattle.sharing_plans.specs.CountedOnce.{CountedOnce}
 use Rattle.sharing_plans.proofs.ChartPlans.{one-fewest}
+use Rattle.sharing_plans.proofs.CountedOnce.{counted-once, one-count}
 use Rattle.sharing_plans.proofs.FamilyCounts.{searched-iff}
 use Rattle.sharing_plans.proofs.Floor.{floor-fewest, floor-most, floor-reached, floor-used}
 use Rattle.chart_lists.specs.Lists.{put, overwritten}
@@ -70,11 +72,11 @@ module _ (bs before : List ℕ) (bytes : Bytes bs) where
         beyond = λ q h. behind (liveSets c) before q (omega (arith, live-each c));
         searched-few = searched-iff valid;
         floor-fewest = floor-fewest valid;
-        floor-most = λ q h. rw (front q h) (floor-most valid q);
-        floor-reached = λ h. let x = floor-reached valid h in (x .0, x .1, rw (front (x .0) (x .1)) (x .2));
+        floor-most = λ q n h a. omega (arith, one-count a (counted-once valid q), floor-most valid q);
+        floor-reached = λ h. let x = floor-reached valid h in (x .0, x .1, subst (CountedOnce c (x .0)) (x .2) (counted-once valid (x .0)));
         floor-used = floor-used valid;
-        used-above = number-below (board c);
-        used-reached = used-reached valid;
+        used-above = λ q j k h. omega (arith, number-under valid q j k h, board-used c);
+        used-reached = λ u h. used-reached valid u (board-used c ∙ h);
         used-none = used-none valid;
         rounds-are = rounds-by-paths valid;
         rounds-few = rounds-accepted valid (a .accepted);
@@ -117,10 +119,10 @@ module _ {bs before after : List ℕ} {f : AnalysisValues} (bytes : Bytes bs) (v
   used-only : f .used ≡ used c
   unfolding used
   used-only =
-      let given : (u : ℕ) → f .used ≡ suc u → u < used c = λ u e. let x = v .used-reached u e in number-below (board c) (x .0) (x .1) u (x .2) in
-      let above : f .used ≤ used c = at-most (f .used) (used c) given in
-      let below : used c ≤ f .used = at-most (used c) (f .used) (λ u e. let x = used-reached valid u e in v .used-above (x .0) (x .1) u (x .2)) in
-      omega arith
+      let N = boardNumbering c in
+      let above : f .used ≤ N .used = at-most _ _ (λ u e. let x = v .used-reached u e in number-under valid (x .0) (x .1) u (x .2)) in
+      let below : N .used ≤ f .used = at-most _ _ (λ u e. let x = used-reached valid u e in v .used-above (x .0) (x .1) u (x .2)) in
+      omega (arith, board-used c)
 
   searched-only : f .searched ≡ searched c
   searched-only = same-bool _ _ (λ h. searched-iff valid .1 (v .searched-few .0 h)) (λ h. v .searched-few .1 (searched-iff valid .0 h))
@@ -133,8 +135,8 @@ module _ {bs before after : List ℕ} {f : AnalysisValues} (bytes : Bytes bs) (v
       go (inr h) =
           let x = v .floor-reached (searched-only ∙ h) in
           let y = floor-reached valid h in
-          let above : f .floor ≤ floor c = omega (arith, x .2, ap ones (word-only (x .0) (x .1)), floor-most valid (x .0)) in
-          let below : floor c ≤ f .floor = omega (arith, y .2, ap ones (word-only (y .0) (y .1)), v .floor-most (y .0) (y .1)) in
+          let above : f .floor ≤ floor c = omega (arith, one-count (x .2) (counted-once valid (x .0)), floor-most valid (x .0)) in
+          let below : floor c ≤ f .floor = omega (arith, y .2, v .floor-most (y .0) _ (y .1) (counted-once valid (y .0))) in
           omega arith
 
   rounds-only : f .rounds ≡ liveRounds c

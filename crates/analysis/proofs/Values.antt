@@ -1,6 +1,6 @@
 -- What the live sets and used mean: each word is the live set of its location by paths, and used is 0 exactly where no timer is live. Nothing is
 -- hard. Assumes nothing.
-use mathlib.Core.Path.{_≡_, refl}
+use mathlib.Core.Path.{_≡_, refl, _∙_}
 use mathlib.Core.Logic.{_↔_}
 use mathlib.Core.Bool.{true}
 use Prim.Native.Nat.{ℕ, zero, suc}
@@ -11,10 +11,9 @@ use Rattle.model.specs.Chart.{Chart}
 use Rattle.model.specs.Valid.{Valid}
 use Rattle.model.specs.Path.{Live}
 use Rattle.model.specs.Live.{live, liveSets}
-use Rattle.model.specs.FirstFit.{board, used}
+use Rattle.model.specs.FirstFit.{used}
 use Rattle.model.proofs.UsedNumbers.{used-reached}
-use Rattle.model.proofs.NumberAt.{number-below}
-use Rattle.model.proofs.BoardPlan.{number-live, live-number}
+use Rattle.model.proofs.BoardPlan.{board-used, number-live, live-number, number-under}
 use Rattle.model.proofs.LivePaths.{live-iff}
 
 module _ {W : ℕ} {c : Chart} (valid : Valid W c) where
@@ -24,14 +23,14 @@ module _ {W : ℕ} {c : Chart} (valid : Valid W c) where
   word-live q j = live-iff valid q j
 
   pub used-none : (used c ≡ 0) ↔ ((q j : ℕ) → Live c q j → ⊥)
-  unfolding used board
+  unfolding used
   used-none = (
-    λ e q j l. let n = live-number valid q j l in omega (arith, number-below (board c) q j (n .0) (n .1), e),
+    λ e q j l. let n = live-number valid q j l in omega (arith, number-under valid q j (n .0) (n .1), board-used c, e),
     λ f. none-used f (used c) refl,
   )
     where
       none-used : ((q j : ℕ) → Live c q j → ⊥) → (n : ℕ) → used c ≡ n → used c ≡ 0
       none-used f zero e = e
       none-used f (suc k) e =
-          let x = used-reached valid k e in
+          let x = used-reached valid k (board-used c ∙ e) in
           absurd (f _ _ (number-live valid (x .0) (x .1) k (x .2)))

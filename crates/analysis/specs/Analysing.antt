@@ -22,7 +22,7 @@ unfoldable pub analysedIn : (room : ℕ) → List ℕ → Answer Chart
 analysedIn room bs = then (judgedIn bs) (analysedChart room)
 
 -- how many timers the board numbers use; the floor; whether the floor is the smallest number of timers of any plan, else it is the count of the
--- fullest live set; and how many rounds find the live sets
+-- fullest live set, twins counted once; and how many rounds find the live sets
 pub record AnalysisValues : Type 0 where
   pub used : ℕ
   pub floor : ℕ
