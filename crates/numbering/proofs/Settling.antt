@@ -20,22 +20,19 @@ use Rattle.chart_lists.specs.Partly.{edgesOf}
 use Rattle.chart_lists.proofs.Fronts.{locations-are, timers-are, each-front, sources-front, targets-front, starts-front, begins-front}
 use Rattle.flow.specs.Edges.{flowOf, SafeEdges}
 use Rattle.flow.proofs.ChartFlows.{tested-each, live-flow, live-safe}
-use Rattle.families.proofs.ChartPairs.{live-each}
 use Rattle.allocation.specs.FamiliesAt.{FamiliesAt}
 use Rattle.allocation.specs.declared.Allocated.{Allocated}
 use Rattle.twins.specs.LiveNumbered.{LiveLists, LiveNumbered}
 use Rattle.numbering.specs.ChartNumbered.{ChartNumbered}
 use Rattle.numbering.specs.declared.Numbered.{Numbered}
+use Rattle.numbering.proofs.FileNumbers.{live-front}
 
--- the part of a list that is lent, the empty sets that are lent, and the part of the live sets that is looked at again
+-- the part of a list that is lent, and the empty sets that are lent
 abbrev part : Header → List ℕ → List ℕ
 part m l = take (m .transitions) l
 
 abbrev own : Header → List ℕ
 own m = take (m .locations) (replicate mostLocations 0)
-
-abbrev seen : Header → (live rest : List ℕ) → List ℕ
-seen m live rest = take (m .locations) (live ++ rest)
 
 module _ (c : Chart) {m : Header} (is : m ≡ headerOf c) {s t w u : List ℕ} (h : Holds c (edgesOf c s t w)) (b : Begins (testedSets c) u) where
   pub few : m .locations ≤ mostLocations
@@ -64,46 +61,35 @@ module _ (c : Chart) {m : Header} (is : m ≡ headerOf c) {s t w u : List ℕ} (
       rw (sources-front c is (h .sources), targets-front c is (h .targets), starts-front c is (h .starts), tested-front, own-are)
       (live-flow (h .valid))
 
-  rounds-are : {n : ℕ} → n ≡ rounds flow → n ≡ liveRounds c
-  unfolding liveRounds
-  rounds-are e = e ∙ ap rounds flow-is
+  pub live-found : {live : List ℕ} (rest : List ℕ) {n : ℕ} → live ≡ settled flow → n ≡ rounds flow
+      → Begins (liveSets c) (live ++ rest) × (n ≡ liveRounds c)
+  unfolding liveSets liveRounds
+  live-found rest made e = (begins-front rest (made ∙ ap settled flow-is), e ∙ ap rounds flow-is)
 
-  module _ {live : List ℕ} (made : live ≡ settled flow) where
-    live-are : live ≡ liveSets c
-    unfolding liveSets
-    live-are = made ∙ ap settled flow-is
+module _ (c : Chart) {m : Header} (is : m ≡ headerOf c) {s t w : List ℕ} (h : Holds c (edgesOf c s t w)) {live : List ℕ}
+    (b : Begins (liveSets c) live) where
+  -- the lists that the numbering of live sets is lent
+  pub live-lists : LiveLists c (part m s) (part m t) (part m w) (take (m .locations) live) (m .timers)
+  live-lists = record {
+    width = h .width;
+    valid = h .valid;
+    sources-are = sources-front c is (h .sources);
+    targets-are = targets-front c is (h .targets);
+    starts-are = starts-front c is (h .starts);
+    live-are = live-front c is b;
+    timers-are = timers-are c is;
+  }
 
-    length-live : length live ≡ m .locations
-    length-live = ap length live-are ∙ live-each c ∙ sym (locations-are c is)
-
-    module _ (rest : List ℕ) where
-      seen-are : seen m live rest ≡ liveSets c
-      seen-are = take-at live rest (m .locations) length-live ∙ live-are
-
-      pub seen-length : length (seen m live rest) ≡ m .locations
-      seen-length = ap length seen-are ∙ live-each c ∙ sym (locations-are c is)
-
-      -- the lists that the numbering of live sets is lent
-      pub live-lists : LiveLists c (part m s) (part m t) (part m w) (seen m live rest) (m .timers)
-      live-lists = record {
-        width = h .width;
-        valid = h .valid;
-        sources-are = sources-front c is (h .sources);
-        targets-are = targets-front c is (h .targets);
-        starts-are = starts-front c is (h .starts);
-        live-are = seen-are;
-        timers-are = timers-are c is;
-      }
-
-      pub numbered : {merged cells at : List ℕ} (after beyond past : List ℕ) {l : Allocated} {r : Numbered} → LiveNumbered c merged cells at l
-          → length at ≡ m .locations → r .used ≡ l .used → r .families ≡ l .families → r .rounds ≡ rounds flow
-          → ChartNumbered c (live ++ rest) (merged ++ after) (cells ++ beyond) (at ++ past) r
-      numbered {at = at} after beyond past x long u f n = record {
-        live-are = begins-front rest live-are;
-        merged-are = begins-front after (x .merged-are);
-        cells-are = begins-front beyond (x .cells-are);
-        used-is = u ∙ x .used-is;
-        families-is = f ∙ x .families-is;
-        rounds-is = rounds-are n;
-        at-are = subst (FamiliesAt (families (livePairs c))) (sym (take-at at past (c .locations) (long ∙ locations-are c is))) (x .at-are);
-      }
+  -- what it leaves is the chart's
+  pub numbered : {merged cells at : List ℕ} (after beyond past : List ℕ) {l : Allocated} {r : Numbered} → LiveNumbered c merged cells at l
+      → length at ≡ m .locations → r .used ≡ l .used → r .families ≡ l .families → r .rounds ≡ liveRounds c
+      → ChartNumbered c live (merged ++ after) (cells ++ beyond) (at ++ past) r
+  numbered {at = at} after beyond past x long u f n = record {
+    live-are = b;
+    merged-are = begins-front after (x .merged-are);
+    cells-are = begins-front beyond (x .cells-are);
+    used-is = u ∙ x .used-is;
+    families-is = f ∙ x .families-is;
+    rounds-is = n;
+    at-are = subst (FamiliesAt (families (livePairs c))) (sym (take-at at past (c .locations) (long ∙ locations-are c is))) (x .at-are);
+  }

@@ -3,7 +3,7 @@ use mathlib.Core.Path.{sym, ap}
 use lib.Seq.{length-take-le}
 use Rattle.model.specs.Answer.{result}
 use Rattle.numbering.proofs.Settling.{few}
-use Rattle.numbering.proofs.FileNumbers.{live-part, chart-numbers}
+use Rattle.numbering.proofs.FileNumbers.{merged-part, chart-numbers}
 use Rattle.numbering.proofs.FloorFound.{floor-asked}
 use borrow.Author.Needs.{needs}
 use Rattle.numbering.proofs.number_judged.Statement.{statement}
@@ -11,43 +11,53 @@ use Rattle.numbering.proofs.number_judged.Tie as tie
 
 -- the way back from the numbers to the start
 abbrev start : tie.After-number-chart → tie.Start
-start c = c .before .before .before .before .before .before .before .before .before .before
+start c = c .before .before .before .before .before .before .before .before .before .before .before
+
+abbrev numbered : tie.After-struct-known → tie.After-number-chart
+numbered c = c .before .before .before .before .before .before .before
 
 slice-aggregate-number-chart : tie.Need-slice-aggregate-number-chart
 slice-aggregate-number-chart c = search needs
 
+slice-aggregate-number-chart-2 : tie.Need-slice-aggregate-number-chart-2
+slice-aggregate-number-chart-2 c = search needs
+
 number-chart-requires : tie.Need-number-chart-requires
 number-chart-requires c κs =
-    let p = c .before .before .before .before .before .before .before .before .before .pre in
-    (p .0, p .1, p .2, few (p .0 .0) (p .0 .1) (p .0 .2) (p .0 .3))
+    let p = c .before .before .before .before .before .before .before .before .before .before .pre in
+    let room = few (p .0 .0) (p .0 .1) (p .0 .2) (p .0 .3) in
+    (p .0, p .1, room, p .2, room)
 
 cast-m : tie.Need-cast-m
 cast-m c = search needs
 
-slice-reshare-prefix-find-floor : tie.Need-slice-reshare-prefix-find-floor
-slice-reshare-prefix-find-floor c = search needs
+array-share-prefix-merged : tie.Need-array-share-prefix-merged
+array-share-prefix-merged c =
+    let p = start (numbered c) .pre .0 in
+    let room = few (p .0) (p .1) (p .2) (p .3) in
+    search (needs, room)
 
 slice-aggregate-find-floor : tie.Need-slice-aggregate-find-floor
 slice-aggregate-find-floor c =
-    let n = c .before .before .before .before .before .before .before in
+    let n = numbered (c .before) in
     let p = start n .pre .0 in
-    sym (live-part (p .0) (p .1) (n .number-chart .ensures (p .0) (p .1) (p .2) (p .3) .live-are))
+    sym (merged-part (p .0) (p .1) (n .number-chart .ensures (p .0) (p .1) (p .2) (p .3) .merged-are))
 
 array-share-prefix-families-at : tie.Need-array-share-prefix-families-at
 array-share-prefix-families-at c =
-    let p = start (c .before .before .before .before .before .before .before) .pre .0 in
+    let p = start (numbered (c .before)) .pre .0 in
     let room = few (p .0) (p .1) (p .2) (p .3) in
     search (needs, room)
 
 slice-aggregate-find-floor-2 : tie.Need-slice-aggregate-find-floor-2
 slice-aggregate-find-floor-2 c =
-    let p = start (c .before .before .before .before .before .before .before .before) .pre .0 in
+    let p = start (numbered (c .before .before)) .pre .0 in
     let room = few (p .0) (p .1) (p .2) (p .3) in
     sym (length-take-le _ _ (search (needs, room)))
 
 find-floor-requires : tie.Need-find-floor-requires
 find-floor-requires c κs =
-    let n = c .before .before .before .before .before .before .before .before in
+    let n = numbered (c .before .before) in
     let p = start n .pre .0 in
     let room = few (p .0) (p .1) (p .2) (p .3) in
     (p .0, floor-asked (p .0) (p .1) (p .2 .valid) (n .number-chart .ensures (p .0) (p .1) (p .2) (p .3)) (search (needs, room)))
@@ -60,7 +70,7 @@ same-length-2 c = search needs
 
 returns : tie.Need-returns
 returns c d e h b =
-    let n = c .before .before .before .before .before .before .before .before .before in
+    let n = numbered (c .before .before .before) in
     let m = n .number-chart .ensures d e h b in
     let room = few d e h b in
     let f = c .find-floor .ensures d (floor-asked d e (h .valid) m (search (needs, room))) in (
@@ -73,9 +83,10 @@ number-judged-spec =
     tie.close
     (tie.spec
     slice-aggregate-number-chart
+    slice-aggregate-number-chart-2
     number-chart-requires
     cast-m
-    slice-reshare-prefix-find-floor
+    array-share-prefix-merged
     slice-aggregate-find-floor
     array-share-prefix-families-at
     slice-aggregate-find-floor-2
