@@ -75,7 +75,7 @@ module _ (bs before : List ℕ) (bytes : Bytes bs) where
         floor-most = λ q n h a. omega (arith, one-count a (counted-once valid q), floor-most valid q);
         floor-reached = λ h. let x = floor-reached valid h in (x .0, x .1, subst (CountedOnce c (x .0)) (x .2) (counted-once valid (x .0)));
         floor-used = floor-used valid;
-        used-above = λ q j k h. omega (arith, number-under valid q j k h, board-used c);
+        used-above = λ q j k h. omega (arith, number-under c q j k h, board-used c);
         used-reached = λ u h. used-reached valid u (board-used c ∙ h);
         used-none = used-none valid;
         rounds-are = rounds-by-paths valid;
@@ -120,7 +120,7 @@ module _ {bs before after : List ℕ} {f : AnalysisValues} (bytes : Bytes bs) (v
   unfolding used
   used-only =
       let N = boardNumbering c in
-      let above : f .used ≤ N .used = at-most _ _ (λ u e. let x = v .used-reached u e in number-under valid (x .0) (x .1) u (x .2)) in
+      let above : f .used ≤ N .used = at-most _ _ (λ u e. let x = v .used-reached u e in number-under c (x .0) (x .1) u (x .2)) in
       let below : N .used ≤ f .used = at-most _ _ (λ u e. let x = used-reached valid u e in v .used-above (x .0) (x .1) u (x .2)) in
       omega (arith, board-used c)
 

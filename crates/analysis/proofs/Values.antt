@@ -25,7 +25,7 @@ module _ {W : ℕ} {c : Chart} (valid : Valid W c) where
   pub used-none : (used c ≡ 0) ↔ ((q j : ℕ) → Live c q j → ⊥)
   unfolding used
   used-none = (
-    λ e q j l. let n = live-number valid q j l in omega (arith, number-under valid q j (n .0) (n .1), board-used c, e),
+    λ e q j l. let n = live-number valid q j l in omega (arith, number-under c q j (n .0) (n .1), board-used c, e),
     λ f. none-used f (used c) refl,
   )
     where

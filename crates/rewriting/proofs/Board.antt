@@ -28,7 +28,7 @@ module _ {c : Chart} (storable : Storable c) (e : judged c ≡ result c) where
   judged-plan = let valid = storable .valid in
       board-plan valid (λ i r n u. accepted valid .0 e .no-unstarted-test i (record { transition = r; is-nth = n; test = u }))
 
-  module _ {live cells at : List ℕ} {r : Count} (x : ChartNumbered c live cells at r) where
+  module _ {live merged cells at : List ℕ} {r : Count} (x : ChartNumbered c live merged cells at r) where
     pub board-used : r .used ≡ boardNumbering c .used
     unfolding used
     board-used = x .used-is ∙ sym (used-is c)

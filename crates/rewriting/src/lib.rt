@@ -117,6 +117,7 @@ fn fit<'a>(
         → now (out .exit) ≡ overwritten newFile (fittedInto k (length (now (out .entry))) c) (now (out .entry))) ⌝ }
 {
     let mut live = [0u64; MOST_LOCATIONS];
+    let mut merged = [0u64; MOST_LOCATIONS];
     let mut cells = [0u16; MOST_CELLS];
     let mut families_at = [0u64; MOST_LOCATIONS];
     let numbered = numbering::number_chart(
@@ -126,6 +127,7 @@ fn fit<'a>(
         starts,
         tested,
         &mut live,
+        &mut merged,
         &mut cells,
         &mut families_at,
     );

@@ -35,10 +35,10 @@ use Rattle.rewriting.proofs.fit.Tie as tie
 
 -- the way back to the start
 abbrev start : tie.After-families-at → tie.Start
-start c = c .before .before .before .before .before .before .before .before
+start c = c .before .before .before .before .before .before .before .before .before
 
 abbrev numbered : tie.After-judge-limit → tie.After-number-chart
-numbered c = c .before .before .before .before
+numbered c = c .before .before .before .before .before
 
 abbrev entry : tie.After-judge-limit → tie.Start
 entry c = start (numbered c .before)
@@ -52,7 +52,8 @@ Given s d = let a = s .args in
 
 -- what numbering leaves
 left : (c : tie.After-judge-limit) (d : Chart) → Given (entry c) d → let n = numbered c .number-chart in
-    ChartNumbered d (n .last .1 .1 .1 .1 .1 .0) (n .last .1 .1 .1 .1 .1 .1 .0) (n .last .1 .1 .1 .1 .1 .1 .1 .0) (n .result)
+    ChartNumbered d (n .last .1 .1 .1 .1 .1 .0) (n .last .1 .1 .1 .1 .1 .1 .0) (n .last .1 .1 .1 .1 .1 .1 .1 .0)
+    (n .last .1 .1 .1 .1 .1 .1 .1 .1 .0) (n .result)
 left c d g = numbered c .number-chart .ensures d (g .0) (holds-edges (g .3)) (g .4)
 
 -- what the judgement of the limit says
@@ -69,12 +70,15 @@ slice-aggregate-number-chart-2 c = search needs
 slice-aggregate-number-chart-3 : tie.Need-slice-aggregate-number-chart-3
 slice-aggregate-number-chart-3 c = search needs
 
+slice-aggregate-number-chart-4 : tie.Need-slice-aggregate-number-chart-4
+slice-aggregate-number-chart-4 c = search needs
+
 number-chart-requires : tie.Need-number-chart-requires
 number-chart-requires c κs =
     let p = start c .pre in
     let most : start c .args .header .locations ≤ mostLocations = omega (arith, locations-are (p .0) (p .1), p .3 .valid .few-locations) in
     let cells : 64 * start c .args .header .locations ≤ mostCells = omega (arith, most) in
-    ((p .0, p .1, holds-edges (p .4), p .5), most, cells, most)
+    ((p .0, p .1, holds-edges (p .4), p .5), most, most, cells, most)
 
 judge-limit-requires : tie.Need-judge-limit-requires
 judge-limit-requires c κs = search needs
@@ -174,6 +178,7 @@ fit-spec =
     slice-aggregate-number-chart
     slice-aggregate-number-chart-2
     slice-aggregate-number-chart-3
+    slice-aggregate-number-chart-4
     number-chart-requires
     judge-limit-requires
     enum-known-limit
