@@ -13,9 +13,8 @@ use Rattle.model.specs.Plan.{Plan}
 use Rattle.model.specs.Judge.{Rewriting, judged}
 use Rattle.model.proofs.Judgement.{accepted}
 use Rattle.model.proofs.Versions.{storable-iff}
-use Rattle.model.proofs.BoardPlan.{board-plan}
 use Rattle.model.proofs.RewritingAlike.{rewriting-is}
-use Rattle.model.proofs.EqualAnswers.{equal-behaviour}
+use Rattle.model.proofs.EqualAnswers.{judged-plan, equal-behaviour}
 use Rattle.file_format.specs.Parse.{Bytes}
 use Rattle.file_format.specs.File.{chartIn, fileOf}
 use Rattle.file_format.proofs.File.{chart-survives, reads-storable}
@@ -58,11 +57,9 @@ module _ (K room : ℕ) (bs : List ℕ) (bytes : Bytes bs) (c : Chart) (reads : 
       let j = rewriting-is K c x m .accepted in
       let a = accepted (s .valid) .0 j in
       let b = equal-behaviour (widthOf (c .version)) K c (s .valid) x m in
-      let plan : Plan c (boardNumbering c) =
-      board-plan (s .valid) (λ i r n u. a .no-unstarted-test i (record { transition = r; is-nth = n; test = u })) in
       let few : boardNumbering c .used ≤ 64 = omega (arith, b .used, b .fits, b .limit) in
       counter-of bs c reads s j (x .chart) (first-fit-demand K room bs bytes c reads x e)
-      (large-kept c (boardNumbering c) plan (storable-iff c .0 s .valid) few a ∙ ap largeConstant (sym (b .chart)))
+      (large-kept c (boardNumbering c) (judged-plan (s .valid) j) (storable-iff c .0 s .valid) few a ∙ ap largeConstant (sym (b .chart)))
 
   -- with document 02's provisos
   pub first-fit-counter-spaced : CounterDemand Spaced bs c (fileOf (x .chart)) (x .chart)

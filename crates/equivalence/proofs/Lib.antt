@@ -4,3 +4,4 @@ pub mod Points
 pub mod OnFiles
 pub mod AnyVersion
 pub mod CounterHolds
+pub mod TwinsShown

@@ -33,10 +33,13 @@ rewritten-judged W c N P valid few e =
       no-unstarted-test = λ i u. rewritten-started c N P i (u .transition) (u .is-nth) (u .test);
     })
 
+-- the board numbers of a chart that is judged are a plan
+pub judged-plan : {W : ℕ} {c : Chart} → Valid W c → judged c ≡ result c → Plan c (boardNumbering c)
+judged-plan valid e = board-plan valid (λ i r n u. accepted valid .0 e .no-unstarted-test i (record { transition = r; is-nth = n; test = u }))
+
 module _ (W K : ℕ) (c : Chart) (valid : Valid W c) (x : Rewriting) (made : rewriting K c ≡ result x) where
   plan : Plan c (boardNumbering c)
-  plan = board-plan valid (λ i r n u. accepted valid .0 (rewriting-is K c x made .accepted) .no-unstarted-test i
-      (record { transition = r; is-nth = n; test = u }))
+  plan = judged-plan valid (rewriting-is K c x made .accepted)
 
   fits : blocked K (board c) ≡ false → usedBy (board c) ≤ K
   unfolding used

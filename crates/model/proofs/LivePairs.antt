@@ -57,7 +57,8 @@ module _ {W : ℕ} {c : Chart} (valid : Valid W c) where
   pair-inside q m h =
       let x = pair-lowest valid q m .0 h in
       let i = live-inside valid (x .live) in
-      record { location = i .location; timer = omega (arith, i .timer, x .lowest-is, lowest-of-twins c (x .timer) (x .timer) (twins-refl (x .timer))) }
+      let low = lowest-of-twins c (x .timer) (x .timer) (twins-refl (x .timer)) in
+      record { location = i .location; timer = omega (arith, i .timer, x .lowest-is, low) }
 
   pub live-pairs-formed : WellFormed (livePairs c)
   unfolding livePairs

@@ -21,7 +21,8 @@ use Rattle.model.specs.Judge.{judged, fitted, rewriting}
 use Rattle.model.specs.Player.{arrival, answerOf, tooLarge, countsJudged, stepsOf, played}
 use Rattle.model.specs.Cases.{arrow, onEvent, test, drawn, A, B, C, selfLoop, neverStarted, restart, ownStart, twoEvents, aboveFloor, lone}
 use Rattle.model.specs.Version.{inVersion}
-use Rattle.model.specs.Cases.{startedTogether, lowestUntested, B′, C′, startedTogether′, selfLoop′, twoEvents′, longDwell, beyondCounts, longDwell′}
+use Rattle.model.specs.Cases.{startedTogether, lowestUntested, longDwell, beyondCounts}
+use Rattle.model.specs.Cases.{B′, C′, startedTogether′, selfLoop′, twoEvents′, longDwell′}
 use Rattle.model.specs.AnyOrder.{lastToFirst}
 use Rattle.model.specs.Cases.{boardNumbers, ask, Case, case, starred, unnoticed}
 

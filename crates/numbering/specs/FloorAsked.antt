@@ -11,7 +11,8 @@ use Rattle.model.specs.FirstFit.{used}
 use Rattle.allocation.specs.FamiliesAt.{FamiliesAt}
 use Rattle.numbering.specs.declared.Numbered.{Numbered}
 
--- a chart that a file can hold, its live sets with twins counted as one, the families at each of its locations, how many numbers it uses and how many families it has
+-- a chart that a file can hold, its live sets with twins counted as one, the families at each of its locations, how many numbers it uses and how many
+-- families it has
 pub record FloorAsked (c : Chart) (merged at : List ℕ) (r : Numbered) : Type 0 where
   pub width : ℕ
   pub valid : Valid width c

@@ -75,9 +75,9 @@ fn live_chart<'a>(
     flow::settle(from, to, started, &tested[..n], &own[..m], &mut live[..m])
 }
 
-// The live set of each location over the front of `live`, the same with twins counted as one over the front of `merged`, the board number of each live
-// timer j at 64 q + j over the front of `cells`, and over the front of `families_at` of each location which of the first 20 families contain it. How
-// many numbers are used, how many families there are, and how many rounds found the live sets.
+// The live set of each location over the front of `live`, the same with twins counted as one over the front of `merged`, the board number of each
+// live timer j at 64 q + j over the front of `cells`, and over the front of `families_at` of each location which of the first 20 families contain it.
+// How many numbers are used, how many families there are, and how many rounds found the live sets.
 pub fn number_chart<'a>(
     header: Header,
     sources: &'a [u16],

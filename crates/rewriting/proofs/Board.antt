@@ -11,8 +11,8 @@ use Rattle.model.specs.Rewrite.{rewrittenBy, boardNumbering}
 use Rattle.model.specs.Plan.{Plan, Numbered}
 use Rattle.model.specs.Judge.{judged}
 use Rattle.model.proofs.Paths.{live-here}
-use Rattle.model.proofs.BoardPlan.{board-used as used-is, board-plan, live-number}
-use Rattle.model.proofs.Judgement.{accepted}
+use Rattle.model.proofs.BoardPlan.{board-used as used-is, live-number}
+use Rattle.model.proofs.EqualAnswers.{judged-plan}
 use Rattle.model.proofs.RewrittenValid.{rewritten-storable}
 use Rattle.renaming.specs.Renaming.{CellsOf}
 use Rattle.numbering.specs.declared.Numbered.{Numbered as Count}
@@ -24,9 +24,8 @@ tests-numbered valid i r n j t =
     live-number valid (r .source) j (live-here (record { number = i; transition = r; is-nth = n; leaves = refl; tests-it = t }))
 
 module _ {c : Chart} (storable : Storable c) (e : judged c ≡ result c) where
-  pub judged-plan : Plan c (boardNumbering c)
-  judged-plan = let valid = storable .valid in
-      board-plan valid (λ i r n u. accepted valid .0 e .no-unstarted-test i (record { transition = r; is-nth = n; test = u }))
+  plan : Plan c (boardNumbering c)
+  plan = judged-plan (storable .valid) e
 
   module _ {live merged cells at : List ℕ} {r : Count} (x : ChartNumbered c live merged cells at r) where
     pub board-used : r .used ≡ boardNumbering c .used
@@ -39,9 +38,9 @@ module _ {c : Chart} (storable : Storable c) (e : judged c ≡ result c) where
       board-cells = record {
         cells-are = x .cells-are;
         few = omega (arith, board-used, few);
-        below = judged-plan .below;
+        below = plan .below;
         numbered = tests-numbered (storable .valid);
       }
 
       pub board-storable : Storable (rewrittenBy (boardNumbering c) c)
-      board-storable = rewritten-storable c (boardNumbering c) judged-plan storable (omega (arith, board-used, few))
+      board-storable = rewritten-storable c (boardNumbering c) plan storable (omega (arith, board-used, few))

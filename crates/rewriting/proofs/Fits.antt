@@ -12,14 +12,13 @@ use Rattle.model.specs.Rewrite.{boardNumbering}
 use Rattle.model.specs.Judge.{Rewriting, rewriting}
 use Rattle.model.proofs.RewrittenValid.{names-below}
 use Rattle.model.proofs.RewritingAlike.{rewriting-is}
-use Rattle.model.proofs.EqualAnswers.{equal-behaviour}
+use Rattle.model.proofs.EqualAnswers.{judged-plan, equal-behaviour}
 use Rattle.file_format.specs.Parse.{Bytes}
 use Rattle.file_format.specs.File.{chartIn, fileOf}
 use Rattle.file_format.proofs.Answers.{then-result, unless-result}
 use Rattle.file_format.proofs.File.{reads-storable, chart-survives}
 use Rattle.rewriting.specs.Rewriting.{rewriteInto}
 use Rattle.rewriting.specs.Returned.{RewritingOf, FitsBoard}
-use Rattle.rewriting.proofs.Board.{judged-plan}
 
 pub rewriting-of : (K room : ℕ) (bs : List ℕ) (x : Rewriting) → rewriteInto K room bs ≡ result x → RewritingOf K bs x
 unfolding rewriteInto
@@ -37,7 +36,7 @@ module _ {K : ℕ} {bs : List ℕ} (bytes : Bytes bs) {x : Rewriting} (o : Rewri
   rewriting-fits =
       let c = o .chart in
       let b = equal-behaviour (widthOf (c .version)) K c (storable-chart .valid) x (o .made) in
-      let plan = judged-plan storable-chart (rewriting-is K c x (o .made) .accepted) in
+      let plan = judged-plan (storable-chart .valid) (rewriting-is K c x (o .made) .accepted) in
       let s = b .storable storable-chart in
       record {
         names-below = rw (b .chart, b .used) (names-below c (boardNumbering c) plan);

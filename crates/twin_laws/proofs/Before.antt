@@ -17,7 +17,7 @@ use Rattle.model.specs.Answer.{result, unless, nowhere}
 use Rattle.model.specs.Chart.{Chart}
 use Rattle.model.specs.Valid.{Valid}
 use Rattle.model.specs.Path.{Live}
-use Rattle.model.specs.Live.{liveFlow, liveSets, live, fullest}
+use Rattle.model.specs.Live.{liveSets, live, fullest}
 use Rattle.model.specs.Twins.{lowestTwin, mergedSets}
 use Rattle.model.specs.Family.{Pairs, pairsWith, families, livePairs}
 use Rattle.model.specs.FirstFit.{Placed, firstFit, usedBy, numberAt, blocked, board}
@@ -27,9 +27,8 @@ use Rattle.model.specs.Rewrite.{Numbering, numbering, rewrittenBy, boardNumberi
 use Rattle.model.specs.Judge.{fitted}
 use Rattle.twin_laws.specs.Before.{pairsBefore, boardBefore, searchedBefore, floorBefore, fittedBefore, SameAsBefore, NoTwins, NoLowerTwin}
 use Rattle.model.proofs.Paths.{live-inside}
-use Rattle.model.proofs.Settled.{settled-words}
-use Rattle.model.proofs.LivePaths.{live-shaped, live-iff}
-use Rattle.model.proofs.Twins.{twins-refl, live-lowest, lowest-of-twins, merged-at, pair-lowest, pair-own}
+use Rattle.model.proofs.LivePaths.{live-iff}
+use Rattle.model.proofs.Twins.{twins-refl, live-lowest, lowest-of-twins, live-word, merged-at, pair-lowest, pair-own}
 use Rattle.model.proofs.PairNumbers.{number-pair}
 use Rattle.model.proofs.BoardPlan.{live-pairs-formed, board-used, number-iff, live-number}
 
@@ -55,7 +54,7 @@ module _ {W : ℕ} {c : Chart} (valid : Valid W c) where
     same-sets : mergedSets c ≡ liveSets c
     unfolding mergedSets liveSets live image
     same-sets = ext-getD 0 (mergedSets c) (liveSets c) (length-map (liveSets c) _) (λ q h.
-        let word = settled-words (liveFlow c) (live-shaped valid) q in
+        let word = live-word valid q in
         let w = getD (liveSets c) q 0 in
         merged-at valid q
         ∙ image-same (lowestTwin c) w word (λ j. j) (λ j m. own-lowest (live-iff valid q j .0 m))

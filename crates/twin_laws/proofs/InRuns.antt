@@ -26,9 +26,8 @@ use Rattle.model.proofs.Answers.{not-result, result-same, unless-result, then-r
 use Rattle.model.proofs.Transitions.{nth-same}
 use Rattle.model.proofs.Steps.{attempt-none, attempt-some, run-front}
 use Rattle.model.proofs.Paths.{reached-initial, reached-step}
-use Rattle.model.proofs.Judgement.{accepted}
 use Rattle.model.proofs.Twins.{twins-sym}
-use Rattle.model.proofs.BoardPlan.{board-plan}
+use Rattle.model.proofs.EqualAnswers.{judged-plan}
 use Rattle.model.proofs.Agree.{Agree, restarted-yes, restarted-no}
 use Rattle.model.proofs.EqualRuns.{outcome-alike}
 
@@ -162,8 +161,5 @@ module _ (c : Chart) (N : Numbering) (P : Plan c N) where
 -- ---- first fit
 
 module _ {W : ℕ} {c : Chart} (valid : Valid W c) (answered : judged c ≡ result c) where
-  pub accepted-plan : Plan c (boardNumbering c)
-  accepted-plan = board-plan valid (λ i r n u. accepted valid .0 answered .no-unstarted-test i (record { transition = r; is-nth = n; test = u }))
-
   pub first-fit-shown : (v w : Counts) (taken rest : List Step) → IsRun c v (taken ++ rest) → ShownAtPoints c (boardNumbering c) v w taken
-  first-fit-shown = plan-shown c (boardNumbering c) accepted-plan
+  first-fit-shown = plan-shown c (boardNumbering c) (judged-plan valid answered)
