@@ -18,15 +18,16 @@ use Rattle.model.specs.Path.{StartsNowhere, Reached, Unstarted}
 use Rattle.model.specs.Run.{Counts, State, Step, Run, grown, after, enabled, attempt, steps, begin, outcome, everyTime, waited}
 use Rattle.model.specs.Twins.{Twins}
 use Rattle.model.specs.Rewrite.{Numbering, rewrittenBy, boardNumbering}
-use Rattle.model.specs.Plan.{Has, Plan}
+use Rattle.model.specs.Plan.{Has, Together, Plan}
 use Rattle.model.specs.Equivalence.{Starts, StartedIn, IsRun}
 use Rattle.model.specs.Judge.{judged}
 use Rattle.twin_laws.specs.InRuns.{ShownThroughTwins, ShownAtPoints}
 use Rattle.model.proofs.Answers.{not-result, result-same, unless-result, then-result, match-result}
-use Rattle.model.proofs.Transitions.{nth-same}
+use Rattle.model.proofs.Transitions.{nth-same, nth-valid}
 use Rattle.model.proofs.Steps.{attempt-none, attempt-some, run-front}
 use Rattle.model.proofs.Paths.{reached-initial, reached-step}
 use Rattle.model.proofs.Twins.{twins-sym}
+use Rattle.model.proofs.Judgement.{accepted}
 use Rattle.model.proofs.EqualAnswers.{judged-plan}
 use Rattle.model.proofs.Agree.{Agree, restarted-yes, restarted-no}
 use Rattle.model.proofs.EqualRuns.{outcome-alike}
@@ -113,6 +114,13 @@ module _ {c : Chart} {j k : ℕ} (t : Twins c j k) where
   pub twins-waited : (d : ℕ) (v : Counts) (es : List Step) (s : State) → Run c v es s → StartedIn c j es → waited d s .counts j ≡ waited d s .counts k
   unfolding waited grown
   twins-waited d v es s run x = ap (λ (n : ℕ). n + d) (twins-counts v es s run x)
+
+-- what a plan asks of timers that share a number, on a chart that is judged: that they are twins
+pub together-iff : {W : ℕ} {c : Chart} → Valid W c → judged c ≡ result c → (j k : ℕ) → Twins c j k ↔ Together c j k
+together-iff valid e j k = (
+  λ t i r n reach. t .together i r n,
+  λ t. record { together = λ i r n. t i r n (accepted valid .0 e .all-reached (r .source) (nth-valid valid n .source)) },
+)
 
 -- ---- what the board timers show
 
