@@ -20,7 +20,7 @@ use Rattle.model.specs.FirstFit.{used}
 use Rattle.model.specs.Rewrite.{boardNumbering}
 use Rattle.model.specs.Floor.{floor, searched}
 use Rattle.model.proofs.LiveRounds.{rounds-by-paths, one-rounds, rounds-accepted}
-use Rattle.model.proofs.BoardPlan.{board-used, number-under}
+use Rattle.model.proofs.BoardPlan.{numbering-used, number-under}
 use Rattle.model.proofs.UsedNumbers.{used-reached}
 use Rattle.file_format.specs.Parse.{Bytes}
 use Rattle.file_format.proofs.File.{reads-valid}
@@ -75,8 +75,8 @@ module _ (bs before : List ℕ) (bytes : Bytes bs) where
         floor-most = λ q n h a. omega (arith, one-count a (counted-once valid q), floor-most valid q);
         floor-reached = λ h. let x = floor-reached valid h in (x .0, x .1, subst (CountedOnce c (x .0)) (x .2) (counted-once valid (x .0)));
         floor-used = floor-used valid;
-        used-above = λ q j k h. omega (arith, number-under c q j k h, board-used c);
-        used-reached = λ u h. used-reached valid u (board-used c ∙ h);
+        used-above = λ q j k h. omega (arith, number-under c q j k h, numbering-used c);
+        used-reached = λ u h. used-reached valid u (numbering-used c ∙ h);
         used-none = used-none valid;
         rounds-are = rounds-by-paths valid;
         rounds-few = rounds-accepted valid (a .accepted);
@@ -122,7 +122,7 @@ module _ {bs before after : List ℕ} {f : AnalysisValues} (bytes : Bytes bs) (v
       let N = boardNumbering c in
       let above : f .used ≤ N .used = at-most _ _ (λ u e. let x = v .used-reached u e in number-under c (x .0) (x .1) u (x .2)) in
       let below : N .used ≤ f .used = at-most _ _ (λ u e. let x = used-reached valid u e in v .used-above (x .0) (x .1) u (x .2)) in
-      omega (arith, board-used c)
+      omega (arith, numbering-used c)
 
   searched-only : f .searched ≡ searched c
   searched-only = same-bool _ _ (λ h. searched-iff valid .1 (v .searched-few .0 h)) (λ h. v .searched-few .1 (searched-iff valid .0 h))

@@ -13,7 +13,7 @@ use Rattle.model.specs.Path.{Live}
 use Rattle.model.specs.Live.{live, liveSets}
 use Rattle.model.specs.FirstFit.{used}
 use Rattle.model.proofs.UsedNumbers.{used-reached}
-use Rattle.model.proofs.BoardPlan.{board-used, number-live, live-number, number-under}
+use Rattle.model.proofs.BoardPlan.{numbering-used, number-live, live-number, number-under}
 use Rattle.model.proofs.LivePaths.{live-iff}
 
 module _ {W : ℕ} {c : Chart} (valid : Valid W c) where
@@ -25,12 +25,12 @@ module _ {W : ℕ} {c : Chart} (valid : Valid W c) where
   pub used-none : (used c ≡ 0) ↔ ((q j : ℕ) → Live c q j → ⊥)
   unfolding used
   used-none = (
-    λ e q j l. let n = live-number valid q j l in omega (arith, number-under c q j (n .0) (n .1), board-used c, e),
+    λ e q j l. let n = live-number valid q j l in omega (arith, number-under c q j (n .0) (n .1), numbering-used c, e),
     λ f. none-used f (used c) refl,
   )
     where
       none-used : ((q j : ℕ) → Live c q j → ⊥) → (n : ℕ) → used c ≡ n → used c ≡ 0
       none-used f zero e = e
       none-used f (suc k) e =
-          let x = used-reached valid k (board-used c ∙ e) in
+          let x = used-reached valid k (numbering-used c ∙ e) in
           absurd (f _ _ (number-live valid (x .0) (x .1) k (x .2)))

@@ -1,22 +1,18 @@
 -- The pairs that the lists of a chart describe, twins counted as one, are the chart's, and these lists are safe. Assumes nothing.
 use mathlib.Core.Path.{_≡_, sym, _∙_}
-use mathlib.Core.Bool.{true}
 use mathlib.Core.List.{map}
-use Prim.Native.Nat.{ℕ, _^_, _<_}
+use Prim.Native.Nat.{ℕ}
 use native.Mathlib.Omega.{arith}
 use lib.ListN.{length, getD, length-map}
 use Rattle.lists.proofs.Nth.{getD-map, upTo-map}
-use Rattle.timer_set.specs.Members.{member, common, minus, image}
-use Rattle.timer_set.proofs.Images.{image-lt}
+use Rattle.timer_set.specs.Members.{common, minus}
 use Rattle.model.specs.Chart.{Transition, Chart}
 use Rattle.model.specs.Valid.{Valid}
-use Rattle.model.specs.Live.{startsSet, liveFlow, liveSets, live}
-use Rattle.model.specs.Twins.{lowestTwin, mergedSets}
+use Rattle.model.specs.Live.{startsSet, liveFlow, liveSets}
+use Rattle.model.specs.Twins.{mergedSets}
 use Rattle.model.specs.Family.{livePairs}
 use Rattle.model.proofs.Settled.{length-settled}
-use Rattle.model.proofs.Paths.{live-inside}
-use Rattle.model.proofs.LivePaths.{live-iff}
-use Rattle.model.proofs.Twins.{twins-refl, lowest-of-twins, live-word, merged-at}
+use Rattle.model.proofs.Twins.{merged-each, merged-few}
 use Rattle.chart_lists.specs.Lists.{listsOf}
 use Rattle.chart_lists.proofs.Holds.{sources-each, targets-each, starts-each}
 use Rattle.chart_lists.proofs.Locations.{sources-below, targets-below}
@@ -26,10 +22,6 @@ use Rattle.families.specs.Pairs.{linkAt, pairsOf, SafeTransitions}
 pub live-each : (c : Chart) → length (liveSets c) ≡ c .locations
 unfolding liveSets liveFlow
 live-each c = length-settled (liveFlow c)
-
-pub merged-each : (c : Chart) → length (mergedSets c) ≡ c .locations
-unfolding mergedSets
-merged-each c = length-map (liveSets c) (image (lowestTwin c)) ∙ live-each c
 
 pub chart-pairs : (c : Chart) → pairsOf (listsOf c .sources) (listsOf c .targets) (listsOf c .starts) (mergedSets c) (c .timers) ≡ livePairs c
 unfolding listsOf pairsOf livePairs linkAt
@@ -44,15 +36,6 @@ chart-pairs c = λ i. record { locations = merged-each c i; timers = c .timers; 
         λ k. record { one = s k; other = t k; timers = minus (common (at (s k)) (at (t k))) (here startsSet k) })
 
 module _ {W : ℕ} {c : Chart} (valid : Valid W c) where
-  -- a live set has the chart's timers alone, and so has the set of their lowest twins
-  pub live-member : (q j : ℕ) → member (getD (liveSets c) q 0) j ≡ true → j < c .timers
-  unfolding live
-  live-member q j m = live-inside valid (live-iff valid q j .0 m) .timer
-
-  merged-few : (q : ℕ) → getD (mergedSets c) q 0 < 2 ^ c .timers
-  merged-few q = rw (merged-at valid q) (image-lt (lowestTwin c) (getD (liveSets c) q 0) (live-word valid q) (c .timers)
-      (λ j m. omega (arith, live-member q j m, lowest-of-twins c j j (twins-refl j))))
-
   pub chart-safe : SafeTransitions (listsOf c .sources) (listsOf c .targets) (listsOf c .starts) (mergedSets c) (c .timers)
   chart-safe = record {
     few-targets = targets-each c ∙ sym (sources-each c);
@@ -62,5 +45,5 @@ module _ {W : ℕ} {c : Chart} (valid : Valid W c) where
     few-timers = valid .few-timers;
     source-below = λ i h. rw (merged-each c) (sources-below valid i (omega (arith, sources-each c)));
     target-below = λ i h. rw (merged-each c) (targets-below valid i (omega (arith, sources-each c)));
-    live-below = merged-few;
+    live-below = merged-few valid;
   }

@@ -8,7 +8,7 @@ use Rattle.timer_set.specs.Members.{common, minus}
 use Rattle.model.specs.Family.{Link, Pairs}
 use Rattle.chart_lists.specs.Limits.{mostLocations, mostTimers, mostTransitions}
 
--- of each transition its source, its target and the set that it starts; of each location its live set
+-- of each transition its source, its target and the set that it starts; of each location its live set, twins counted as one
 unfoldable pub linkAt : (sources targets starts live : List ℕ) → ℕ → Link
 linkAt sources targets starts live i = record {
   one = getD sources i 0;

@@ -16,7 +16,7 @@ use Rattle.model.specs.Valid.{Valid}
 use Rattle.model.specs.FirstFit.{used}
 use Rattle.model.specs.Floor.{floor, searched}
 use Rattle.model.specs.Rewrite.{Numbering, boardNumbering}
-use Rattle.model.proofs.BoardPlan.{board-used, number-under}
+use Rattle.model.proofs.BoardPlan.{numbering-used, number-under}
 use Rattle.listing.specs.Text.{decimalIn, decimal, atWord}
 use Rattle.listing.specs.Listing.{largestText, refusedText, entryText, lineOf, chartText}
 use Rattle.listing.proofs.Decimal.{decimal-one, length-more}
@@ -68,7 +68,7 @@ module _ (N : Numbering) (few : (q j k : ℕ) → N .number q j ≡ some k → k
 -- no number of the board is above 63 if at most 64 are used
 pub board-few : (c : Chart) → used c ≤ 64 → (q j k : ℕ) → boardNumbering c .number q j ≡ some k → k < 64
 unfolding used
-board-few c few q j k e = omega (arith, number-under c q j k e, board-used c)
+board-few c few q j k e = omega (arith, number-under c q j k e, numbering-used c)
 
 pub chart-fits : {W : ℕ} {c : Chart} → Valid W c → used c ≤ 64 → (K : ℕ) → length (chartText K c) ≤ largestText
 unfolding chartText

@@ -30,13 +30,13 @@ use Rattle.model.proofs.NumberAt.{number-below}
 use Rattle.model.proofs.PairNumbers.{number-of-pair, linked-same, apart}
 
 -- as many are used as the families need
-pub board-used : (c : Chart) → boardNumbering c .used ≡ usedBy (board c)
+pub numbering-used : (c : Chart) → boardNumbering c .used ≡ usedBy (board c)
 unfolding boardNumbering through numbering
-board-used c = refl
+numbering-used c = refl
 
 pub number-under : (c : Chart) (q j k : ℕ) → Has (boardNumbering c) q j k → k < boardNumbering c .used
 unfolding boardNumbering numbering
-number-under c q j k e = rw (board-used c)
+number-under c q j k e = rw (numbering-used c)
     (number-below (board c) q (lowestTwin c j) k (through-has (liveSets c) (lowestTwin c) (numbering (board c)) q j k e .1))
 
 module _ {W : ℕ} {c : Chart} (valid : Valid W c) where

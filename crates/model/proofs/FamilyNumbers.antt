@@ -1,6 +1,6 @@
 -- The family that is computed of a pair is its family by chains of transitions: its locations, its number, which one is earlier, and which ones
 -- meet. Nothing is hard. Assumes nothing.
-use mathlib.Core.Path.{_≡_, refl}
+use mathlib.Core.Path.{_≡_, refl, sym, ap, _∙_}
 use mathlib.Core.Logic.{_↔_}
 use mathlib.Core.Bool.{true}
 use Prim.Native.Nat.{ℕ, _<_}
@@ -9,11 +9,13 @@ use Rattle.lists.specs.Lists.{memb}
 use Rattle.lists.proofs.Membership.{any-memb-in, any-memb-out}
 use Rattle.model.specs.Chart.{Chart}
 use Rattle.model.specs.Valid.{Valid}
+use Rattle.model.specs.Path.{Live}
 use Rattle.model.specs.Twins.{TwinLive, lowestTwin}
 use Rattle.model.specs.Family.{livePairs, Family, familyNumber, familyOf, meets}
+use Rattle.model.specs.Placing.{FamilyOfPair}
 use Rattle.model.specs.SharingRule.{SameFamily, FamilyNumber, Earlier, FamiliesMeet}
 use Rattle.model.proofs.Families.{family-timer, family-has, first-least, first-joined}
-use Rattle.model.proofs.Twins.{twins-refl, one-lowest, twin-lowest, pair-twin}
+use Rattle.model.proofs.Twins.{twins-refl, one-lowest, twin-lowest, pair-lowest, pair-twin}
 use Rattle.model.proofs.LivePairs.{live-pairs-formed, joined-iff}
 
 -- a family has one number
@@ -52,6 +54,17 @@ module _ {W : ℕ} {c : Chart} (valid : Valid W c) where
     smallest = λ s a. rw (family-timer (livePairs c) q m)
         (omega (arith, first-least (live-pairs-formed valid) q m pair s (joined-iff valid j q s l .1 a)));
   }
+
+  -- a family that is computed is that of a timer that is live at its first location
+  pub record LiveFamily (f : Family) : Type 0 where
+    pub timer : ℕ
+    pub live : Live c (f .first) timer
+    pub whole : f ≡ family (f .first) timer
+
+  pub live-family : (f : Family) → FamilyOfPair (livePairs c) f → LiveFamily f
+  live-family f o =
+      let x = pair-lowest valid (f .first) (f .timer) .0 (o .pair) in
+      record { timer = x .timer; live = x .live; whole = o .whole ∙ ap (familyOf (livePairs c) (f .first)) (sym (x .lowest-is)) }
 
   module _ (q j s i : ℕ) (l : TwinLive c q j) (l′ : TwinLive c s i) where
     pub earlier-iff : (familyNumber (family q j) < familyNumber (family s i)) ↔ Earlier c q j s i

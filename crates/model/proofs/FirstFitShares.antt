@@ -17,14 +17,14 @@ use Rattle.model.specs.Placing.{PairNumber}
 use Rattle.model.specs.Rewrite.{Numbering, boardNumbering}
 use Rattle.model.specs.Plan.{Has}
 use Rattle.model.specs.SharingRule.{HeldEarlier, SharingRule, AllNumbersHeld}
-use Rattle.model.proofs.PairNumbers.{first-fit-fitted, number-pair, joined-same}
+use Rattle.model.proofs.PairNumbers.{first-fit-fitted, placed-family, number-pair, joined-same}
 use Rattle.model.proofs.PlacedOnce.{first-fit-falling}
 use Rattle.model.proofs.EarlierFamilies.{HeldLower, lower-free, lower-holds}
 use Rattle.model.proofs.Twins.{live-itself, same-lowest, pair-twin}
 use Rattle.model.proofs.LivePairs.{live-pairs-formed, joined-iff}
-use Rattle.model.proofs.FamilyNumbers.{meet-sym, earlier-iff, meets-iff}
-use Rattle.model.proofs.BoardPlan.{number-iff, number-live, live-number, number-under, board-blocked, board-used}
-use Rattle.model.proofs.UsedNumbers.{family-timer-live, used-reached}
+use Rattle.model.proofs.FamilyNumbers.{live-family, meet-sym, earlier-iff, meets-iff}
+use Rattle.model.proofs.BoardPlan.{number-iff, number-live, live-number, number-under, board-blocked, numbering-used}
+use Rattle.model.proofs.UsedNumbers.{live-family-number, used-reached}
 
 module _ {W : ℕ} {c : Chart} (valid : Valid W c) where
   abbrev pairs : Pairs
@@ -63,7 +63,7 @@ module _ {W : ℕ} {c : Chart} (valid : Valid W c) where
       go a x =
           let b = x .by in
           let f = b .holder .family in
-          let o = family-timer-live valid (b .place) (b .holder) (b .is-nth) in
+          let o = live-family valid f (placed-family formed (b .place) (b .holder) (b .is-nth)) in
           let l = pair q j k e in
           let l′ = live-itself (o .live) in
           record {
@@ -71,7 +71,7 @@ module _ {W : ℕ} {c : Chart} (valid : Valid W c) where
             timer = o .timer;
             earlier = earlier-iff valid (f .first) (o .timer) q j l′ l .0 (rw (← o .whole, ← a .family) (x .lower));
             meet = meet-sym (meets-iff valid q j (f .first) (o .timer) l l′ .0 (rw (← o .whole, ← a .family) (b .met)));
-            number = o .number ∙ ap (λ (n : ℕ). some n) (b .number);
+            number = live-family-number valid (b .place) (b .holder) (b .is-nth) o ∙ ap (λ (n : ℕ). some n) (b .number);
           }
 
   pub first-fit-shares : SharingRule c N
@@ -99,7 +99,7 @@ module _ {W : ℕ} {c : Chart} (valid : Valid W c) where
       all-held : (u : ℕ) → used c ≡ u → K < used c → AllNumbersHeld K c N
       all-held zero e h = absurd (omega arith)
       all-held (suc u) e h =
-          let x = first-fit-shares .used-reached u (board-used c ∙ e) in
+          let x = first-fit-shares .used-reached u (numbering-used c ∙ e) in
           record {
             location = x .0;
             timer = x .1;
@@ -113,5 +113,5 @@ module _ {W : ℕ} {c : Chart} (valid : Valid W c) where
           let b = first-fit-shares .used-above (h .location) (h .timer) (x .0) (x .1) in
           ⊎-elim
           (λ l. absurd (first-fit-shares .free (h .location) (h .timer) (x .0) (x .1) (h .held (x .0) l)))
-          (λ l. omega (arith, board-used c))
+          (λ l. omega (arith, numbering-used c))
           (lt-or-le (x .0) K)

@@ -22,7 +22,7 @@ use Rattle.model.specs.SharingRule.{LiveLink, SameFamily}
 use Rattle.model.proofs.Transitions.{nth-valid}
 use Rattle.model.proofs.Paths.{Inside, live-inside}
 use Rattle.model.proofs.Joined.{chain-wider}
-use Rattle.model.proofs.Twins.{twins-refl, lowest-of-twins, twin-lowest, pair-lowest, pair-twin}
+use Rattle.model.proofs.Twins.{lowest-twin-low, twin-lowest, pair-lowest, pair-twin}
 
 -- the link of a transition, and its timers
 abbrev link : Chart → Transition → Link
@@ -57,8 +57,7 @@ module _ {W : ℕ} {c : Chart} (valid : Valid W c) where
   pair-inside q m h =
       let x = pair-lowest valid q m .0 h in
       let i = live-inside valid (x .live) in
-      let low = lowest-of-twins c (x .timer) (x .timer) (twins-refl (x .timer)) in
-      record { location = i .location; timer = omega (arith, i .timer, x .lowest-is, low) }
+      record { location = i .location; timer = omega (arith, i .timer, x .lowest-is, lowest-twin-low c (x .timer)) }
 
   pub live-pairs-formed : WellFormed (livePairs c)
   unfolding livePairs

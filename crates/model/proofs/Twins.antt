@@ -7,10 +7,10 @@ use mathlib.Core.List.{List, map}
 use Prim.Native.Nat.{ℕ, _^_, _≤_, _<_}
 use native.Mathlib.Nat.{le-antisymm}
 use native.Mathlib.Omega.{arith}
-use lib.ListN.{getD}
+use lib.ListN.{length, getD, length-map}
 use Rattle.timer_set.specs.Members.{member, image}
 use Rattle.timer_set.proofs.Members.{member-setOf}
-use Rattle.timer_set.proofs.Images.{image-in, image-out, image-empty}
+use Rattle.timer_set.proofs.Images.{image-in, image-out, image-lt, image-empty}
 use Rattle.lists.specs.Lists.{anyOf}
 use Rattle.lists.proofs.Bools.{not-both, is-no, same-bool, not-true}
 use Rattle.lists.proofs.Membership.{any-in, any-out, nth-map, nth-unmap}
@@ -23,7 +23,7 @@ use Rattle.model.specs.Live.{startsSet, liveFlow, liveSets, live}
 use Rattle.model.specs.Twins.{Twins, LowestTwin, TwinLive, inSameSets, lowestInSame, lowestTwin, mergedSets}
 use Rattle.model.specs.Family.{isPair, livePairs}
 use Rattle.model.proofs.Paths.{live-inside}
-use Rattle.model.proofs.Settled.{settled-words}
+use Rattle.model.proofs.Settled.{length-settled, settled-words}
 use Rattle.model.proofs.LivePaths.{live-shaped, live-iff}
 
 -- ---- an equivalence
@@ -38,12 +38,9 @@ module _ {c : Chart} where
   pub twins-trans : {j k m : ℕ} → Twins c j k → Twins c k m → Twins c j m
   twins-trans t u = record { together = λ i r n. t .together i r n ∙ u .together i r n }
 
-  -- twins have one lowest twin, and are live together where they count
+  -- twins have one lowest twin
   pub one-lowest : {j k m n : ℕ} → Twins c j k → LowestTwin c j m → LowestTwin c k n → m ≡ n
   one-lowest t a b = le-antisymm (a .lowest _ (twins-trans t (b .twin))) (b .lowest _ (twins-trans (twins-sym t) (a .twin)))
-
-  pub live-as-twin : {q j k : ℕ} → Twins c j k → TwinLive c q j → TwinLive c q k
-  live-as-twin t l = record { twin = l .twin; is-twin = twins-trans (twins-sym t) (l .is-twin); live = l .live }
 
   pub live-itself : {q j : ℕ} → Live c q j → TwinLive c q j
   live-itself {q} {j} l = record { twin = j; is-twin = twins-refl j; live = l }
@@ -61,6 +58,17 @@ xor-self : (a : Bool) → xor a a ≡ false
 unfolding xor
 xor-self true = refl
 xor-self false = refl
+
+pub same-as-itself : (ws : List ℕ) (j : ℕ) → inSameSets ws j j ≡ true
+unfolding inSameSets
+same-as-itself ws j = ap not (is-no (anyOf (λ w. xor (member w j) (member w j)) ws) (λ h.
+    let x = any-out (λ w. xor (member w j) (member w j)) ws h in
+    not-both (x .3) (xor-self (member (x .1) j))))
+
+-- the lowest is no higher
+pub lowest-low : (ws : List ℕ) (n j : ℕ) → lowestInSame ws n j ≤ j
+unfolding lowestInSame
+lowest-low ws n j = lowest-most (inSameSets ws j) n j (same-as-itself ws j)
 
 module _ (c : Chart) where
   abbrev sets : List ℕ
@@ -92,13 +100,17 @@ module _ (c : Chart) where
   unfolding lowestTwin lowestInSame
   lowest-is-twin j h = twins-iff j _ .0 (lowest-passes (inSameSets sets j) (c .timers) h)
 
+  pub lowest-twin-low : (j : ℕ) → lowestTwin c j ≤ j
+  unfolding lowestTwin
+  lowest-twin-low j = lowest-low sets (c .timers) j
+
   pub lowest-of-twins : (j k : ℕ) → Twins c j k → lowestTwin c j ≤ k
   unfolding lowestTwin lowestInSame
   lowest-of-twins j k t = lowest-most (inSameSets sets j) (c .timers) k (twins-iff j k .1 t)
 
   pub lowest-twin : (j : ℕ) → j < c .timers → LowestTwin c j (lowestTwin c j)
   lowest-twin j h =
-      record { twin = lowest-is-twin j (omega (arith, lowest-of-twins j j (twins-refl j))); lowest = λ k t. lowest-of-twins j k t }
+      record { twin = lowest-is-twin j (omega (arith, lowest-twin-low j)); lowest = λ k t. lowest-of-twins j k t }
 
   pub same-lowest : {j k : ℕ} → Twins c j k → lowestTwin c j ≡ lowestTwin c k
   unfolding lowestTwin lowestInSame
@@ -107,6 +119,11 @@ module _ (c : Chart) where
       (λ x. twins-iff j i .1 (twins-trans t (twins-iff k i .0 x))))
 
 -- ---- the pairs
+
+-- one set for each location
+pub merged-each : (c : Chart) → length (mergedSets c) ≡ c .locations
+unfolding mergedSets liveSets liveFlow
+merged-each c = length-map (liveSets c) (image (lowestTwin c)) ∙ length-settled (liveFlow c)
 
 module _ {W : ℕ} {c : Chart} (valid : Valid W c) where
   pub live-lowest : {q j : ℕ} → Live c q j → LowestTwin c j (lowestTwin c j)
@@ -128,6 +145,15 @@ module _ {W : ℕ} {c : Chart} (valid : Valid W c) where
   unfolding mergedSets
   merged-at q = getD-map-all (image (lowestTwin c)) (image-empty (lowestTwin c)) (liveSets c) q
 
+  pub live-member : (q j : ℕ) → member (getD (liveSets c) q 0) j ≡ true → j < c .timers
+  unfolding live
+  live-member q j m = live-inside valid (live-iff valid q j .0 m) .timer
+
+  -- a merged set has the chart's timers alone
+  pub merged-few : (q : ℕ) → getD (mergedSets c) q 0 < 2 ^ c .timers
+  merged-few q = rw (merged-at q) (image-lt (lowestTwin c) (getD (liveSets c) q 0) (live-word q) (c .timers)
+      (λ j m. omega (arith, live-member q j m, lowest-twin-low c j)))
+
   -- the lowest twin of a live timer
   pub record LowestLive (q m : ℕ) : Type 0 where
     pub timer : ℕ
@@ -147,7 +173,7 @@ module _ {W : ℕ} {c : Chart} (valid : Valid W c) where
   lowest-live-twin {q} {j} {m} x e =
       let a = live-lowest (x .live) in
       let small : lowestTwin c j < c .timers =
-      omega (arith, e, x .lowest-is, live-inside valid (x .live) .timer, a .lowest (x .timer) (twins-refl (x .timer))) in
+      omega (arith, e, x .lowest-is, live-inside valid (x .live) .timer, lowest-twin-low c (x .timer)) in
       let same : lowestTwin c (x .timer) ≡ lowestTwin c j = x .lowest-is ∙ sym e in
       record { twin = x .timer; is-twin = twins-trans (lowest-is-twin c j small) (twins-sym (rw same at (a .twin))); live = x .live }
 

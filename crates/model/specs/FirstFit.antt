@@ -49,7 +49,7 @@ unfoldable pub blocked : (K : ℕ) → List Placed → Bool
 blocked K [] = false
 blocked K (g ∷ earlier) = allHeld K (held (g .family) earlier) || blocked K earlier
 
--- the board numbers of a chart
+-- the families of a chart, each with its board number
 unfoldable pub board : Chart → List Placed
 board c = firstFit (livePairs c)
 

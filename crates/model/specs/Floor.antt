@@ -17,6 +17,6 @@ mostSearched = 20
 unfoldable pub searched : Chart → Bool
 searched c = leb (length (families (livePairs c))) mostSearched
 
--- floor: the fewest timers of any plan; with more families the fullest live set, twins counted as one, which the program calls `seen`
+-- floor: the fewest timers of any plan; with more families the fullest live set, twins counted once, which the program calls `seen`
 unfoldable pub floor : Chart → ℕ
 floor c = elim (searched c) [ true ↦ fewest (families (livePairs c)) | false ↦ fullest (mergedSets c) ]

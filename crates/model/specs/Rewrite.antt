@@ -1,4 +1,4 @@
--- The chart rewritten by a numbering (document 01, "Live, born, family, board number"). Assumes nothing.
+-- The chart rewritten by a numbering (document 01, "Live, born, family, board number"; document 02, P6). Assumes nothing.
 use mathlib.Core.Path.{_≡_}
 use mathlib.Core.Bool.{true, false}
 use mathlib.Core.Option.{Option, none, some}

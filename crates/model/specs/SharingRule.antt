@@ -64,7 +64,7 @@ pub record HeldEarlier (c : Chart) (N : Numbering) (q j k : ℕ) : Type 0 where
   pub meet : FamiliesMeet c location timer q j
   pub number : Has N location timer k
 
--- the rule: N numbers the pairs as document 01 says
+-- the rule: N numbers the live timers as documents 01 and 02 say
 pub record SharingRule (c : Chart) (N : Numbering) : Type 0 where
   -- every timer has a number where it is live
   pub numbered : (q j : ℕ) → Live c q j → (k : ℕ) × Has N q j k

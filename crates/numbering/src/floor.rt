@@ -31,7 +31,7 @@ fn fullest(sets: &[u64]) -> u32
     most
 }
 
-// The fewest timers of any plan where there are at most 20 families: no fewer than the fullest live set has, twins counted as one, and no more than
+// The fewest timers of any plan where there are at most 20 families: no fewer than the fullest live set has, twins counted once, and no more than
 // first fit uses. With more families the fullest live set, so counted.
 pub fn find_floor(merged: &[u64], families_at: &[u64], numbered: Numbered) -> FloorFound
     requires { ⌜ ((c : Chart) × FloorAsked c (now merged) (now «families_at») numbered) ⌝ }

@@ -11,7 +11,7 @@ use Rattle.model.specs.Rewrite.{rewrittenBy, boardNumbering}
 use Rattle.model.specs.Plan.{Plan, Numbered}
 use Rattle.model.specs.Judge.{judged}
 use Rattle.model.proofs.Paths.{live-here}
-use Rattle.model.proofs.BoardPlan.{board-used as used-is, live-number}
+use Rattle.model.proofs.BoardPlan.{numbering-used, live-number}
 use Rattle.model.proofs.EqualAnswers.{judged-plan}
 use Rattle.model.proofs.RewrittenValid.{rewritten-storable}
 use Rattle.renaming.specs.Renaming.{CellsOf}
@@ -30,7 +30,7 @@ module _ {c : Chart} (storable : Storable c) (e : judged c ≡ result c) where
   module _ {live merged cells at : List ℕ} {r : Count} (x : ChartNumbered c live merged cells at r) where
     pub board-used : r .used ≡ boardNumbering c .used
     unfolding used
-    board-used = x .used-is ∙ sym (used-is c)
+    board-used = x .used-is ∙ sym (numbering-used c)
 
     -- where the numbers fit a board
     module _ (few : r .used ≤ 64) where

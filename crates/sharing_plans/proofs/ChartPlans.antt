@@ -27,9 +27,9 @@ use Rattle.model.proofs.FamilyList.{families-have, families-are, families-risin
 use Rattle.model.proofs.NumberAt.{has-pair, number-in, number-out}
 use Rattle.model.proofs.PairNumbers.{has-whole}
 use Rattle.model.proofs.LivePaths.{live-iff}
-use Rattle.model.proofs.Twins.{live-itself, same-lowest, lowest-twins, pair-lowest, pair-twin}
+use Rattle.model.proofs.Twins.{live-itself, same-lowest, lowest-twins, pair-twin}
 use Rattle.model.proofs.LivePairs.{live-pairs-formed, joined-iff}
-use Rattle.model.proofs.FamilyNumbers.{family, meets-iff}
+use Rattle.model.proofs.FamilyNumbers.{family, live-family, meets-iff}
 use Rattle.model.proofs.Through.{through-in, through-has}
 use Rattle.model.proofs.FirstFitShares.{first-fit-shares}
 use Rattle.model.proofs.SharingDetermined.{meeting-apart}
@@ -91,11 +91,9 @@ module _ {W : ℕ} {c : Chart} (valid : Valid W c) where
     timer-number i h =
         let x = nth-below own i h in
         let q = x .0 .first in
-        let a = families-are formed i (x .0) (x .1) in
-        let y = pair-lowest valid q (x .0 .timer) .0 (a .pair) in
+        let y = live-family valid (x .0) (families-are formed i (x .0) (x .1)) in
         let n = plan .numbered q (y .timer) (y .live) in
-        let whole = a .whole ∙ ap (familyOf pairs q) (sym (y .lowest-is)) in
-        (n .0, record { location = q; timer = y .timer; live = y .live; is-nth = x .1 ∙ ap some whole; number = n .1 })
+        (n .0, record { location = q; timer = y .timer; live = y .live; is-nth = x .1 ∙ ap some (y .whole); number = n .1 })
 
     pub family-plan : (f : ℕ → ℕ) × FamilyPlan own (N .used) f
     family-plan = let x = choose (λ i. decLt i (length own)) timer-number in (

@@ -1,6 +1,6 @@
 -- How many timers are live at a location, twins counted once, is the count of its merged set, and nothing else. Nothing is hard. Assumes nothing.
 use mathlib.Core.Path.{_≡_, sym, _∙_, subst}
-use Prim.Native.Nat.{ℕ, _^_, _≤_, _<_}
+use Prim.Native.Nat.{ℕ, _≤_}
 use native.Mathlib.Nat.{le-antisymm}
 use native.Mathlib.Omega.{arith}
 use lib.Count.{ones}
@@ -9,27 +9,19 @@ use Rattle.lists.specs.Lists.{pick}
 use Rattle.lists.proofs.Gather.{pick-in, pick-out, pick-rising}
 use Rattle.timer_set.specs.Members.{member}
 use Rattle.timer_set.proofs.Counts.{ones-pick}
-use Rattle.timer_set.proofs.Images.{image-lt}
 use Rattle.model.specs.Chart.{Chart}
 use Rattle.model.specs.Valid.{Valid}
-use Rattle.model.specs.Live.{live, liveFlow, liveSets}
-use Rattle.model.specs.Twins.{LowestTwin, lowestTwin, mergedSets}
+use Rattle.model.specs.Live.{live}
+use Rattle.model.specs.Twins.{LowestTwin, mergedSets}
 use Rattle.model.specs.Family.{isPair, livePairs}
 use Rattle.model.proofs.Paths.{live-inside}
-use Rattle.model.proofs.Settled.{settled-words}
-use Rattle.model.proofs.LivePaths.{live-shaped, live-iff}
-use Rattle.model.proofs.Twins.{twins-refl, one-lowest, lowest-of-twins, live-lowest, merged-at, pair-lowest}
+use Rattle.model.proofs.Twins.{twins-refl, one-lowest, live-lowest, merged-few, pair-lowest}
 use Rattle.sharing_plans.specs.CountedOnce.{CountedOnce}
 use Rattle.sharing_plans.proofs.DifferentNumbers.{few-members}
 
 module _ {W : ℕ} {c : Chart} (valid : Valid W c) (q : ℕ) where
   abbrev word : ℕ
   word = getD (mergedSets c) q 0
-
-  small : word < 2 ^ c .timers
-  unfolding liveSets live
-  small = rw (merged-at valid q) (image-lt (lowestTwin c) (getD (liveSets c) q 0) (settled-words (liveFlow c) (live-shaped valid) q) (c .timers)
-      (λ j m. omega (arith, lowest-of-twins c j j (twins-refl j), live-inside valid (live-iff valid q j .0 m) .timer)))
 
   pub counted-once : CountedOnce c q (ones word)
   unfolding isPair livePairs
@@ -46,7 +38,7 @@ module _ {W : ℕ} {c : Chart} (valid : Valid W c) (q : ℕ) where
           pick-in (member word) (c .timers) m (omega (arith, is, low, live-inside valid (x .1) .timer))
           (pair-lowest valid q m .1 (record { timer = x .0; live = x .1; lowest-is = is })),
     );
-    count = sym (ones-pick (c .timers) word small);
+    count = sym (ones-pick (c .timers) word (merged-few valid q));
   }
 
 -- there is one such count

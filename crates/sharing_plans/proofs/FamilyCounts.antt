@@ -14,16 +14,16 @@ use Rattle.lists.proofs.Gather.{length-upTo, upTo-rising, rising-below}
 use Rattle.model.specs.Chart.{Chart}
 use Rattle.model.specs.Valid.{Valid}
 use Rattle.model.specs.Twins.{lowestTwin}
-use Rattle.model.specs.Family.{Family, meets, familyNumber, familyOf, families, livePairs, WellFormed}
+use Rattle.model.specs.Family.{Family, meets, familyNumber, families, livePairs, WellFormed}
 use Rattle.model.specs.FirstFit.{Placed, held, free, place, firstFit, usedBy, board, used}
 use Rattle.model.specs.SharingRule.{FamilyNumber}
 use Rattle.sharing_plans.specs.SharingPlan.{FamiliesAtMost}
 use Rattle.model.specs.Floor.{mostSearched, searched}
 use Rattle.model.proofs.FirstFit.{free-least}
 use Rattle.model.proofs.FamilyList.{families-have, families-are, families-rising}
-use Rattle.model.proofs.Twins.{live-itself, pair-lowest, pair-twin}
+use Rattle.model.proofs.Twins.{live-itself, pair-twin}
 use Rattle.model.proofs.LivePairs.{live-pairs-formed}
-use Rattle.model.proofs.FamilyNumbers.{number-unique, family-number}
+use Rattle.model.proofs.FamilyNumbers.{number-unique, family-number, live-family}
 use Rattle.sharing_plans.proofs.DifferentNumbers.{few-members}
 
 -- ---- first fit
@@ -87,9 +87,8 @@ module _ {W : ℕ} {c : Chart} (valid : Valid W c) where
           let y = nth-unmap familyNumber own (x .0) (x .1) in
           let o = families-are formed (x .0) (y .0) (y .1) in
           let q = y .0 .first in
-          let t = pair-lowest valid q (y .0 .timer) .0 (o .pair) in
-          let whole = o .whole ∙ ap (familyOf (livePairs c) q) (sym (t .lowest-is)) in
-          a .named q (t .timer) m (rw (ap familyNumber (sym whole) ∙ y .2) at (family-number valid q (t .timer) (live-itself (t .live))))
+          let t = live-family valid (y .0) o in
+          a .named q (t .timer) m (rw (ap familyNumber (sym (t .whole)) ∙ y .2) at (family-number valid q (t .timer) (live-itself (t .live))))
 
   pub searched-iff : (searched c ≡ true) ↔ FamiliesAtMost mostSearched c
   unfolding searched

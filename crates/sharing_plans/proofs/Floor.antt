@@ -1,26 +1,25 @@
 -- What the floor is: at most used, at least the count of every live set with twins counted once, with at most 20 families the fewest timers of any
 -- plan, with more the fullest such count. Nothing is hard. Assumes nothing.
-use mathlib.Core.Path.{_≡_, sym, _∙_, subst}
+use mathlib.Core.Path.{_≡_, sym, subst}
 use mathlib.Core.Logic.{_⊎_, inl, inr}
 use mathlib.Core.Bool.{true, false}
 use Prim.Native.Nat.{ℕ, _≤_, _<_}
 use native.Mathlib.Omega.{arith}
 use lib.Count.{ones}
-use lib.ListN.{length, getD, length-map}
+use lib.ListN.{getD}
 use Rattle.lists.proofs.Bools.{yes-or-no}
-use Rattle.timer_set.specs.Members.{image}
 use Rattle.model.specs.Chart.{Chart}
 use Rattle.model.specs.Valid.{Valid}
-use Rattle.model.specs.Live.{liveFlow, liveSets, fullest}
-use Rattle.model.specs.Twins.{lowestTwin, mergedSets}
+use Rattle.model.specs.Live.{fullest}
+use Rattle.model.specs.Twins.{mergedSets}
 use Rattle.model.specs.Family.{families, livePairs}
 use Rattle.model.specs.FirstFit.{used}
 use Rattle.model.specs.Rewrite.{boardNumbering}
 use Rattle.model.specs.SmallestPlan.{fewest}
 use Rattle.model.specs.Floor.{searched, floor}
 use Rattle.sharing_plans.specs.SharingPlan.{FewestTimers}
-use Rattle.model.proofs.Settled.{length-settled}
-use Rattle.model.proofs.BoardPlan.{board-used}
+use Rattle.model.proofs.BoardPlan.{numbering-used}
+use Rattle.model.proofs.Twins.{merged-each}
 use Rattle.sharing_plans.proofs.ChartPlans.{fewest-timers, first-fit-plan}
 use Rattle.sharing_plans.proofs.Fullest.{fullest-most, fullest-least, fullest-reached, plan-holds-live}
 
@@ -41,7 +40,7 @@ module _ {W : ℕ} {c : Chart} (valid : Valid W c) where
 
   pub fewest-used : fewest (families (livePairs c)) ≤ used c
   unfolding used
-  fewest-used = rw (← board-used c) (fewest-timers valid .least (boardNumbering c) (first-fit-plan valid))
+  fewest-used = rw (← numbering-used c) (fewest-timers valid .least (boardNumbering c) (first-fit-plan valid))
 
   pub floor-used : floor c ≤ used c
   floor-used = go (yes-or-no (searched c))
@@ -70,8 +69,6 @@ module _ {W : ℕ} {c : Chart} (valid : Valid W c) where
 
   -- with more it is the count of a live set, twins counted once, the fullest
   pub floor-reached : searched c ≡ false → (q : ℕ) × (q < c .locations) × (ones (getD (mergedSets c) q 0) ≡ floor c)
-  unfolding mergedSets liveSets liveFlow
   floor-reached h =
-      let each : length (mergedSets c) ≡ c .locations = length-map (liveSets c) (image (lowestTwin c)) ∙ length-settled (liveFlow c) in
-      let x = fullest-reached (mergedSets c) (omega (arith, each, valid .some-location)) in
-      (x .0, omega (arith, x .1, each), omega (arith, x .2, floor-unsearched c h))
+      let x = fullest-reached (mergedSets c) (omega (arith, merged-each c, valid .some-location)) in
+      (x .0, omega (arith, x .1, merged-each c), omega (arith, x .2, floor-unsearched c h))

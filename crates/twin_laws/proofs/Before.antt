@@ -1,5 +1,5 @@
--- A chart has the results that it had before twins counted as one timer exactly if no live timer has a lower twin. Nothing is hard: each live timer
--- then stands for itself, so the merged sets are the live sets, and what is formed of them is equal. Assumes nothing.
+-- A chart has the families, and with them the results, that it had before twins counted as one timer exactly if no live timer has a lower twin.
+-- Nothing is hard: each live timer then stands for itself, so the merged sets are the live sets, and what is formed of them is equal. Assumes nothing.
 use mathlib.Core.Path.{_≡_, refl, sym, ap, _∙_, subst}
 use mathlib.Core.Bool.{true, false, not}
 use mathlib.Core.Option.{Option, none, some}
@@ -30,7 +30,7 @@ use Rattle.model.proofs.Paths.{live-inside}
 use Rattle.model.proofs.LivePaths.{live-iff}
 use Rattle.model.proofs.Twins.{twins-refl, live-lowest, lowest-of-twins, live-word, merged-at, pair-lowest, pair-own}
 use Rattle.model.proofs.PairNumbers.{number-pair}
-use Rattle.model.proofs.BoardPlan.{live-pairs-formed, board-used, number-iff, live-number}
+use Rattle.model.proofs.BoardPlan.{live-pairs-formed, numbering-used, number-iff, live-number}
 
 -- two that have the same number, if any, are equal
 same-option : (x y : Option ℕ) → ((k : ℕ) → x ≡ some k → y ≡ some k) → ((k : ℕ) → y ≡ some k → x ≡ some k) → x ≡ y
@@ -79,7 +79,7 @@ module _ {W : ℕ} {c : Chart} (valid : Valid W c) where
 
     same-numbering : boardNumbering c ≡ numbering (boardBefore c)
     unfolding numbering
-    same-numbering = (λ i. record { number = λ q j. same-number q j i; used = board-used c i }) ∙ ap numbering same-board
+    same-numbering = (λ i. record { number = λ q j. same-number q j i; used = numbering-used c i }) ∙ ap numbering same-board
 
     same-searched : searched c ≡ searchedBefore c
     unfolding searched searchedBefore

@@ -1,5 +1,5 @@
--- The results as they were formed before twins counted as one timer (document 02, P6), every timer by itself; and the charts that still have them.
--- Assumes nothing.
+-- The results as they were formed before twins counted as one timer (document 02, P6), when each timer counted for itself; and the charts that still
+-- have them. Assumes nothing.
 use mathlib.Core.Path.{_≡_}
 use mathlib.Core.Bool.{Bool, true, false, not}
 use mathlib.Core.List.{List}
@@ -42,7 +42,7 @@ fittedBefore K c =
     unless (not (blocked K placed)) 20 nowhere (
     result (record { used = usedBy placed; chart = rewrittenBy (numbering placed) c })))
 
--- all of them are as they were
+-- the placed families, and all that is formed of them, are as they were
 pub record SameAsBefore (c : Chart) : Type 0 where
   pub same-board : board c ≡ boardBefore c
   pub same-numbering : boardNumbering c ≡ numbering (boardBefore c)
@@ -54,6 +54,7 @@ pub record SameAsBefore (c : Chart) : Type 0 where
 abbrev pub NoTwins : Chart → Type 0
 NoTwins c = (j k : ℕ) → j < c .timers → k < c .timers → Twins c j k → j ≡ k
 
--- no timer that is live somewhere has a lower twin; the twin need not be live. Exactly such charts have the results of before (proofs/Before)
+-- no timer that is live somewhere has a lower twin; the twin need not be live. Exactly such charts have the families, and so all results, of before
+-- (proofs/Before)
 abbrev pub NoLowerTwin : Chart → Type 0
 NoLowerTwin c = (q j k : ℕ) → Live c q j → Twins c j k → j ≤ k

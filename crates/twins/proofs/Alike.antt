@@ -14,6 +14,7 @@ use Rattle.lists.proofs.Lowest.{lowest-most, lowest-passes, lowest-before, lowe
 use Rattle.timer_set.specs.Members.{member, common, minus, lowestMember}
 use Rattle.timer_set.proofs.Members.{member-common, member-minus, member-full}
 use Rattle.model.specs.Twins.{inSameSets, lowestInSame}
+use Rattle.model.proofs.Twins.{same-as-itself}
 use Rattle.twins.specs.LowestTwins.{narrowed}
 
 -- both or neither
@@ -61,11 +62,7 @@ module _ (j k : ℕ) where
   unfolding inSameSets anyOf
   in-same-none = refl
 
-pub in-same-self : (ws : List ℕ) (j : ℕ) → inSameSets ws j j ≡ true
-in-same-self [] j = in-same-none j j
-in-same-self (w ∷ ws) j = in-same-cons j j w ws ∙ and-both (same-self (member w j)) (in-same-self ws j)
-
--- of the timers up to j those in w are in the same of the first i sets as j
+-- of the timers up to j those in w are in the same sets as j, of the first i
 pub record Alike (sets : List ℕ) (j i w : ℕ) : Type 0 where
   pub own : member w j ≡ true
   pub told : (k : ℕ) → k ≤ j → inSameSets sets j k ≡ (member w k && inSameSets (drop i sets) j k)
@@ -97,7 +94,7 @@ module _ (sets : List ℕ) (j : ℕ) where
 
     -- none is lower than j
     pub alike-own : lowestMember w ≡ j → (n : ℕ) → j < n → j ≡ lowestInSame sets n j
-    alike-own e n h = sym e ∙ lowest-alike (rw e (in-same-self sets j)) n h
+    alike-own e n h = sym e ∙ lowest-alike (rw e (same-as-itself sets j)) n h
 
     -- all sets are gone over
     pub alike-all : length sets ≤ i → j < 64 → (n : ℕ) → j < n → lowestMember w ≡ lowestInSame sets n j

@@ -12,24 +12,19 @@ use lib.Seq.{ext-getD}
 use Rattle.lists.specs.Lists.{pick}
 use Rattle.lists.proofs.Bools.{yes-or-no, same-bool}
 use Rattle.lists.proofs.Gather.{pick-in, pick-out}
-use Rattle.lists.proofs.Lowest.{lowest-most}
+use Rattle.lists.proofs.Nth.{getD-map-all}
 use Rattle.timer_set.specs.Members.{member, image}
 use Rattle.timer_set.proofs.Members.{member-setOf}
-use Rattle.timer_set.proofs.Images.{image-same}
+use Rattle.timer_set.proofs.Images.{image-same, image-empty}
 use Rattle.model.specs.Rewrite.{Numbering, through}
-use Rattle.model.specs.Twins.{inSameSets, lowestInSame}
+use Rattle.model.specs.Twins.{lowestInSame}
 use Rattle.model.proofs.Through.{through-in, through-out}
 use Rattle.allocation.specs.Cells.{cell, cellsOf}
 use Rattle.allocation.proofs.CellList.{cells-length, cells-at, cells-is}
 use Rattle.twins.specs.LowestTwins.{ownLowest, lowestAt, LowestOf}
-use Rattle.twins.proofs.Alike.{in-same-self}
-use Rattle.twins.proofs.Merging.{mapped-at}
+use Rattle.model.proofs.Twins.{lowest-low}
 
 module _ (ws : List ℕ) (n j : ℕ) where
-  lowest-no-higher : lowestInSame ws n j ≤ j
-  unfolding lowestInSame
-  lowest-no-higher = lowest-most (inSameSets ws j) n j (in-same-self ws j)
-
   member-own : j < n → member (ownLowest ws n) j ≡ eqb (lowestInSame ws n j) j
   unfolding ownLowest
   member-own h = member-setOf (pick (λ i. eqb (lowestInSame ws n i) i) n) j
@@ -41,7 +36,7 @@ pub lowest-of : (ws sets lowest : List ℕ) (n own : ℕ) → n ≤ length lowes
 lowest-of ws sets lowest n own long is e below = record {
   each = λ q h. record {
     listed = λ j m. omega (arith, below q j h m);
-    low = λ j m. rw (is j (below q j h m)) (lowest-no-higher ws n j);
+    low = λ j m. rw (is j (below q j h m)) (lowest-low ws n j);
   };
   own-are = λ q h j m. rw (e, is j (below q j h m)) (member-own ws n j (below q j h m));
 }
@@ -51,7 +46,9 @@ module _ (f g : ℕ → ℕ) (sets : List ℕ) (same : (q j : ℕ) → q < lengt
   pub merged-same : ((q : ℕ) → q < length sets → getD sets q 0 < 2 ^ 64) → map (image f) sets ≡ map (image g) sets
   merged-same word = ext-getD 0 (map (image f) sets) (map (image g) sets) (length-map sets (image f) ∙ sym (length-map sets (image g))) (λ q b.
       let h : q < length sets = omega (arith, length-map sets (image f)) in
-      mapped-at (image f) sets q h ∙ image-same f (getD sets q 0) (word q h) g (λ j. same q j h) ∙ sym (mapped-at (image g) sets q h))
+      getD-map-all (image f) (image-empty f) sets q
+      ∙ image-same f (getD sets q 0) (word q h) g (λ j. same q j h)
+      ∙ sym (getD-map-all (image g) (image-empty g) sets q))
 
   pub shared-same : (N : Numbering) → cellsOf (through sets f N) (length sets) ≡ cellsOf (through sets g N) (length sets)
   shared-same N = cells-is (through sets g N) (length sets) (cellsOf (through sets f N) (length sets)) (cells-length (through sets f N) (length sets))

@@ -16,11 +16,11 @@ use Rattle.model.specs.Family.{Pairs, isPair, families, livePairs}
 use Rattle.model.specs.FirstFit.{firstFit, usedBy, numberAt, board, used}
 use Rattle.model.specs.Rewrite.{numbering, through, boardNumbering}
 use Rattle.model.proofs.PairNumbers.{number-pair}
-use Rattle.model.proofs.Twins.{live-word}
+use Rattle.model.proofs.Twins.{live-word, live-member}
 use Rattle.model.proofs.LivePairs.{live-pairs-formed}
 use Rattle.chart_lists.specs.Lists.{listsOf}
 use Rattle.families.specs.Pairs.{pairsOf, SafeTransitions}
-use Rattle.families.proofs.ChartPairs.{live-each, live-member, chart-pairs, chart-safe}
+use Rattle.families.proofs.ChartPairs.{live-each, chart-pairs, chart-safe}
 use Rattle.allocation.specs.Cells.{cellsOf}
 use Rattle.allocation.specs.FamiliesAt.{FamiliesAt}
 use Rattle.allocation.specs.declared.Allocated.{Allocated}

@@ -11,7 +11,6 @@ use lib.ListN.{length, getD, set, take}
 use lib.Seq.{take-all, take-suc, take-suc-set}
 use Rattle.lists.proofs.Bools.{yes-or-no, not-both, or-cases, or-left, or-right, and-left, and-right, and-both, same-bool, same-number, eqb-self}
 use Rattle.lists.proofs.Bools.{lt-or-le}
-use Rattle.lists.proofs.Nth.{nth-below, getD-nth, getD-map}
 use Rattle.timer_set.specs.Members.{member, common, minus, added, removed, image}
 use Rattle.timer_set.proofs.Members.{member-empty, member-common, member-minus, member-added, member-removed, member-high, member-ext}
 use Rattle.timer_set.proofs.Members.{common-lt, added-lt}
@@ -85,10 +84,7 @@ pub listed-fewer : {w : ℕ} {lowest : List ℕ} → LowestListed w lowest → (
     → LowestListed v lowest
 listed-fewer s v in-w = record { listed = λ j m. s .listed j (in-w j m); low = λ j m. s .low j (in-w j m) }
 
--- ---- a mapped list, and a loop that fills one
-
-pub mapped-at : (f : ℕ → ℕ) (l : List ℕ) (i : ℕ) → i < length l → getD (map f l) i 0 ≡ f (getD l i 0)
-mapped-at f l i h = let x = nth-below l i h in getD-map f l i (x .1) ∙ ap f (sym (getD-nth l i 0 (x .1)))
+-- ---- a loop that fills a mapped list
 
 module _ (f : ℕ → ℕ) (from to : List ℕ) (i : ℕ) (long : length to ≡ length from) (done : take i to ≡ map f (take i from)) where
   pub mapped-more : i < length from → take (suc i) (set to i (f (getD from i 0))) ≡ map f (take (suc i) from)

@@ -8,10 +8,7 @@ use lib.Dec.{eqb}
 use Rattle.lists.specs.Lists.{gather, pick}
 use Rattle.timer_set.specs.Members.{added, setOf}
 use Rattle.model.specs.Twins.{lowestInSame}
-
--- those of n timers that are below i and the lowest in the same of the sets as themselves
-abbrev pub ownBelow : List ℕ → (n i : ℕ) → ℕ
-ownBelow ws n i = setOf (pick (λ j. eqb (lowestInSame ws n j) j) i)
+use Rattle.twins.specs.LowestTwins.{ownBelow}
 
 module _ (ws : List ℕ) (n : ℕ) where
   pub own-none : ownBelow ws n 0 ≡ 0

@@ -11,6 +11,8 @@ use lib.ListN.{length, getD, set, length-map}
 use lib.Seq.{getD-set-same, getD-set-other}
 use borrow.Author.Tests.{eqb-true}
 use Rattle.lists.proofs.Bools.{yes-or-no, not-both, is-no, is-yes, and-both}
+use Rattle.lists.proofs.Nth.{getD-map-all}
+use Rattle.timer_set.proofs.Images.{image-empty}
 use Rattle.timer_set.specs.Members.{member, minus, image}
 use Rattle.timer_set.proofs.Members.{member-empty, member-minus}
 use Rattle.timer_set.proofs.Images.{image-out}
@@ -20,7 +22,6 @@ use Rattle.allocation.specs.Cells.{noNumber, cell, cellsOf}
 use Rattle.allocation.proofs.CellList.{cells-at, cells-is}
 use Rattle.twins.specs.LowestTwins.{lowestAt, LowestListed, LowestOf}
 use Rattle.twins.specs.Shared.{sharedCell, RowShared, OnlyIn}
-use Rattle.twins.proofs.Merging.{mapped-at}
 
 -- ---- one row
 
@@ -88,7 +89,7 @@ module _ {live lowest : List ℕ} {own : ℕ} (s : LowestOf live lowest own) (N 
         go (inl m) = sym (through-in live (lowestAt lowest) N q j m ∙ ap (N .number q) (own-low j m))
         go (inr m) =
             only .no-other q j (omega (arith, length-map live (image (lowestAt lowest))))
-            (ap (λ (w : ℕ). member w j) (mapped-at (image (lowestAt lowest)) live q h) ∙ out m)
+            (ap (λ (w : ℕ). member w j) (getD-map-all (image (lowestAt lowest)) (image-empty (lowestAt lowest)) live q) ∙ out m)
             ∙ sym (through-out live (lowestAt lowest) N q j m)
 
 -- the rows below q are shared, of whichever numbering the cells were, and the others are as they were

@@ -17,9 +17,13 @@ narrowed w s j = elim (member s j) [ true ↦ common w s | false ↦ minus w s ]
 abbrev pub lowestAt : (lowest : List ℕ) → (j : ℕ) → ℕ
 lowestAt lowest j = getD lowest j 0
 
--- the set of those of n timers that are the lowest in the same of the sets as themselves
+-- of n timers the set of those below i that are the lowest in the same sets as themselves
+abbrev pub ownBelow : List ℕ → (n i : ℕ) → ℕ
+ownBelow ws n i = setOf (pick (λ j. eqb (lowestInSame ws n j) j) i)
+
+-- all of them
 unfoldable pub ownLowest : List ℕ → (n : ℕ) → ℕ
-ownLowest ws n = setOf (pick (λ j. eqb (lowestInSame ws n j) j) n)
+ownLowest ws n = ownBelow ws n n
 
 -- every timer of the set is listed with its lowest twin, which is no higher
 pub record LowestListed (w : ℕ) (lowest : List ℕ) : Type 0 where

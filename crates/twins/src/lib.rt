@@ -29,8 +29,8 @@ fn narrow(alike: TimerSet, set: TimerSet, j: u8) -> TimerSet
     }
 }
 
-// The lowest timer that is in the same of the sets as timer j. Where no lower timer is, only the sets up to the one that tells j from the last of
-// them are gone over: mostly a few.
+// The lowest timer that is in the same sets as timer j. Where that is j itself, the sets are gone over only until each lower timer is told from j:
+// mostly a few.
 fn lowest_in_same(sets: &[u64], j: u8) -> u8
     requires { ⌜ j < 64 ⌝ }
     ensures { λ r. ⌜ ((n : ℕ) → j < n → r ≡ lowestInSame (now (sets .entry)) n j) ⌝ }

@@ -8,7 +8,8 @@ use lib.ListN.{length, set, length-set}
 use Rattle.lists.proofs.Nth.{filled-more}
 use Rattle.model.specs.Twins.{lowestInSame}
 use Rattle.twins.specs.LowestTwins.{lowestAt, ownLowest}
-use Rattle.twins.proofs.Own.{ownBelow, own-none, own-yes, own-no}
+use Rattle.twins.specs.LowestTwins.{ownBelow}
+use Rattle.twins.proofs.Own.{own-none, own-yes, own-no}
 use Rattle.twins.proofs.lowest_twins.Statement.{statement}
 use Rattle.twins.proofs.lowest_twins.Tie as tie
 
