@@ -142,12 +142,12 @@ FIRST_DIFFERS = chart(3, 2, [(0, 0, [0], []), (0, 1, [0, 1], []), (1, 2, [], [(0
 FIRST_DIFFERS_BOARD = chart(3, 2, [(0, 0, [], []), (0, 1, [0, 1], []), (1, 2, [], [(0, AT_LEAST, 1), (1, AT_MOST, 9)])])
 LAST_DIFFERS = chart(3, 2, [(0, 1, [0, 1], []), (1, 2, [], [(0, AT_LEAST, 1), (1, AT_MOST, 9)]), (2, 2, [1], [])])
 # Timers 0 and 1 are twins. Live are at location 1 both, at 2 timers 0 and 3, at 3 timers 1 and 2, at 4 timers 2 and 3. The twins' family 64, at
-# locations 1, 2 and 3, meets 131 and 194, which meet at 4: three numbers. Counted apart, as 64 at 1 and 2 and 65 at 1 and 3, they would leave it at
-# two.
-DEAR_TWINS = chart(6, 4, [(0, 1, [0, 1], []), (1, 2, [3], []), (1, 3, [2], []), (2, 5, [], [(0, AT_MOST, 4)]), (2, 4, [2], []),
-                          (3, 5, [], [(1, AT_MOST, 4)]), (3, 4, [3], []), (4, 5, [], [(2, AT_MOST, 9), (3, AT_LEAST, 1)])])
-DEAR_TWINS_BOARD = chart(6, 3, [(0, 1, [0], []), (1, 2, [1], []), (1, 3, [2], []), (2, 5, [], [(0, AT_MOST, 4)]), (2, 4, [2], []),
-                                (3, 5, [], [(0, AT_MOST, 4)]), (3, 4, [1], []), (4, 5, [], [(2, AT_MOST, 9), (1, AT_LEAST, 1)])])
+# locations 1, 2 and 3, meets 131 and 194, which meet at 4: three numbers. Each counting for itself, as 64 at 1 and 2 and 65 at 1 and 3,
+# they would leave it at two.
+TWINS_NEED_THREE = chart(6, 4, [(0, 1, [0, 1], []), (1, 2, [3], []), (1, 3, [2], []), (2, 5, [], [(0, AT_MOST, 4)]), (2, 4, [2], []),
+                                (3, 5, [], [(1, AT_MOST, 4)]), (3, 4, [3], []), (4, 5, [], [(2, AT_MOST, 9), (3, AT_LEAST, 1)])])
+TWINS_NEED_THREE_BOARD = chart(6, 3, [(0, 1, [0], []), (1, 2, [1], []), (1, 3, [2], []), (2, 5, [], [(0, AT_MOST, 4)]), (2, 4, [2], []),
+                                      (3, 5, [], [(0, AT_MOST, 4)]), (3, 4, [1], []), (4, 5, [], [(2, AT_MOST, 9), (1, AT_LEAST, 1)])])
 # OVER_64 without the transitions at location 5: timers 2 to 63 are twins. Families 64 at location 1, 65 and 66 at 1 and 3, 129 at 2 and 4, 192 at 3
 # and 4 get 0, 1, 2, 0, 3. With 1 for 129 and 0 for 192 three timers would do.
 MANY_TWINS = chart(6, 64, ARROWS_OF_MANY)
@@ -214,7 +214,7 @@ analyse('three twins and two', THREE_TWINS, 5, ['used 2 floor 2 searched 1 round
 analyse('the first transition starts one of two', FIRST_DIFFERS, 3, ['used 2 floor 2 searched 1 rounds 2 beyond 0', 'live 0 3 0'])
 analyse('the last transition starts one of two', LAST_DIFFERS, 3, ['used 2 floor 2 searched 1 rounds 2 beyond 0', 'live 0 3 0'])
 analyse('64 timers and no transition', chart(1, 64, []), 1, ['used 0 floor 0 searched 1 rounds 1 beyond 0', 'live 0'])
-analyse('twins that need three numbers, though counted apart they would need two', DEAR_TWINS, 6,
+analyse('twins that need three numbers, though each for itself they would need two', TWINS_NEED_THREE, 6,
         ['used 3 floor 3 searched 1 rounds 3 beyond 0', 'live 0 3 9 6 12 0'])
 analyse('62 twins', MANY_TWINS, 6, ['used 4 floor 3 searched 1 rounds 3 beyond 0', 'live 0 %d 2 %d 3 0' % (ALL, ALL)])
 # By drawn timer there is a family more, and three timers are live at 3 and at 4
@@ -297,7 +297,7 @@ for name, file, used, board in [
         ('a lowest twin that nothing tests', UNTESTED_TWIN, 2, UNTESTED_TWIN_BOARD),
         ('twins live at different locations', TWINS_APART, 1, TWINS_APART_BOARD), ('three twins and two', THREE_TWINS, 2, THREE_TWINS_BOARD),
         ('the first transition starts one of two', FIRST_DIFFERS, 2, FIRST_DIFFERS_BOARD),
-        ('twins that need three numbers', DEAR_TWINS, 3, DEAR_TWINS_BOARD), ('62 twins', MANY_TWINS, 4, MANY_TWINS_BOARD)]:
+        ('twins that need three numbers', TWINS_NEED_THREE, 3, TWINS_NEED_THREE_BOARD), ('62 twins', MANY_TWINS, 4, MANY_TWINS_BOARD)]:
     rewrite('%s, with K = %d' % (name, used), file, used, 65536, rewritten(used, board, 65536))
     rewrite('%s, with K = %d' % (name, used - 1), file, used - 1, 65536, 'refused 20 65535 changed 0')
 rewrite('the last transition starts one of two, with K = 1', LAST_DIFFERS, 1, 65536, 'refused 20 65535 changed 0')

@@ -197,7 +197,7 @@ impl Planned {
     /// The board number of a drawn timer that is live at the location.
     fn number(&self, location: u16, timer: u8) -> usize {
         let pair = (location, self.stands[usize::from(timer)]);
-        self.families.iter().find(|family| family.0.contains(&pair)).expect("the timer is live there").1
+        self.families.iter().find(|family| family.0.contains(&pair)).expect("a twin is live there").1
     }
 
     /// The board numbers of all drawn timers that are live somewhere.
@@ -493,7 +493,7 @@ fn twins_follow_the_definition() {
 #[test]
 fn twins_have_one_number_where_they_are_live() {
     let mut random = Random::new(14);
-    let (mut shared, mut unled, mut parted) = (0, 0, 0);
+    let (mut shared, mut lowest_not_live, mut parted) = (0, 0, 0);
     for drawing in charts_with_twins(&mut random, 800) {
         let planned = Planned::of(&drawing);
         let numbers = given_numbers(&drawing, &Twins::of(&Chart::read(&drawing.file()).unwrap()));
@@ -506,7 +506,7 @@ fn twins_have_one_number_where_they_are_live() {
                 let of_twins = |&timer: &u8| are_twins(&drawing, lowest, timer) && is_live(location, timer);
                 let any = (0..drawing.timers).any(|timer| of_twins(&timer));
                 assert_eq!(planned.pairs.contains(&(location, lowest)), any);
-                unled += u64::from(any && !somewhere(lowest));
+                lowest_not_live += u64::from(any && !somewhere(lowest));
                 parted += u64::from(any && !is_live(location, lowest) && somewhere(lowest));
             }
         }
@@ -518,7 +518,7 @@ fn twins_have_one_number_where_they_are_live() {
             }
         }
     }
-    assert!(shared > 500 && unled > 100 && parted > 50, "{shared} {unled} {parted}");
+    assert!(shared > 500 && lowest_not_live > 100 && parted > 50, "{shared} {lowest_not_live} {parted}");
 }
 
 #[test]
@@ -589,17 +589,20 @@ fn rounds_follow_the_definitions() {
     assert!([1, 2, 256].iter().all(|rounds| numbers.contains(rounds)) && numbers.len() > 50, "{numbers:?}");
 }
 
-/// Whether at every point of a run the board timer of each live drawn timer shows its count: after each step that is
-/// taken, since both grow alike until the next one. Answers how many counts of twins that are not the lowest were compared.
-fn shows_all(planned: &Planned, drawn: (&Drawing, &[u32]), board: (&Drawing, &[u32]), steps: &Steps) -> u64 {
-    let mut compared = 0;
+/// Asserts that at every point of a run the board timer of a drawn timer's twins shows its count, though it be not live
+/// there itself: after each step that is taken, since both grow alike until the next one. Answers how many counts of twins
+/// that are not the lowest were compared, and how many of timers that are not live.
+fn shows_all(planned: &Planned, drawn: (&Drawing, &[u32]), board: (&Drawing, &[u32]), steps: &Steps) -> [u64; 2] {
+    let mut compared = [0; 2];
     for count in 0..=steps.times.len().min(steps.transitions.len()) {
         let part = Steps { transitions: steps.transitions[..count].to_vec(), times: steps.times[..count].to_vec() };
         let ends = [drawn, board].map(|(drawing, start)| end_of(drawing, start, &part));
         let [Ok((location, _, counts)), Ok((_, _, on_board))] = &ends else { break };
-        for &(_, timer) in planned.drawn.iter().filter(|pair| pair.0 == *location) {
+        let has_number = |timer: &u8| planned.pairs.contains(&(*location, planned.stands[usize::from(*timer)]));
+        for timer in (0..drawn.0.timers).filter(has_number) {
             assert_eq!(counts[usize::from(timer)], on_board[planned.number(*location, timer)]);
-            compared += u64::from(planned.stands[usize::from(timer)] != timer);
+            compared[0] += u64::from(planned.stands[usize::from(timer)] != timer);
+            compared[1] += u64::from(!planned.drawn.contains(&(*location, timer)));
         }
     }
     compared
@@ -609,7 +612,7 @@ fn shows_all(planned: &Planned, drawn: (&Drawing, &[u32]), board: (&Drawing, &[u
 fn the_player_follows_the_definitions_and_boards_play_alike() {
     let mut random = Random::new(3);
     let drawings: Vec<Drawing> = drawings(&mut random, 2_000, 10).filter(|drawing| judged(drawing).is_ok()).collect();
-    let (mut taken, mut shown, mut large) = (0, 0, [0; 2]);
+    let (mut taken, mut shown, mut large) = (0, [0; 2], [0; 2]);
     for drawing in &drawings {
         let planned = Planned::of(drawing);
         for _ in 0..4 {
@@ -636,11 +639,12 @@ fn the_player_follows_the_definitions_and_boards_play_alike() {
                 let board = planned.rewritten(drawing);
                 let for_board = counts(&mut random, planned.used(), true);
                 assert_eq!(play(&board.file(), &for_board, &steps.transitions, &steps.times), answer);
-                shown += shows_all(&planned, (drawing, &start), (&board, &for_board), &steps);
+                let compared = shows_all(&planned, (drawing, &start), (&board, &for_board), &steps);
+                shown = [0, 1].map(|kind| shown[kind] + compared[kind]);
             }
         }
     }
-    assert!(taken > 500 && shown > 1_000, "{taken} {shown}");
+    assert!(taken > 500 && shown.iter().all(|&count| count > 1_000), "{taken} {shown:?}");
     assert!(large.iter().all(|&count| count > 20), "{large:?}");
 }
 

@@ -12,12 +12,13 @@ use Rattle.model.specs.Twins.{mergedSets}
 use Rattle.model.specs.FirstFit.{used}
 use Rattle.model.specs.Floor.{floor, searched}
 use Rattle.model.proofs.Answers.{result-refused, not-result, result-same, refused-same}
+use Rattle.model.proofs.Twins.{merged-each}
 use Rattle.chart_lists.specs.Header.{headerOf}
 use Rattle.chart_lists.specs.declared.Header.{Header}
 use Rattle.chart_lists.specs.Begins.{Begins}
 use Rattle.chart_lists.proofs.Begins.{begins-take, begins-part, begins-room}
 use Rattle.chart_lists.proofs.Fronts.{locations-are}
-use Rattle.families.proofs.ChartPairs.{live-each, merged-each}
+use Rattle.families.proofs.ChartPairs.{live-each}
 use Rattle.judgement.specs.Judging.{judgedIn}
 use Rattle.numbering.specs.FileNumbers.{FileNumbers, fileNumbers, numberedIn, ListsNumbered}
 

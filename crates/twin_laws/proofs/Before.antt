@@ -1,5 +1,6 @@
 -- A chart has the families, and with them the results, that it had before twins counted as one timer exactly if no live timer has a lower twin.
--- Nothing is hard: each live timer then stands for itself, so the merged sets are the live sets, and what is formed of them is equal. Assumes nothing.
+-- Nothing is hard: each live timer then stands for itself, so the merged sets are the live sets, and what is formed of them is equal.
+-- Assumes nothing.
 use mathlib.Core.Path.{_≡_, refl, sym, ap, _∙_, subst}
 use mathlib.Core.Bool.{true, false, not}
 use mathlib.Core.Option.{Option, none, some}
