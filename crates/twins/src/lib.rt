@@ -29,8 +29,7 @@ fn narrow(alike: TimerSet, set: TimerSet, j: u8) -> TimerSet
     }
 }
 
-// The lowest timer that is in the same sets as timer j. Where that is j itself, the sets are gone over only until each lower timer is told from j:
-// mostly a few.
+// The lowest timer that is in the same sets as timer j. Where that is j itself, the sets are gone over only until each lower timer is told from j.
 fn lowest_in_same(sets: &[u64], j: u8) -> u8
     requires { ⌜ j < 64 ⌝ }
     ensures { λ r. ⌜ ((n : ℕ) → j < n → r ≡ lowestInSame (now (sets .entry)) n j) ⌝ }
@@ -68,7 +67,7 @@ pub fn lowest_twins(starts: &[u64], timers: u8, lowest: &mut [u8]) -> TimerSet
     own
 }
 
-// The lowest twins of the timers of a set. Timers that are their own are taken over at once: in most sets these are all.
+// The lowest twins of the timers of a set. Timers that are their own are taken over at once.
 fn merged_set(set: TimerSet, lowest: &[u8], own: TimerSet) -> TimerSet
     requires { ⌜ LowestListed (set .bits) (now lowest)
         × ((j : ℕ) → member (set .bits) j ≡ true → member (own .bits) j ≡ eqb (lowestAt (now lowest) j) j) ⌝ }
