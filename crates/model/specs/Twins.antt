@@ -32,7 +32,7 @@ pub record TwinLive (c : Chart) (q j : ℕ) : Type 0 where
 unfoldable pub inSameSets : List ℕ → (j k : ℕ) → Bool
 inSameSets ws j k = not (anyOf (λ w. xor (member w j) (member w k)) ws)
 
--- the lowest of n timers that is in the same sets as j
+-- the lowest of n timers that is in the same sets as j, or n if none is
 unfoldable pub lowestInSame : List ℕ → (n j : ℕ) → ℕ
 lowestInSame ws n j = lowest (inSameSets ws j) n
 
