@@ -9,7 +9,10 @@
  * transition or step from 0, or CHART_NOWHERE where there is no other. With a refusal the result's fields are 0 and lent memory holds what it held
  * before.
  *
- * A chart file is of version 1 or 2, by its first byte: a test's constant has two bytes in version 1, four in version 2. Every call takes both.
+ * A chart file is of version 1, 2 or 3, by its first byte: a test's constant has two bytes in version 1, four in versions 2 and 3. Every call takes
+ * all of them. A chart of version 3 may have spare locations, which no path from the initial one reaches; one of version 1 or 2 is refused then.
+ * Spare locations have no live timers, and transitions that leave them count for nothing: not for what is live or unstarted, nor for twins, families
+ * and rounds. No run comes to them.
  */
 #ifndef CHART_H
 #define CHART_H
@@ -23,7 +26,7 @@
 #define CHART_MOST_TRANSITIONS 512
 #define CHART_MOST_TESTS 8 /* of one transition */
 
-/* The bytes of the largest chart file: one of version 2. */
+/* The bytes of the largest chart file: one of version 2 or 3. */
 #define CHART_LARGEST_FILE 62478
 
 /* The most families for which the floor is found by search; twins form families together. */
@@ -52,15 +55,15 @@ typedef enum chart_refusal {
 
     /* turned down because of the input */
     CHART_REFUSED_WRONG_LENGTH = 1,        /* fewer than 5 bytes, or a wrong length in the file's head */
-    CHART_REFUSED_WRONG_VERSION = 2,       /* a version other than 1 and 2 */
+    CHART_REFUSED_WRONG_VERSION = 2,       /* a version other than 1, 2 and 3 */
     CHART_REFUSED_CUT_OFF = 3,             /* a field cut off, bytes left over, or a wrong record length */
     CHART_REFUSED_TOO_MANY = 4,            /* no location, or more of something than its limit above */
     CHART_REFUSED_NO_SUCH_LOCATION = 5,    /* a location number not below the number of locations */
     CHART_REFUSED_NO_SUCH_TIMER = 6,       /* a timer number not below the number of timers */
     CHART_REFUSED_NOT_RISING = 7,          /* accepting locations or starts not strictly rising */
     CHART_REFUSED_NO_SUCH_COMPARISON = 8,  /* a comparison code over 4 */
-    CHART_REFUSED_UNREACHED = 9,           /* a location that no path from the initial one reaches */
-    CHART_REFUSED_UNSTARTED = 10,          /* a test of a timer that some path to it has not started */
+    CHART_REFUSED_UNREACHED = 9,           /* a location that no path from the initial one reaches, in versions 1 and 2 alone */
+    CHART_REFUSED_UNSTARTED = 10,          /* a test of a timer that some path from the initial location to it has not started */
     CHART_REFUSED_LIMIT_TOO_LARGE = 11,    /* K over CHART_MOST_TIMERS */
     CHART_REFUSED_WRONG_COUNTS = 12,       /* starting counts not one for each timer, or one over CHART_MOST_TICKS */
     CHART_REFUSED_UNEQUAL_LISTS = 13,      /* the lists of transitions and of times or readings differ in length */
@@ -86,11 +89,11 @@ typedef enum chart_refusal {
  * floor: if searched is 1, the smallest number of timers in any plan that gives meeting families different numbers; else the timers live at once
  * where most are, twins counted once: no plan has fewer, and even the smallest may have more. In that case the program prints `seen` in place of
  * `floor`. What families and plans are: docs/SPECIFICATION.md, sections 4 and 5.
- * Two timers are twins when every transition starts both or neither. In these three figures twins count as one timer, the lowest of them, live
- * wherever any of them is; the live sets and the rounds are those of the drawn timers.
+ * Two timers are twins when every transition that leaves a reached location starts both or neither. In these three figures twins count as one timer,
+ * the lowest of them, live wherever any of them is; the live sets and the rounds are those of the drawn timers.
  * rounds: how many rounds the live sets take (docs/SPECIFICATION.md, section 3). A round makes the set of every location from the sets of the round
- * before, the first round from empty sets; the first round that changes no set is the last, and counts. At least 1 and at most the number of the
- * chart's locations, so up to CHART_MOST_LOCATIONS; 0 with a refusal.
+ * before, the first round from empty sets; those of spare locations stay empty. The first round that changes no set is the last, and counts. At least
+ * 1 and at most the number of the chart's locations, so up to CHART_MOST_LOCATIONS; 0 with a refusal.
  * Header and library belong together: an answer is written in its whole length. */
 typedef struct chart_analysis {
     uint64_t number;
@@ -143,8 +146,9 @@ typedef struct chart_head {
  * overlap files or counts. Before set-up it may hold anything, but must be initialised: set-up reads it, to leave it as it was where it refuses. The
  * library keeps nothing between calls, so one program may have many controllers, and each call is handed the files, the heads and K again. What is
  * promised from set-up on (docs/SPECIFICATION.md) holds while nothing but these calls changes the state, and files, heads and K stay as they were; if
- * they do not, each call still judges what it is handed and answers for that. No call after set-up judges heads beyond the number, spare timers of a
- * block or timers beyond the blocks, and each leaves them as they are. */
+ * they do not, each call still judges what it is handed and answers for that; a head may then stand at a spare location, whose transitions are taken
+ * as any others. No call after set-up judges heads beyond the number, unused timers of a block or timers beyond the blocks, and each leaves them as
+ * they are. */
 typedef struct chart_controller {
     uint64_t turn;
     chart_head heads[CHART_MOST_HEADS];
@@ -244,12 +248,13 @@ CHART_ASSERT(sizeof(chart_turned) == 48, "chart_turned");
 #undef CHART_ASSERT
 
 /* Analyses a chart file. Writes the live set of each location into live, location 0 first, timer j at bit j, each of twins at its own.
- * live needs one entry for each location, CHART_MOST_LOCATIONS are always enough; entries beyond the locations are untouched.
+ * live needs one entry for each location, spare ones too, whose sets are empty; CHART_MOST_LOCATIONS are always enough; entries beyond the locations
+ * are untouched.
  * Refusals: 1 to 10, 21. */
 chart_analysis chart_analyse(const uint8_t *file, size_t file_length, uint64_t *live, size_t live_length);
 
 /* Rewrites a chart file for a board of k timers. Writes the new file, which has the version of the file read, into out. Where twins are live they
- * share a board timer, which a transition starts once.
+ * share a board timer, which a transition starts once. A transition that leaves a spare location stays, without tests and starts.
  * out needs the new file's length, CHART_LARGEST_FILE bytes are always enough; bytes beyond it are untouched.
  * Refusals: 1 to 11, 20, 21. */
 chart_rewriting chart_rewrite(const uint8_t *file, size_t file_length, uint32_t k, uint8_t *out, size_t out_length);

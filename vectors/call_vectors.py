@@ -10,7 +10,7 @@ Lent memory is filled with bytes 170 (hex aa) before each call.
 """
 
 AT_MOST, BELOW, AT_LEAST, ABOVE, EQUAL = range(5)
-WIDTH_OF_CONSTANTS = {1: 2, 2: 4}
+WIDTH_OF_CONSTANTS = {1: 2, 2: 4, 3: 4}
 ANALYSE, REWRITE, PLAY = [], [], []
 
 
@@ -36,10 +36,13 @@ B_2 = bytes.fromhex('02 00000034 0004 0000 02 0001 0003 0003 0008 0000 0001 00 0
                     '000e 0001 0002 00 01 01 01 00 00 00000002 000d 0002 0003 00 00 01 01 02 00000001')
 B_2_BOARD = bytes.fromhex('02 00000034 0004 0000 01 0001 0003 0003 0008 0000 0001 00 01 00 00'
                           '000e 0001 0002 00 01 00 01 00 00 00000002 000d 0002 0003 00 00 01 00 02 00000001')
+B_3, B_3_BOARD = b'\x03' + B_2[1:], b'\x03' + B_2_BOARD[1:]
 # B as version 1 but for the version byte
 B_RELABELLED = b'\x02' + B[1:]
-C = chart(6, 2, [(0, 1, [1], []), (1, 2, [0], []), (2, 3, [], [(0, AT_LEAST, 1)]), (3, 4, [0], [(1, AT_MOST, 9)]), (4, 5, [], [(0, AT_LEAST, 2)])])
-C_BOARD = chart(6, 2, [(0, 1, [0], []), (1, 2, [1], []), (2, 3, [], [(1, AT_LEAST, 1)]), (3, 4, [0], [(0, AT_MOST, 9)]), (4, 5, [], [(0, AT_LEAST, 2)])])
+ARROWS_OF_C = [(0, 1, [1], []), (1, 2, [0], []), (2, 3, [], [(0, AT_LEAST, 1)]), (3, 4, [0], [(1, AT_MOST, 9)]), (4, 5, [], [(0, AT_LEAST, 2)])]
+ARROWS_OF_C_BOARD = [(0, 1, [0], []), (1, 2, [1], []), (2, 3, [], [(1, AT_LEAST, 1)]), (3, 4, [0], [(0, AT_MOST, 9)]),
+                     (4, 5, [], [(0, AT_LEAST, 2)])]
+C, C_BOARD = chart(6, 2, ARROWS_OF_C), chart(6, 2, ARROWS_OF_C_BOARD)
 SELF_LOOP = chart(1, 1, [(0, 0, [0], [])])
 SELF_LOOP_BOARD = chart(1, 0, [(0, 0, [], [])])
 NEVER_STARTED = chart(2, 1, [(0, 0, [0], []), (0, 1, [], [(0, AT_LEAST, 0)])])
@@ -156,6 +159,122 @@ MANY_TWINS_BOARD = chart(6, 4, [(0, 1, [0, 1, 2], []), (1, 2, [0], []), (1, 3, [
                          + [(3, 5, [], [(2, AT_MOST, 1)] * 7), (4, 5, [], [(3, AT_MOST, 1), (0, AT_MOST, 1)])])
 
 
+# ---- spare locations (document 02, P7): what follows leaves out every transition from a location that no path from the initial one reaches
+def spare(locations, timers, arrows, version=3, **more):
+    return chart(locations, timers, arrows, version=version, **more)
+
+
+# Nothing reaches location 4. Timers 0 and 1 are twins, although 4→1 starts timer 0 alone: family 64 at locations 1 and 2.
+ARROWS_OF_S = [(0, 1, [0, 1], []), (1, 2, [], [(0, AT_LEAST, 2)]), (2, 3, [], [(1, AT_MOST, 9)]), (4, 1, [0], [(1, AT_MOST, 5)])]
+S, S_2, S_1 = (spare(5, 2, ARROWS_OF_S, accepting=[3], version=version) for version in (3, 2, 1))
+S_BOARD = bytes.fromhex('03 0000003c 0005 0000 01 0001 0003 0004 0008 0000 0001 00 01 00 00 000d 0001 0002 00 00 01 00 02 00000002'
+                        '000d 0002 0003 00 00 01 00 00 00000009 0007 0004 0001 00 00 00')
+# The same with a constant over 65,535 on 4→1
+S_LARGE = spare(5, 2, ARROWS_OF_S[:3] + [(4, 1, [0], [(1, AT_MOST, 65536)])], accepting=[3])
+# Nothing starts timer 0; only 2→1, which nothing reaches, tests it. Location 2 accepts.
+SPARE_TEST = spare(3, 1, [(0, 1, [], []), (2, 1, [], [(0, AT_LEAST, 0)])])
+SPARE_TEST_BOARD = bytes.fromhex('03 0000001d 0003 0000 00 0001 0002 0002 0007 0000 0001 00 00 00 0007 0002 0001 00 00 00')
+# Locations 4 and 5 lead to each other; 5 accepts
+SPARE_CYCLE = spare(6, 1, [(0, 1, [0], []), (1, 2, [], [(0, AT_MOST, 5)]), (4, 5, [], []), (5, 4, [], [(0, AT_MOST, 5)]), (2, 3, [], [])])
+# In version 3 unstarted at transition 3; transition 0, of location 4, is passed over. In version 2 location 4 is refused.
+UNSTARTED = [(4, 1, [], [(1, AT_MOST, 1)]), (0, 1, [0], []), (1, 2, [], [(0, AT_MOST, 1)]), (1, 3, [], [(1, AT_MOST, 1)])]
+
+# Timers 1 and 3 are live at location 1, told apart by 1→0: families 65 and 67 get 0 and 1. The transition 2→1 stands at each of four places.
+REACHED = [(0, 1, [1, 3], [], 1), (1, 1, [], [(3, BELOW, 70000)], 2), (1, 0, [3], [(1, ABOVE, 258)], 3)]
+REACHED_BOARD = ['000900000001 01 02 00 01 00', '000d00010001 02 00 01 01 01 00011170', '000d00010000 03 00 01 00 03 00000102']
+
+
+def between(n):
+    """A chart whose transition n leaves a spare location, and what the rewriting makes of it, 64 bytes."""
+    left_out = (2, 1, [0, 2], [(2, EQUAL, 3), (0, AT_LEAST, 4), (3, AT_MOST, 5)], 9)
+    records = REACHED_BOARD[:n] + ['000700020001 09 00 00'] + REACHED_BOARD[n:]
+    return spare(3, 4, REACHED[:n] + [left_out] + REACHED[n:], accepting=[]), bytes.fromhex('03 0000003b 0003 0000 02 0000 0004' + ''.join(records))
+
+
+# Timers 1, 2 and 4 are live at locations 1 and 2, no two of them twins: families 65, 66 and 68 get 0, 1 and 2. Nothing reaches locations 4 and 5,
+# whose transitions, 0, 2, 4 and 6, have eight tests, none, two and one.
+PACKED = [(4, 1, [0, 3], [(3, AT_MOST, 31), (0, BELOW, 32), (1, AT_LEAST, 33), (2, ABOVE, 34), (4, EQUAL, 35), (3, AT_MOST, 36), (0, BELOW, 37),
+                          (1, AT_LEAST, 4294967295)], 201),
+          (1, 2, [2], [(1, AT_LEAST, 11), (2, AT_MOST, 70012), (4, BELOW, 13)], 2),
+          (5, 4, [], [], 202),
+          (0, 1, [1, 2, 4], [], 1),
+          (4, 5, [4], [(0, ABOVE, 41), (4, EQUAL, 42)], 203),
+          (2, 1, [4], [(2, ABOVE, 10), (1, EQUAL, 22)], 3),
+          (5, 2, [1], [(3, AT_LEAST, 51)], 204),
+          (2, 3, [], [(1, AT_MOST, 100000), (2, BELOW, 3), (4, AT_LEAST, 5), (1, ABOVE, 26), (2, EQUAL, 2), (4, AT_MOST, 6), (1, BELOW, 28),
+                      (2, AT_MOST, 4294967294)], 4)]
+PACKED_BOARD = [(4, 1, [], [], 201),
+                (1, 2, [1], [(0, AT_LEAST, 11), (1, AT_MOST, 70012), (2, BELOW, 13)], 2),
+                (5, 4, [], [], 202),
+                (0, 1, [0, 1, 2], [], 1),
+                (4, 5, [], [], 203),
+                (2, 1, [2], [(1, ABOVE, 10), (0, EQUAL, 22)], 3),
+                (5, 2, [], [], 204),
+                (2, 3, [], [(0, AT_MOST, 100000), (1, BELOW, 3), (2, AT_LEAST, 5), (0, ABOVE, 26), (1, EQUAL, 2), (2, AT_MOST, 6), (0, BELOW, 28),
+                            (1, AT_MOST, 4294967294)], 4)]
+
+
+def packed(n):
+    """The chart and its board with the first n transitions after the others, so that each of them is the last one, whose bytes are shown."""
+    return spare(6, 5, PACKED[n:] + PACKED[:n], accepting=[3]), spare(6, 3, PACKED_BOARD[n:] + PACKED_BOARD[:n], accepting=[3])
+
+
+# 256 locations and 512 transitions, the last of which alone leaves a location that is reached, the initial one, 255. Of the others every 32nd has a
+# start and a test.
+LARGEST = spare(256, 64, [(i % 255, 255 if i % 2 else (i + 1) % 255, [i % 64], [(63 - i % 64, i % 5, i)]) if i % 32 == 1
+                          else (i % 255, 255 if i % 2 else (i + 1) % 255, [], []) for i in range(511)] + [(255, 255, [63], [])],
+                initial=255, accepting=[0, 255])
+
+# A comment, the calls asked ('9' is the analysis of the chart as version 2), locations, timers, transitions, those of the rewritten chart, what else
+# the chart has, the lowest spare location, the number used (as many as the floor), the number of rounds, the live sets
+SPARE = [
+    ('a spare cycle', 'a9', 6, 1, [(0, 1, [0], []), (1, 2, [], [(0, AT_MOST, 5)]), (4, 5, [], []), (5, 4, [], [(0, AT_MOST, 5)]), (2, 3, [], [])],
+     [(0, 1, [0], []), (1, 2, [], [(0, AT_MOST, 5)]), (4, 5, [], []), (5, 4, [], []), (2, 3, [], [])], {}, 4, 1, 2, '0 1 0 0 0 0'),
+    ('a spare chain, which would need three rounds more', 'a', 6, 1,
+     [(0, 1, [0], []), (1, 1, [], [(0, AT_MOST, 4)]), (2, 3, [], []), (3, 4, [], []), (4, 5, [], []), (5, 5, [], [(0, AT_MOST, 6)])],
+     [(0, 1, [0], []), (1, 1, [], [(0, AT_MOST, 4)]), (2, 3, [], []), (3, 4, [], []), (4, 5, [], []), (5, 5, [], [])], {}, 2, 1, 2, '0 1 0 0 0 0'),
+    ('initial location 1 of three, 1→2', 'ak9', 3, 0, [(1, 2, [], [])], [(1, 2, [], [])], {'initial': 1}, 0, 0, 1, '0 0 0'),
+    ('two locations, no transition', 'a9', 2, 0, [], [], {}, 1, 0, 1, '0 0'),
+    ('spare location 0 leads to the initial one', 'ak', 3, 1, [(0, 1, [], [(0, AT_LEAST, 0)]), (1, 2, [0], []), (2, 2, [], [(0, AT_MOST, 3)])],
+     [(0, 1, [], []), (1, 2, [0], []), (2, 2, [], [(0, AT_MOST, 3)])], {'initial': 1}, 0, 1, 2, '0 0 1'),
+    ('all but the initial location spare', 'k9', 4, 2,
+     [(1, 0, [0], [(0, AT_MOST, 1), (1, BELOW, 2)]), (2, 3, [1], [(1, ABOVE, 3)]), (0, 0, [1], []), (3, 2, [], [(0, EQUAL, 4)])],
+     [(1, 0, [], []), (2, 3, [], []), (0, 0, [], []), (3, 2, [], [])], {}, 1, 0, 1, '0 0 0 0'),
+    # Timer 0 lives at location 2 with 1 and at location 4 with 0. If it lived at 6, that would link the two.
+    ('C and a spare location that would link two families', 'k', 7, 2, [(6, 2, [], []), (6, 4, [], [])] + ARROWS_OF_C,
+     [(6, 2, [], []), (6, 4, [], [])] + ARROWS_OF_C_BOARD, {}, 6, 2, 4, '0 2 3 2 1 0 0'),
+    # Timer 0 lives at location 1, timer 1 at location 2, and both would at location 4
+    ('B and a spare location where two families would meet', 'k', 5, 2,
+     [(4, 1, [], []), (4, 2, [], []), (0, 1, [0], []), (1, 2, [1], [(0, AT_MOST, 2)]), (2, 3, [], [(1, AT_LEAST, 1)])],
+     [(4, 1, [], []), (4, 2, [], []), (0, 1, [0], []), (1, 2, [0], [(0, AT_MOST, 2)]), (2, 3, [], [(0, AT_LEAST, 1)])],
+     {'accepting': [3, 4]}, 4, 1, 2, '0 1 2 0 0'),
+    # Timers 0 and 2 are twins, so that timer 2 has 0; for itself it would have 1
+    ('a spare transition starts one of two twins', 'k', 5, 3,
+     [(0, 2, [0, 2], []), (4, 1, [0], []), (2, 1, [1], []), (1, 3, [], [(1, AT_MOST, 4), (2, AT_MOST, 4)])],
+     [(0, 2, [0], []), (4, 1, [], []), (2, 1, [1], []), (1, 3, [], [(1, AT_MOST, 4), (0, AT_MOST, 4)])], {}, 4, 2, 3, '0 6 4 0 0'),
+    ('a spare way to location 1 starts nothing', 'a', 4, 1, [(0, 1, [0], []), (3, 1, [], []), (1, 2, [], [(0, AT_MOST, 1)])],
+     [(0, 1, [0], []), (3, 1, [], []), (1, 2, [], [(0, AT_MOST, 1)])], {}, 3, 1, 2, '0 1 0 0'),
+    ('only a spare transition tests timer 1, which reached ones start', 'k', 4, 2,
+     [(0, 1, [0], []), (1, 1, [1], []), (1, 2, [], [(0, EQUAL, 6)]), (3, 1, [], [(1, EQUAL, 7)])],
+     [(0, 1, [0], []), (1, 1, [], []), (1, 2, [], [(0, EQUAL, 6)]), (3, 1, [], [])], {}, 3, 1, 2, '0 1 0 0'),
+    # Location 2 is reached by a path, though by no run
+    ('a test that is never met leads to location 2, and it is reached', 'k', 4, 1,
+     [(0, 1, [0], []), (1, 2, [], [(0, BELOW, 0)]), (2, 3, [], [(0, AT_MOST, 7)])],
+     [(0, 1, [0], []), (1, 2, [], [(0, BELOW, 0)]), (2, 3, [], [(0, AT_MOST, 7)])], {}, None, 1, 2, '0 1 1 0'),
+    ('a chain, its transitions last to first, and a spare location', 'a', 13, 1, open_chain(12)[::-1] + [(12, 5, [], [(0, EQUAL, 5)])],
+     open_chain(12)[::-1] + [(12, 5, [], [])], {}, 12, 1, 11, '0 1 1 1 1 1 1 1 0'),
+    # No timer is unstarted at location 1, and yet it is reached; all timers are twins
+    ('63 timers, all of them started on the way to location 1', 'k', 4, 63,
+     [(0, 1, range(63), []), (1, 2, [], [(62, AT_LEAST, 1)]), (3, 2, [0], [(1, AT_LEAST, 1)])],
+     [(0, 1, [0], []), (1, 2, [], [(0, AT_LEAST, 1)]), (3, 2, [], [])], {}, 3, 1, 2, '0 %d 0 0' % 2 ** 62),
+    ('64 timers, all of them started on the way to location 1', 'ak9', 4, 64,
+     [(0, 1, EVERY, []), (1, 2, [], [(63, AT_LEAST, 1)]), (3, 2, [0], [(1, AT_LEAST, 1)])],
+     [(0, 1, [0], []), (1, 2, [], [(0, AT_LEAST, 1)]), (3, 2, [], [])], {}, 3, 1, 2, '0 %d 0 0' % 2 ** 63),
+    ('a spare transition with 64 starts and 8 tests', 'k', 3, 64,
+     [(0, 1, [63], []), (2, 1, EVERY, [(j, AT_MOST, j) for j in range(56, 64)]), (1, 1, [], [(63, EQUAL, 9)])],
+     [(0, 1, [0], []), (2, 1, [], []), (1, 1, [], [(0, EQUAL, 9)])], {'accepting': []}, 2, 1, 2, '0 %d 0' % 2 ** 63)]
+
+
 def analyse(comment, file, room, lines):
     ANALYSE.append((comment, file, room, lines if isinstance(lines, list) else [lines]))
 
@@ -170,7 +289,8 @@ analyse('a test that no path starts', NEVER_STARTED, 2, 'refused 10 1 changed 0'
 analyse('10 comes before 21', NEVER_STARTED, 0, 'refused 10 1 changed 0')
 analyse('the chart of one location', SMALL, 1, ['used 0 floor 0 searched 1 rounds 1 beyond 0', 'live 0'])
 analyse('the chart of one location as version 2', SMALL_2, 1, ['used 0 floor 0 searched 1 rounds 1 beyond 0', 'live 0'])
-analyse('version 3', b'\x03' + SMALL[1:], 1, 'refused 2 65535 changed 0')
+analyse('version 4', b'\x04' + SMALL[1:], 1, 'refused 2 65535 changed 0')
+analyse('the chart of one location as version 3', b'\x03' + SMALL[1:], 1, ['used 0 floor 0 searched 1 rounds 1 beyond 0', 'live 0'])
 analyse('B as version 2', B_2, 4, ['used 1 floor 1 searched 1 rounds 2 beyond 0', 'live 0 1 2 0'])
 analyse('B, first byte 2', B_RELABELLED, 4, 'refused 3 65535 changed 0')
 analyse('the largest constant', dwell((AT_MOST, 4294967295)), 3, ['used 1 floor 1 searched 1 rounds 2 beyond 0', 'live 0 1 0'])
@@ -231,6 +351,31 @@ analyse('a start on the same transition does not help', chart(2, 1, [(0, 1, [0],
 analyse('a loop that starts the timer need not be taken', chart(3, 1, [(0, 1, [], []), (1, 1, [0], []), (1, 2, [], [(0, AT_MOST, 1)])]), 3,
         'refused 10 2 changed 0')
 
+# Spare locations
+analyse('S', S, 5, ['used 1 floor 1 searched 1 rounds 3 beyond 0', 'live 0 3 2 0 0'])
+analyse('S, a list for the locations that are reached alone', S, 4, 'refused 21 65535 changed 0')
+analyse('S as version 2', S_2, 5, 'refused 9 4 changed 0')
+analyse('S as version 1', S_1, 5, 'refused 9 4 changed 0')
+analyse('a test of a spare transition alone', SPARE_TEST, 3, ['used 0 floor 0 searched 1 rounds 1 beyond 0', 'live 0 0 0'])
+for comment, calls, locations, timers, arrows, _, more, lowest, used, rounds, live in SPARE:
+    if 'a' in calls:
+        analyse(comment, spare(locations, timers, arrows, **more), locations,
+                ['used %d floor %d searched 1 rounds %d beyond 0' % (used, used, rounds), 'live ' + live])
+    if '9' in calls:
+        analyse(comment + ', version 2', spare(locations, timers, arrows, version=2, **more), locations, 'refused 9 %d changed 0' % lowest)
+analyse('8, 0, 2 and 1 tests of spare transitions', packed(0)[0], 6, ['used 3 floor 3 searched 1 rounds 2 beyond 0', 'live 0 22 22 0 0 0'])
+# Two timers would be live at the spare location, two families more
+analyse('20 families that meet none, and a spare location',
+        spare(23, 2, [(0, 1, [0], [])] + lone(1, 20) + [(22, 22, [], [(0, AT_LEAST, 0), (1, AT_LEAST, 0)])]), 23,
+        ['used 1 floor 1 searched 1 rounds 2 beyond 0', 'live 0 1 2 1 2 1 2 1 0'])
+analyse('B as version 3', B_3, 4, ['used 1 floor 1 searched 1 rounds 2 beyond 0', 'live 0 1 2 0'])
+for version, refusal in (2, '9 4'), (3, '10 3'):
+    analyse('10 at the lowest transition that is reached, version %d' % version, spare(5, 2, UNSTARTED, version=version), 5,
+            'refused %s changed 0' % refusal)
+analyse('10 in version 3 where 9 comes before it in version 1', spare(3, 1, [(0, 1, [], [(0, AT_MOST, 1)])]), 3, 'refused 10 0 changed 0')
+analyse('a start on a spare way does not help', spare(4, 1, [(0, 1, [], []), (3, 1, [0], []), (1, 2, [], [(0, AT_MOST, 1)])]), 4,
+        'refused 10 2 changed 0')
+
 
 def rewrite(comment, file, k, room, lines):
     REWRITE.append((comment, file, k, room, lines if isinstance(lines, list) else [lines]))
@@ -254,7 +399,8 @@ for room in (56, 53):
     rewrite('B as version 2, room for %d bytes' % room, B_2, 16, room, 'refused 21 65535 changed 0')
 rewrite('B as version 2 with K = 0', B_2, 0, 65536, 'refused 20 65535 changed 0')
 rewrite('B, first byte 2', B_RELABELLED, 16, 65536, 'refused 3 65535 changed 0')
-rewrite('B, first byte 3', b'\x03' + B[1:], 16, 65536, 'refused 2 65535 changed 0')
+rewrite('B, first byte 3', b'\x03' + B[1:], 16, 65536, 'refused 3 65535 changed 0')
+rewrite('B, first byte 4', b'\x04' + B[1:], 16, 65536, 'refused 2 65535 changed 0')
 rewrite('C with K = 2', C, 2, 65536, rewritten(2, C_BOARD, 65536))
 rewrite('C with K = 1', C, 1, 65536, 'refused 20 65535 changed 0')
 rewrite('the start is gone, K = 0 suffices', SELF_LOOP, 0, 65536, rewritten(0, SELF_LOOP_BOARD, 65536))
@@ -303,6 +449,29 @@ for name, file, used, board in [
 rewrite('the last transition starts one of two, with K = 1', LAST_DIFFERS, 1, 65536, 'refused 20 65535 changed 0')
 rewrite('twins 62 and 63', LAST_TWINS, 64, 65536, rewritten(2, LAST_TWINS_BOARD, 65536))
 rewrite('64 timers and no transition', chart(1, 64, []), 0, 65536, rewritten(0, chart(1, 0, []), 65536))
+
+# Transitions of spare locations stay, without tests and starts.
+rewrite('S with K = 1, room for exactly the file', S, 1, 65, rewritten(1, S_BOARD, 65))
+rewrite('S, one byte too short', S, 1, 64, 'refused 21 65535 changed 0')
+rewrite('S with K = 0, and no room: 20 comes before 21', S, 0, 0, 'refused 20 65535 changed 0')
+rewrite('S as version 2: 9 comes before 11', S_2, 65, 65536, 'refused 9 4 changed 0')
+rewrite('S, rewritten, stays as it is', S_BOARD, 1, 65536, rewritten(1, S_BOARD, 65536))
+rewrite('S, a constant of 65,536 on the spare transition', S_LARGE, 1, 65536, rewritten(1, S_BOARD, 65536))
+rewrite('a test of a spare transition alone, K = 0, room for exactly the file', SPARE_TEST, 0, 34, rewritten(0, SPARE_TEST_BOARD, 34))
+rewrite('a test of a spare transition alone, one byte too short', SPARE_TEST, 0, 33, 'refused 21 65535 changed 0')
+for comment, calls, locations, timers, arrows, board, more, _, used, _, _ in SPARE:
+    if 'k' in calls:
+        file = spare(locations, used, board, **more)
+        rewrite(comment, spare(locations, timers, arrows, **more), used, 65536, rewritten(used, file, 65536))
+for n in range(4):
+    rewrite('three tests of a spare transition, which is transition %d' % n, between(n)[0], 2, 64, rewritten(2, between(n)[1], 64))
+rewrite('three tests of a spare transition, one byte too short', between(1)[0], 2, 63, 'refused 21 65535 changed 0')
+for n in (2, 4, 6):
+    rewrite('8, 0, 2 and 1 tests of spare transitions, the first %d transitions last' % n, packed(n)[0], 3, 65536, rewritten(3, packed(n)[1], 65536))
+rewrite('8, 0, 2 and 1 tests of spare transitions, room for exactly the file', packed(0)[0], 3, 171, rewritten(3, packed(0)[1], 171))
+rewrite('256 locations, 255 of them spare, K = 0', LARGEST, 0, 65536, 'used 0 length 4626 0700ff00ff000000 next aa')
+rewrite('B as version 3, room for exactly the file', B_3, 1, 57, rewritten(1, B_3_BOARD, 57))
+rewrite('a spare location, and a test that no path starts: 10 comes before 11', spare(5, 2, UNSTARTED), 65, 0, 'refused 10 3 changed 0')
 
 
 # counts, then steps (transition, time); or a list of transitions and one of times of its own; `repeat` steps of transition 0 at time 0 come first
@@ -366,3 +535,18 @@ for name, file, counts in ('drawn', THREE_TWINS, [0] * 6), ('rewritten', THREE_T
     play('three twins and two %s: 4 equal 7, after 7 ticks' % name, file, counts, [(0, 1), (1, 4), (2, 6), (3, 8), (4, 13)],
          'location 4 time 13 accepting 1')
     play('three twins and two %s: 4 equal 7, after 8 ticks' % name, file, counts, [(0, 1), (1, 4), (2, 6), (3, 8), (4, 14)], 'refused 24 4 changed 0')
+
+# Spare locations: no step leaves them
+for name, file, counts in ('drawn', S, [MOST, 0]), ('rewritten', S_BOARD, [MOST]):
+    play('S %s: 1 at most 9, after 9 ticks' % name, file, counts, [(0, 5), (1, 7), (2, 14)], 'location 3 time 14 accepting 1')
+    play('S %s: the spare transition first' % name, file, counts, [(3, 0)], 'refused 22 0 changed 0')
+    play('S %s: the spare transition at its target, and an early time: 22 comes before 23' % name, file, counts, [(0, 5), (3, 4)],
+         'refused 22 1 changed 0')
+play('S: the spare transition at the end', S, [0, 0], [(0, 5), (1, 7), (2, 8), (3, 8), (9, 8)], 'refused 22 3 changed 0')
+play('S as version 2: 9 comes before 12', S_2, [], [(0, 5)], 'refused 9 4 changed 0')
+for name, file, counts in ('drawn', SPARE_TEST, [0]), ('rewritten', SPARE_TEST_BOARD, []):
+    play('a test of a spare transition alone, %s: the spare transition' % name, file, counts, [(0, 3), (1, 3)], 'refused 22 1 changed 0')
+play('only a spare location accepts', SPARE_CYCLE, [0], [(0, 0), (1, 5), (4, 6)], 'location 3 time 6 accepting 0')
+for name, file, counts in ('drawn', packed(0)[0], [MOST] * 5), ('rewritten', packed(0)[1], [0] * 3):
+    play('8, 0, 2 and 1 tests of spare transitions, %s: tests at 11, 22, 25 and 27' % name, file, counts,
+         [(3, 0), (1, 11), (5, 22), (1, 25), (7, 27)], 'location 3 time 27 accepting 1')

@@ -6,7 +6,7 @@
 Steps are pairs of a transition and the counter's reading.
 """
 from call_vectors import ABOVE, AT_LEAST, AT_MOST, EQUAL, A, B, B_2_BOARD, B_BOARD, B_RELABELLED, C, C_BOARD, MOST, NEVER_STARTED, SELF_LOOP
-from call_vectors import chart, dwell
+from call_vectors import S, S_2, S_BOARD, S_LARGE, SPARE_TEST, chart, dwell, spare
 
 COUNTER = []
 
@@ -95,7 +95,8 @@ play('a reading more than transitions', B, [0, 0], 0, [], 'refused 13 65535 chan
 
 # ---- refusals in their order
 play('1 comes before 12 and 13', B[:-1], [], 0, [], 'refused 1 65535 changed 0', transitions=[0], readings=[])
-play('2 comes before 12', b'\x03' + B[1:], [], 0, [(0, 5)], 'refused 2 65535 changed 0')
+play('2 comes before 12', b'\x04' + B[1:], [], 0, [(0, 5)], 'refused 2 65535 changed 0')
+play('3 comes before 12: B, first byte 3', b'\x03' + B[1:], [], 0, [(0, 5)], 'refused 3 65535 changed 0')
 play('3 comes before 12: B, first byte 2', B_RELABELLED, [], 0, [(0, 5)], 'refused 3 65535 changed 0')
 play('9 comes before 10, 12 and 18', chart(3, 1, [(0, 1, [], [(0, AT_MOST, 65536)])], version=2), [], 0, [(0, 5)], 'refused 9 2 changed 0')
 play('10 comes before 12', NEVER_STARTED, [], 0, [(0, 5)], 'refused 10 1 changed 0')
@@ -119,3 +120,13 @@ play('a wrong location comes before a test', B, [0, 0], 5, [(0, 5), (2, 5)], 're
 play('later steps are not looked at', B, [0, 0], 0, [(0, 5), (1, 8), (9, 8), (0, 8)], 'refused 24 1 changed 0')
 play('no 15: 257 steps, 16,842,495 ticks in all', SELF_LOOP, [MOST], 0, [(0, 65535 - n) for n in range(257)], 'location 0 accepting 1')
 play('70,000 steps, then one that names no transition', SELF_LOOP, [0], 7, [(1, 7)], 'refused 14 70000 changed 0', repeat=70000)
+
+# ---- spare locations (document 02, P7): 18 looks at every constant of the file
+for name, file, counts in ('drawn', S, [MOST, 0]), ('rewritten', S_BOARD, [65536]):
+    play('S %s: ticks 5, 2, 7, the second across the wrap' % name, file, counts, 65530, [(0, 65535), (1, 1), (2, 8)], 'location 3 accepting 1')
+play('S: the spare transition', S, [0, 0], 65530, [(0, 65535), (3, 0)], 'refused 22 1 changed 0')
+play('S as version 2: 9 comes before 12', S_2, [], 0, [(0, 5)], 'refused 9 4 changed 0')
+play('S, 65,536 on the spare transition', S_LARGE, [0, 0], 0, [(0, 5)], 'refused 18 65535 changed 0')
+play('a test of a spare transition alone', SPARE_TEST, [0], 0, [(0, 5)], 'location 1 accepting 0')
+play('a spare location, and 10 before 12 and 18', spare(3, 1, [(0, 0, [0], []), (0, 1, [], [(0, AT_LEAST, 65536)])]), [], 0, [(0, 5)],
+     'refused 10 1 changed 0')

@@ -49,13 +49,16 @@ read('four bytes', h('01 000000'), 'refused 1 65535 changed 0')
 read('five bytes: the locations are cut', h('01 00000000'), 'refused 3 65535 changed 0')
 read('the same as version 2', h('02 00000009 0001 0000 00 0000 0000'),
      ['version 2 locations 1 initial 0 timers 0 accepting 0 transitions 0 beyond 0', 'written 14 0200000009000100000000000000 next aa'])
-for version in (0, 3, 255):
+read('the same as version 3', h('03 00000009 0001 0000 00 0000 0000'),
+     ['version 3 locations 1 initial 0 timers 0 accepting 0 transitions 0 beyond 0', 'written 14 0300000009000100000000000000 next aa'])
+for version in (0, 4, 255):
     read('version %d' % version, framed(SMALL[5:], version), 'refused 2 65535 changed 0')
-read('version 3 with a wrong length: the length is judged first', h('03 00000008 0001 0000 00 0000 0000'), 'refused 1 65535 changed 0')
-read('version 3, four bytes', h('03 000000'), 'refused 1 65535 changed 0')
-read('version 3, five bytes: the version comes before the locations', h('03 00000000'), 'refused 2 65535 changed 0')
-read('version 2 with a wrong length', h('02 00000008 0001 0000 00 0000 0000'), 'refused 1 65535 changed 0')
-read('version 2, five bytes', h('02 00000000'), 'refused 3 65535 changed 0')
+read('version 4 with a wrong length: the length is judged first', h('04 00000008 0001 0000 00 0000 0000'), 'refused 1 65535 changed 0')
+read('version 4, four bytes', h('04 000000'), 'refused 1 65535 changed 0')
+read('version 4, five bytes: the version comes before the locations', h('04 00000000'), 'refused 2 65535 changed 0')
+for version in (2, 3):
+    read('version %d with a wrong length' % version, framed(SMALL[5:], version, 8), 'refused 1 65535 changed 0')
+    read('version %d, five bytes' % version, framed(b'', version), 'refused 3 65535 changed 0')
 read('the length is right in its low bytes only', h('01 01000009 0001 0000 00 0000 0000'), 'refused 1 65535 changed 0')
 read('the length counts the frame too', h('01 0000000e 0001 0000 00 0000 0000'), 'refused 1 65535 changed 0')
 
@@ -163,6 +166,7 @@ EXACT = [2, 2, 2, 2, 2, 2, 3, 3, 3]
 TWO_HEAD = '0003 0001 02 0002 0000 0002 0002 '
 TWO_RECORDS = {1: '000c 0000 0001 05 01 01 01 01 03 %04x 000f 0001 0002 06 00 02 00 02 %04x 01 04 %04x',
                2: '000e 0000 0001 05 01 01 01 01 03 %08x 0013 0001 0002 06 00 02 00 02 %08x 01 04 %08x'}
+TWO_RECORDS[3] = TWO_RECORDS[2]
 
 
 def two(version, *constants):
@@ -226,6 +230,39 @@ read('version 2: lists of exactly the needed length', TWO_2,
      ['version 2 locations 3 initial 1 timers 2 accepting 2 0 2 transitions 2 beyond 0', '0>1 event 5 starts 2 tests 1 1:3:65536',
       '1>2 event 6 starts 0 tests 2 0:2:3 1:4:4294967295', written(TWO_2)], EXACT)
 read('version 2: list 8 one entry too short', TWO_2, 'refused 21 65535 changed 0', EXACT[:8] + [2])
+
+# ---- version 3: otherwise like version 2. The reader does not ask what is reached, in any version
+B_3 = framed(B_2[5:], 3)
+read('chart B as version 3', B_3,
+     ['version 3 locations 4 initial 0 timers 2 accepting 1 3 transitions 3 beyond 0', '0>1 event 0 starts 1 tests 0',
+      '1>2 event 0 starts 2 tests 1 0:0:2', '2>3 event 0 starts 0 tests 1 1:2:1', written(B_3)])
+read('chart B as version 1, first byte 3',
+     h('03 00000030 0004 0000 02 0001 0003 0003 0008 0000 0001 00 01 00 00 000c 0001 0002 00 01 01 01 00 00 0002 000b 0002 0003 00 00 01 01 02 0001'),
+     'refused 3 65535 changed 0')
+read('chart B as version 2, first byte 4', framed(B_2[5:], 4), 'refused 2 65535 changed 0')
+read('version 3: cut after three bytes of the constant', framed(HEAD + RECORD_2[:15], 3), 'refused 3 65535 changed 0')
+read('version 3: a byte remains', framed(HEAD + RECORD_2 + h('00'), 3), 'refused 3 65535 changed 0')
+FIVE_3 = framed(FIVE_2[5:], 3)
+read('version 3: constants 0, 65,535, 65,536, 16,777,216 and 4,294,967,295', FIVE_3,
+     ['version 3 locations 1 initial 0 timers 1 accepting 0 transitions 1 beyond 0',
+      '0>0 event 255 starts 0 tests 5 0:0:0 0:1:65535 0:2:65536 0:3:16777216 0:4:4294967295', written(FIVE_3)])
+TWO_3 = two(3, 65536, 3, 4294967295)
+read('version 3: lists of exactly the needed length', TWO_3,
+     ['version 3 locations 3 initial 1 timers 2 accepting 2 0 2 transitions 2 beyond 0', '0>1 event 5 starts 2 tests 1 1:3:65536',
+      '1>2 event 6 starts 0 tests 2 0:2:3 1:4:4294967295', written(TWO_3)], EXACT)
+read('version 3: list 8 one entry too short', TWO_3, 'refused 21 65535 changed 0', EXACT[:8] + [2])
+# Nothing reaches location 4; its transition, 4→1, keeps its test and its start
+S = h('03 00000044 0005 0000 02 0001 0003 0004 0009 0000 0001 00 02 00 01 00 000d 0001 0002 00 00 01 00 02 00000002'
+      '000d 0002 0003 00 00 01 01 00 00000009 000e 0004 0001 00 01 00 01 01 00 00000005')
+S_HEADER = 'version %d locations 5 initial 0 timers 2 accepting 1 3 transitions 4 beyond 0'
+S_LINES = ['0>1 event 0 starts 3 tests 0', '1>2 event 0 starts 0 tests 1 0:2:2', '2>3 event 0 starts 0 tests 1 1:0:9',
+           '4>1 event 0 starts 1 tests 1 1:0:5', 'written 73 0001010000000005 next aa']
+for version in (2, 3):
+    read('a spare location, version %d' % version, framed(S[5:], version), [S_HEADER % version] + S_LINES)
+read('a transition of a spare location tests a timer that the chart lacks', S[:-6] + h('02 00 00000005'), 'refused 6 3 changed 0')
+read('a transition of a spare location has code 5', S[:-6] + h('01 05 00000005'), 'refused 8 3 changed 0')
+read('256 locations, none but the last reached', framed(h('0100 00ff 00 0000 0000'), 3),
+     ['version 3 locations 256 initial 255 timers 0 accepting 0 transitions 0 beyond 0', 'written 14 0300000009010000ff0000000000 next aa'])
 
 
 # ---- the writer: header (version, locations, initial, timers, accepting, transitions), the nine lists, the room
@@ -311,21 +348,32 @@ write('a chart of one location', (1, 1, 0, 0, 0, 0), [[]] * 9, 14, 'written 14 0
 
 # ---- the writer: versions and constants
 GOOD_2 = (2, 3, 1, 2, 2, 2)
-for version in (0, 3, 255):
+for version in (0, 4, 255):
     write('version %d' % version, (version, 3, 1, 2, 2, 2), LISTS, 65536, 'refused 2 65535 changed 0')
     write('version %d and no location' % version, (version, 0, 1, 2, 2, 2), LISTS, 65536, 'refused 2 65535 changed 0')
-write('2 comes before 3 and 21', (3, 3, 1, 2, 2, 2), [[]] * 9, 0, 'refused 2 65535 changed 0')
+write('2 comes before 3 and 21', (4, 3, 1, 2, 2, 2), [[]] * 9, 0, 'refused 2 65535 changed 0')
 write('2 comes before 17', (0, 3, 1, 2, 2, 2), but(8, [65536, 3, 4]), 65536, 'refused 2 65535 changed 0')
 write('a chart of one location, version 2', (2, 1, 0, 0, 0, 0), [[]] * 9, 14, 'written 14 0200000009000100000000000000 next --')
 write('version 2: room for exactly the file', GOOD_2, LISTS, 55, 'written 55 %s next --' % two(2, 258, 3, 4).hex())
 for room in (54, 49):
     write('version 2: room for %d bytes' % room, GOOD_2, LISTS, room, 'refused 21 65535 changed 0')
 write('version 2: the list of constants ends one entry early', GOOD_2, but(8, [258, 3]), 65536, 'refused 3 65535 changed 0')
+GOOD_3 = (3, 3, 1, 2, 2, 2)
+write('a chart of one location, version 3', (3, 1, 0, 0, 0, 0), [[]] * 9, 14, 'written 14 0300000009000100000000000000 next --')
+write('version 3: room for exactly the file', GOOD_3, LISTS, 55, 'written 55 %s next --' % two(3, 258, 3, 4).hex())
+write('version 3: room for 54 bytes', GOOD_3, LISTS, 54, 'refused 21 65535 changed 0')
+S_LISTS = [[3], [0, 1, 2, 4], [1, 2, 3, 1], [0, 0, 0, 0], [3, 0, 0, 1], [0, 1, 1, 1], [0, 1, 1], [2, 0, 0], [2, 9, 5]]
+write('a spare location', (3, 5, 0, 2, 1, 4), S_LISTS, 73, 'written 73 0001010000000005 next --')
+write('a spare location that accepts and has no transition', (3, 2, 1, 0, 1, 0), only(0, [0]), 65536,
+      'written 16 030000000b0002000100000100000000 next aa')
 write('version 1: constants 65,535 and 0', GOOD, but(8, [65535, 0, 65535]), 65536, written(two(1, 65535, 0, 65535)))
 write('version 2: constants 65,535 and 0', GOOD_2, but(8, [65535, 0, 65535]), 65536, written(two(2, 65535, 0, 65535)))
 for constants in [65536, 3, 4], [258, 131071, 4], [258, 3, 4294967295]:
     write('version 1: constants %d, %d, %d' % tuple(constants), GOOD, but(8, constants), 65536, 'refused 17 65535 changed 0')
     write('version 2: constants %d, %d, %d' % tuple(constants), GOOD_2, but(8, constants), 65536, written(two(2, *constants)))
+write('version 3: constants 65,536, 131,071 and 4,294,967,295', GOOD_3, but(8, [65536, 131071, 4294967295]), 65536,
+      written(two(3, 65536, 131071, 4294967295)))
+write('version 3: no 17 before 21', GOOD_3, but(8, [258, 3, 65536]), 54, 'refused 21 65535 changed 0')
 write('17 comes before 21', GOOD, but(8, [258, 3, 65536]), 0, 'refused 17 65535 changed 0')
 write('large constants after those that are due', GOOD, but(8, [258, 3, 4, 65536, 4294967295]), 65536, written(TWO))
 write('a large constant where no test is due', (1, 1, 0, 0, 0, 0), only(8, [65536]), 65536, 'written 14 0100000009000100000000000000 next aa')

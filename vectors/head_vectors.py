@@ -10,7 +10,7 @@ STATE is: turn T heads, the location, time, waiting, event and waiting time of e
 other heads and counts that are not as they were).
 Unless a state is given, every number of it holds bytes 170 before the first call.
 """
-from call_vectors import AT_LEAST, BELOW, B, B_2, B_BOARD, MOST, NEVER_STARTED, SELF_LOOP, chart
+from call_vectors import ARROWS_OF_S, AT_LEAST, BELOW, B, B_2, B_BOARD, MOST, NEVER_STARTED, S, S_2, S_BOARD, SELF_LOOP, chart, spare
 
 HEADS = []
 SET_UP, TURN = (0, 0, 0, 0), (2, 0, 0, 0)
@@ -181,3 +181,21 @@ handed_in('an event for a head that waits', 1, [(3, 5), (0, 6, 9, 0, 6)], [1, 2,
 handed_in('no such head, however large', 1, [(3, 5), (0, 6)], [1, 2, 3, 4], event(2 ** 32 - 1, 0, 0), refused(26))
 handed_in('the latest time of all', 1, [(3, 5), (0, 6)], [1, 2, 3, 4], event(1, 0, LARGEST), refused(15))
 handed_in('an event before its head\'s time', 1, [(3, 5), (0, 6)], [1, 2, 3, 4], event(1, 0, 5), refused(23))
+
+# ---- spare locations (document 02, P7)
+S_LAST_FIRST = spare(5, 2, [ARROWS_OF_S[3]] + ARROWS_OF_S[:3], accepting=[3])
+drive('S with the transition of location 4 first, and S rewritten: that one, with the same event, is never taken',
+      [(S_LAST_FIRST, 2, [7, 7]), (S_BOARD, 2, [9])], 4, [SET_UP, event(0, 0, 5), TURN, event(1, 0, 3), TURN, event(0, 0, 7), TURN],
+      [on('set up', 0, [(0, 0), (0, 0)], [7, 7, 9, 0], BEYOND),
+       on('received', 0, [(0, 0, 1, 0, 5), (0, 0)], [7, 7, 9, 0]),
+       on('head 0 transition 1', 1, [(1, 5), (0, 0)], [0, 0, 9, 0]),
+       on('received', 1, [(1, 5), (0, 0, 1, 0, 3)], [0, 0, 9, 0]),
+       on('head 1 transition 0', 0, [(1, 5), (1, 3)], [0, 0, 0, 0]),
+       on('received', 0, [(1, 5, 1, 0, 7), (1, 3)], [0, 0, 0, 0]),
+       on('head 0 transition 2', 1, [(2, 7), (1, 3)], [2, 2, 0, 0])])
+drive('set-up: S as version 2, and K too large', [(S, 2, [0, 0]), (S_2, 2, [])], 65, [SET_UP], [refused(9, 4)])
+# A spare location is a location of the chart: no 32. Its transition is taken as any other, here by S, with 1 at most 5, and by S rewritten, which has
+# no test and no start there.
+drive('state: a spare location', [(S, 2, []), (S_BOARD, 2, [])], 4, [TURN, TURN],
+      [on('head 0 transition 3', 1, [(1, 8), (4, 5, 1, 0, 9)], [0, 5, 50, 0]), on('head 1 transition 3', 0, [(1, 8), (1, 9)], [0, 5, 54, 0])],
+      state=state(0, [(4, 6, 1, 0, 8), (4, 5, 1, 0, 9)], [1, 3, 50, 0], spare=4000000000))

@@ -1,4 +1,8 @@
 //! The analysis: reached, unstarted, live with the number of rounds; families, their board numbers by first fit, used.
+//!
+//! Spare locations (document 02, P7) are those that no path from the initial one reaches; from version 3 on there may be
+//! some. Nothing is live at them, and the transitions that leave them count for nothing here: they test, start and link
+//! nothing.
 
 use crate::chart::{Chart, Transition};
 use crate::floor::Floor;
@@ -32,7 +36,8 @@ pub fn analyse(file: &[u8], live: &mut [u64]) -> Answer<Analysis> {
         return Err(Refusal::nowhere(21));
     };
     let liveness = Liveness::of(&chart, graph);
-    let families = Families::of(&chart, &liveness, &Twins::of(&chart));
+    let twins = Twins::of(&chart, liveness.reached());
+    let families = Families::of(&chart, &liveness, &twins);
     let numbers = families.first_fit(usize::MAX).expect("without a limit every family gets a number");
     let used = u32::from(used(&numbers));
     let Floor { timers, searched } = Floor::of(&families, used);
@@ -49,13 +54,16 @@ pub(crate) fn judged_chart(file: &[u8]) -> Answer<Chart> {
     Ok(chart)
 }
 
-/// Judges 9 and 10 and returns the graph that it used.
+/// Judges 9, where the version allows no spare locations, and 10, and returns the graph that it used.
 pub fn judge(chart: &Chart) -> Answer<Graph> {
     let graph = Graph::of(chart);
-    if let Some(location) = LocationSet::below(chart.locations()).lowest_beyond(&graph.reached) {
-        return Err(Refusal::at(9, u64::from(location)));
+    if !chart.version().allows_spare() {
+        if let Some(location) = LocationSet::below(chart.locations()).lowest_beyond(&graph.reached) {
+            return Err(Refusal::at(9, u64::from(location)));
+        }
     }
     if !chart.has_no_tests() {
+        // At spare locations, to which there is no path, no timer is unstarted.
         let unstarted = unstarted_sets(chart, &graph);
         let is_unstarted =
             |transition: &Transition| !transition.tested.common(unstarted[usize::from(transition.source)]).is_empty();
@@ -74,10 +82,11 @@ struct Grouped {
 }
 
 impl Grouped {
-    fn by(chart: &Chart, end: impl Fn(&Transition) -> u8) -> Self {
+    /// The groups of the transitions for which there is an `end`; the others are in none.
+    fn by(chart: &Chart, end: impl Fn(&Transition) -> Option<u8>) -> Self {
         let mut ends = [0; LOCATIONS];
-        for transition in chart.transitions() {
-            ends[usize::from(end(transition))] += 1;
+        for end in chart.transitions().iter().filter_map(&end) {
+            ends[usize::from(end)] += 1;
         }
         let mut sum = 0;
         for entry in &mut ends[..usize::from(chart.locations())] {
@@ -87,7 +96,8 @@ impl Grouped {
         // Each entry is its group's first place now, and moves to its end as the group is filled.
         let mut transitions = [0; TRANSITIONS];
         for (index, transition) in chart.transitions().iter().enumerate() {
-            let place = &mut ends[usize::from(end(transition))];
+            let Some(end) = end(transition) else { continue };
+            let place = &mut ends[usize::from(end)];
             transitions[usize::from(*place)] = index as u16;
             *place += 1;
         }
@@ -109,7 +119,7 @@ impl Grouped {
     }
 }
 
-/// The reached locations, in an order in which sets settle fast along transitions.
+/// The locations that paths from the initial one reach, in an order in which sets settle fast along transitions.
 pub struct Graph {
     leaving: Grouped,
     reached: LocationSet,
@@ -121,7 +131,7 @@ pub struct Graph {
 impl Graph {
     /// Searches the chart in depth from the initial location; the order is that in which locations are left, reversed.
     fn of(chart: &Chart) -> Self {
-        let leaving = Grouped::by(chart, |transition| transition.source);
+        let leaving = Grouped::by(chart, |transition| Some(transition.source));
         let mut reached = LocationSet::EMPTY;
         let mut order = [0; LOCATIONS];
         let mut position = [0; LOCATIONS];
@@ -158,6 +168,11 @@ impl Graph {
         }
         Graph { leaving, reached, order, position }
     }
+
+    /// The reached locations.
+    pub fn reached(&self) -> &LocationSet {
+        &self.reached
+    }
 }
 
 /// Of each location the timers that some path to it from the initial location starts nowhere.
@@ -181,27 +196,32 @@ fn unstarted_sets(chart: &Chart, graph: &Graph) -> ByLocation<TimerSet> {
     sets
 }
 
-/// The live sets of a chart whose locations are all reached.
+/// The live sets of a chart.
 pub struct Liveness {
     locations: usize,
+    reached: LocationSet,
     sets: ByLocation<TimerSet>,
     rounds: u64,
     leaving: Grouped,
+    /// Only of the transitions that leave a reached location.
     entering: Grouped,
 }
 
 impl Liveness {
     /// Makes the sets in rounds (document 02, P3). Each round makes every location's set from the sets of the round
     /// before, the first from empty ones: the timers that a transition from there tests, and those that it does not
-    /// start and that were in the set of its target. The first round that changes no set is the last, and counts.
+    /// start and that were in the set of its target. The first round that changes no set is the last, and counts. The
+    /// sets of spare locations stay empty throughout.
     ///
     /// Sets only grow. So what a round adds comes from what the round before has added, and nothing else is looked at;
     /// what it adds itself waits for the next round.
     pub fn of(chart: &Chart, graph: Graph) -> Self {
-        let entering = Grouped::by(chart, |transition| transition.target);
+        let Graph { leaving, reached, .. } = graph;
+        let is_reached = |transition: &Transition| reached.has(transition.source);
+        let entering = Grouped::by(chart, |transition| is_reached(transition).then_some(transition.target));
         let mut sets = [TimerSet::EMPTY; LOCATIONS];
         let (mut before, mut now) = (&mut Added::default(), &mut Added::default());
-        for transition in chart.transitions() {
+        for transition in chart.transitions_from(&reached) {
             before.add(&mut sets, transition.source, transition.tested);
         }
         let mut rounds = 1;
@@ -214,7 +234,12 @@ impl Liveness {
             std::mem::swap(&mut before, &mut now);
             rounds += 1;
         }
-        Liveness { locations: usize::from(chart.locations()), sets, rounds, leaving: graph.leaving, entering }
+        Liveness { locations: usize::from(chart.locations()), reached, sets, rounds, leaving, entering }
+    }
+
+    /// The locations that paths from the initial one reach; all others are spare.
+    pub fn reached(&self) -> &LocationSet {
+        &self.reached
     }
 
     /// The live set of each location of the chart, by drawn timers.

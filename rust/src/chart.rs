@@ -120,6 +120,11 @@ impl Chart {
         &self.transitions
     }
 
+    /// The transitions that leave a location of the set.
+    pub fn transitions_from<'a>(&'a self, locations: &'a LocationSet) -> impl Iterator<Item = &'a Transition> {
+        self.transitions.iter().filter(|transition| locations.has(transition.source))
+    }
+
     /// The tests of one of this chart's transitions.
     #[inline]
     pub fn tests(&self, transition: &Transition) -> &[Test] {
@@ -153,7 +158,7 @@ impl Chart {
 
     /// The number of bytes of the chart's file.
     pub fn file_length(&self) -> usize {
-        self.file_length_with(|transition| transition.starts.len())
+        self.file_length_with(|transition| (transition.starts.len(), self.tests(transition)))
     }
 
     /// Writes the chart's file to the front of `out` and returns its length. Judges 21; a chart of this type is free of
@@ -163,24 +168,35 @@ impl Chart {
         let Some(file) = out.get_mut(..length) else {
             return Err(Refusal::nowhere(21));
         };
-        self.write_with(file, self.timers, |transition| transition.starts, |_, timer| timer);
+        self.write_with(
+            file,
+            self.timers,
+            |transition| transition.starts,
+            |transition| self.tests(transition),
+            |_, timer| timer,
+        );
         Ok(length)
     }
 
-    /// The length of the file in which each transition has as many starts as `starts` says.
-    pub(crate) fn file_length_with(&self, starts: impl Fn(&Transition) -> u32) -> usize {
-        let records: usize = self.transitions.iter().map(|transition| 9 + starts(transition) as usize).sum();
-        let tests = usize::from(self.version.test_length()) * self.tests.len();
-        14 + 2 * usize::from(self.accepting.count()) + records + tests
+    /// The length of the file in which each transition has so many starts and these tests.
+    pub(crate) fn file_length_with<'a>(&'a self, kept: impl Fn(&'a Transition) -> (u32, &'a [Test])) -> usize {
+        let test_length = usize::from(self.version.test_length());
+        let record = |transition| {
+            let (starts, tests) = kept(transition);
+            9 + starts as usize + test_length * tests.len()
+        };
+        14 + 2 * usize::from(self.accepting.count()) + self.transitions.iter().map(record).sum::<usize>()
     }
 
     /// Writes the chart with other timers into `file`, which has exactly the length that is due: `timers` of them, each
-    /// transition's starts as `starts` gives them, each test's timer as `timer` gives it. The version stays.
-    pub(crate) fn write_with(
-        &self,
+    /// transition's starts as `starts` gives them and its tests as `tests` does, each test's timer as `timer` gives it.
+    /// The version stays.
+    pub(crate) fn write_with<'a>(
+        &'a self,
         file: &mut [u8],
         timers: u8,
         starts: impl Fn(&Transition) -> TimerSet,
+        tests: impl Fn(&'a Transition) -> &'a [Test],
         timer: impl Fn(&Transition, u8) -> u8,
     ) {
         let body = (file.len() - 5) as u32;
@@ -198,14 +214,15 @@ impl Chart {
         for transition in &self.transitions {
             let started = starts(transition);
             let count = started.len() as u8;
-            let tests = transition.test_count;
-            let [high, low] = self.version.record_length(count, tests).to_be_bytes();
+            let tests = tests(transition);
+            let test_count = tests.len() as u8;
+            let [high, low] = self.version.record_length(count, test_count).to_be_bytes();
             output.put([high, low, 0, transition.source, 0, transition.target, transition.event, count]);
             for start in started {
                 output.put([start]);
             }
-            output.put([tests]);
-            for test in self.tests(transition) {
+            output.put([test_count]);
+            for test in tests {
                 let timer = timer(transition, test.timer);
                 output.put_test(self.version, timer, test.comparison as u8, test.constant);
             }
@@ -241,7 +258,7 @@ impl<'a> Output<'a> {
                 let [high, low] = constant.to_be_bytes();
                 self.put([timer, code, high, low]);
             }
-            Version::Two => {
+            Version::Two | Version::Three => {
                 let [a, b, c, d] = constant.to_be_bytes();
                 self.put([timer, code, a, b, c, d]);
             }
@@ -284,7 +301,7 @@ impl Fields<'_> {
     fn constant(&mut self, version: Version) -> Answer<u32> {
         match version {
             Version::One => self.number().map(u32::from),
-            Version::Two => self.bytes().map(u32::from_be_bytes),
+            Version::Two | Version::Three => self.bytes().map(u32::from_be_bytes),
         }
     }
 

@@ -103,7 +103,7 @@ impl Drawing {
         self
     }
 
-    /// The bytes of a constant: two in version 1, four in version 2 and in those that there are not.
+    /// The bytes of a constant: two in version 1, four in versions 2 and 3 and in those that there are not.
     fn width(&self) -> usize {
         match self.version {
             1 => 2,
@@ -366,4 +366,45 @@ pub fn twins_on_two_ways() -> Drawing {
             Arrow::new(3, 4).tests(1, AT_MOST, 3),
         ],
     )
+}
+
+/// Spare location 4, twins 0 and 1, version 3: 0→1 starts both; 1→2 tests 0 at least 2; 2→3 tests 1 at most 9; 4→1 tests 1
+/// at most 5 and starts 0, which would tell the twins apart if it counted.
+pub fn spare_beside_twins() -> Drawing {
+    let mut drawing = two_twins().version(3);
+    drawing.locations = 5;
+    drawing.transitions.push(Arrow::new(4, 1).tests(1, AT_MOST, 5).starts(&[0]));
+    drawing
+}
+
+/// Spare locations 4 and 5, which lead to each other, version 3: 0→1 starts 0; 1→2 tests 0 at least 1; 4→5; 5→4 tests 0 at
+/// least 1; 2→3.
+pub fn spare_cycle() -> Drawing {
+    let transitions = vec![
+        Arrow::new(0, 1).starts(&[0]),
+        Arrow::new(1, 2).tests(0, AT_LEAST, 1),
+        Arrow::new(4, 5),
+        Arrow::new(5, 4).tests(0, AT_LEAST, 1),
+        Arrow::new(2, 3),
+    ];
+    Drawing { accepting: vec![3], ..Drawing::new(6, 1, transitions) }.version(3)
+}
+
+/// Spare location 2, which accepts and tests a timer that nothing starts, version 3: 0→1; 2→1 tests 0 at least 0.
+pub fn spare_unstarted() -> Drawing {
+    Drawing::new(3, 1, vec![Arrow::new(0, 1), Arrow::new(2, 1).tests(0, AT_LEAST, 0)]).version(3)
+}
+
+/// Spare locations 2 to 5 in a row, whose last has a loop, version 3: 0→1 starts 0; 1→1 tests 0 at least 1; 2→3; 3→4; 4→5;
+/// 5→5 tests 0 at least 1. If they counted, the live sets would take 5 rounds.
+pub fn spare_row() -> Drawing {
+    let mut transitions = vec![Arrow::new(0, 1).starts(&[0]), Arrow::new(1, 1).tests(0, AT_LEAST, 1)];
+    transitions.extend([2, 3, 4].map(|source| Arrow::new(source, source + 1)));
+    transitions.push(Arrow::new(5, 5).tests(0, AT_LEAST, 1));
+    Drawing::new(6, 1, transitions).version(3)
+}
+
+/// Spare location 0, before the initial one, version 3: 1→2.
+pub fn spare_first() -> Drawing {
+    Drawing { initial: 1, ..Drawing::new(3, 0, vec![Arrow::new(1, 2)]) }.version(3)
 }

@@ -29,7 +29,7 @@ const LARGE_CONSTANTS: [u32; 16] = [
 ];
 
 /// Version bytes that are no version's.
-const NO_VERSIONS: [u8; 3] = [0, 3, u8::MAX];
+const NO_VERSIONS: [u8; 3] = [0, 4, u8::MAX];
 
 /// A small generator of random numbers (SplitMix64).
 #[derive(Clone, Debug)]
@@ -230,20 +230,20 @@ fn comparison(random: &mut Random, shape: &Shape) -> (u8, u32) {
     let constant = random.between(0, u64::from(most)) as u32;
     let large = match shape.version {
         Version::One => LARGEST_CONSTANT_VERSION_1,
-        Version::Two => random.pick(&LARGE_CONSTANTS),
+        Version::Two | Version::Three => random.pick(&LARGE_CONSTANTS),
     };
     if shape.lenient {
         return random.pick(&[(AT_LEAST, 0), (AT_MOST, large), (BELOW, large)]);
     }
     let code = random.below(5) as u8;
-    let is_large = shape.version == Version::Two && random.chance(1, 8);
+    let is_large = shape.version != Version::One && random.chance(1, 8);
     (code, if is_large { large } else { constant })
 }
 
-/// Stores a chart as version 2 and gives about one in `whole` of its tests a large constant, or the last that version 1
-/// holds.
+/// Stores a chart as version 2, or as 3 if it is of that, and gives about one in `whole` of its tests a large constant, or
+/// the last that version 1 holds.
 pub fn store_large(random: &mut Random, drawing: &mut Drawing, whole: u64) {
-    drawing.version = Version::Two as u8;
+    drawing.version = drawing.version.max(Version::Two as u8);
     for test in drawing.transitions.iter_mut().flat_map(|transition| &mut transition.tests) {
         if random.chance(1, whole) {
             test.2 = random.pick(&LARGE_CONSTANTS);
@@ -252,10 +252,10 @@ pub fn store_large(random: &mut Random, drawing: &mut Drawing, whole: u64) {
 }
 
 /// Gives about one in `whole` of a chart's tests a constant about the largest that the counter board takes; a few are
-/// one larger, in version 2, and such a chart is refused there.
+/// one larger, from version 2 on, and such a chart is refused there.
 pub fn store_about_counter(random: &mut Random, drawing: &mut Drawing, whole: u64) {
     let most = COUNTER_LARGEST_CONSTANT;
-    let beyond = most + u32::from(drawing.version == Version::Two as u8 && random.chance(1, 4));
+    let beyond = most + u32::from(drawing.version != Version::One as u8 && random.chance(1, 4));
     for test in drawing.transitions.iter_mut().flat_map(|transition| &mut transition.tests) {
         if random.chance(1, whole) {
             test.2 = random.pick(&[most - 1, most, most, beyond]);
@@ -290,6 +290,63 @@ pub fn add_twins(random: &mut Random, drawing: &mut Drawing) {
         test.0 = random.pick(&names[usize::from(test.0)]);
     }
     drawing.timers = was.len() as u8;
+}
+
+/// Adds to a chart locations that nothing reaches, if it may have more, and transitions that leave them, which start and
+/// test any timers. The new locations come last, or all are numbered anew. The version stays: before 3 such a chart is
+/// refused.
+pub fn add_spare(random: &mut Random, drawing: &mut Drawing) {
+    let before = drawing.locations;
+    let (few, many) = (random.between(1, 4) as u16, random.between(1, u64::from(before)) as u16);
+    let count = random.pick(&[1, 2, few, few, many]).min(MOST_LOCATIONS - before);
+    if count == 0 {
+        return;
+    }
+    // Of each location its new number: those that there were, then the spare ones.
+    let mut numbers: Vec<u16> = (0..before + count).collect();
+    if random.chance(2, 3) {
+        random.shuffle(&mut numbers);
+    }
+    let (old, spare) = numbers.split_at(usize::from(before));
+    let named_now = |location: &mut u16| *location = old[usize::from(*location)];
+    drawing.locations = before + count;
+    named_now(&mut drawing.initial);
+    drawing.accepting.iter_mut().for_each(named_now);
+    drawing.accepting.extend(spare.iter().filter(|_| random.chance(1, 3)));
+    drawing.accepting.sort_unstable();
+    for transition in &mut drawing.transitions {
+        named_now(&mut transition.source);
+        named_now(&mut transition.target);
+    }
+    let mut added = Vec::new();
+    if random.chance(1, 2) {
+        // A cycle of all of them, or of one.
+        let cycle = if random.chance(1, 2) { spare } else { &spare[..1] };
+        added.extend((0..cycle.len()).map(|index| Arrow::new(cycle[index], cycle[(index + 1) % cycle.len()])));
+    }
+    for _ in 0..random.between(1, 2 * u64::from(count)) {
+        let targets = random.pick(&[old, spare]);
+        added.push(Arrow::new(random.pick(spare), random.pick(targets)));
+    }
+    added.truncate(usize::from(MOST_TRANSITIONS) - drawing.transitions.len());
+    // Sometimes one that the counter board does not take.
+    let is_large = drawing.version != Version::One as u8 && random.chance(1, 8);
+    let large = if is_large { COUNTER_LARGEST_CONSTANT + 1 } else { COUNTER_LARGEST_CONSTANT };
+    for mut transition in added {
+        transition.event = random.word() as u8;
+        if drawing.timers > 0 {
+            let (half, few) = (random.word(), random.word() & random.word() & random.word());
+            let started = random.pick(&[0, 0, half, few]);
+            transition.starts = (0..drawing.timers).filter(|timer| started >> timer & 1 == 1).collect();
+            for _ in 0..random.pick(&[0, 0, 1, 2, MOST_TESTS]) {
+                let timer = random.below(u64::from(drawing.timers)) as u8;
+                let small = random.below(20) as u32;
+                transition.tests.push((timer, random.below(5) as u8, random.pick(&[small, small, small, large])));
+            }
+        }
+        let place = random.below(drawing.transitions.len() as u64 + 1) as usize;
+        drawing.transitions.insert(place, transition);
+    }
 }
 
 /// Of each location the timers that every path to it starts, as a word.
@@ -522,9 +579,9 @@ pub fn random_chain(random: &mut Random) -> Drawing {
     }
 }
 
-/// The longest file of a version that passes 1 to 10, 54,254 bytes in version 1 and 62,430 in version 2: all limits are
-/// reached, but the one transition that leaves the initial location has no tests. Every transition starts all timers, so
-/// that all are twins.
+/// The longest file of a version that passes 1 to 10 and has no spare locations, 54,254 bytes in version 1 and 62,430 in
+/// versions 2 and 3: all limits are reached, but the one transition that leaves the initial location has no tests. Every
+/// transition starts all timers, so that all are twins.
 pub fn longest(random: &mut Random, version: Version) -> Drawing {
     let all: Vec<u8> = (0..MOST_TIMERS).collect();
     let last = MOST_LOCATIONS - 1;
@@ -543,6 +600,16 @@ pub fn longest(random: &mut Random, version: Version) -> Drawing {
     let accepting = (0..=last).collect();
     let version = version as u8;
     Drawing { version, locations: MOST_LOCATIONS, initial: 0, timers: MOST_TIMERS, accepting, transitions }
+}
+
+/// The largest file that there is, 62,478 bytes, as version 3: it passes 1 to 10, since every transition leaves a spare
+/// location, and the initial one alone is reached.
+pub fn largest_spare(random: &mut Random) -> Drawing {
+    let mut drawing = longest(random, Version::Three);
+    let first = &mut drawing.transitions[0];
+    first.source = 1;
+    first.tests = vec![(0, AT_MOST, Version::Three.largest_constant()); usize::from(MOST_TESTS)];
+    drawing
 }
 
 /// A number of the chart spoilt, so that its file is refused by 2 to 10, and perhaps by none; as a file.
@@ -600,14 +667,15 @@ pub fn spoilt(random: &mut Random, drawing: &Drawing) -> Vec<u8> {
     )
 }
 
-/// A file under another version byte: mostly the other version's, so that its constants have the wrong width; a good
-/// file without tests is good under that one too.
+/// A file under another version byte: mostly another version's, whose constants may have another width; a good file
+/// without tests is good under that one too.
 pub fn relabelled(random: &mut Random, file: &[u8]) -> Vec<u8> {
     let mut file = file.to_vec();
     file[0] = match file[0] {
         _ if random.chance(1, 6) => random.pick(&NO_VERSIONS),
-        1 => 2,
-        _ => 1,
+        1 => random.pick(&[2, 3]),
+        2 => random.pick(&[1, 3]),
+        _ => random.pick(&[1, 2]),
     };
     file
 }

@@ -3,7 +3,7 @@
 
 use crate::controller::{Board, Head, SetUp, Start, State};
 use crate::drawing::{chart_a, chart_b, chart_c, one_location, self_loop, Drawing};
-use crate::generator::{accepted, counts, damaged, spoilt, store_large, Random, Shape};
+use crate::generator::{accepted, add_spare, counts, damaged, spoilt, store_large, Random, Shape};
 use crate::limits::{MOST_HEADS, MOST_LOCATIONS, MOST_TICKS, MOST_TIMERS, TIMERS};
 use crate::version::Version;
 
@@ -27,7 +27,8 @@ pub enum Call {
     Turn,
 }
 
-/// A chart with at most so many timers, whose events are few, so that often several transitions leave at the same one.
+/// A chart with at most so many timers, some with spare locations, whose events are few, so that often several transitions
+/// leave at the same one.
 fn drawing(random: &mut Random, most_timers: u8) -> Drawing {
     let most = random.pick(&[2, 4, 8, 8, 16, 40]);
     let shape = Shape::random(random, most);
@@ -37,6 +38,10 @@ fn drawing(random: &mut Random, most_timers: u8) -> Drawing {
     };
     if drawing.timers > most_timers {
         drawing = one_location();
+    }
+    if random.chance(1, 6) {
+        drawing.version = Version::Three as u8;
+        add_spare(random, &mut drawing);
     }
     if random.chance(1, 8) {
         store_large(random, &mut drawing, 4);

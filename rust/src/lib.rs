@@ -4,10 +4,10 @@
 //! The modules follow the parts of document 01, with what document 02 asks since, and share no code with the proved
 //! library:
 //!
-//! - [`version`]: the versions of a file, and the bytes of a constant in each;
+//! - [`version`]: the versions of a file, the bytes of a constant in each, and which allow spare locations;
 //! - [`chart`]: the chart, its reader (refusals 1 to 8) and its writer;
 //! - [`lists`]: the same reader and writer over lent lists;
-//! - [`analysis`]: reached, unstarted, live with the number of rounds; families, their board numbers, used;
+//! - [`analysis`]: reached and spare, unstarted, live with the number of rounds; families, their board numbers, used;
 //! - [`twins`]: timers that are always started together, which count as one before families are formed;
 //! - [`floor`]: the fewest timers of any plan, or the fullest live set with twins counted once;
 //! - [`rewriting`]: the chart's file for a board of K timers;

@@ -1,5 +1,5 @@
 //! The limits that document 01 sets to a chart, its file, its step lists, the program's input and a refusal's place, and
-//! document 02 to the search for the floor, to files of version 2, to a controller's heads and to the counter board.
+//! document 02 to the search for the floor, to files of later versions, to a controller's heads and to the counter board.
 
 /// The most locations of a chart.
 pub const MOST_LOCATIONS: u16 = 256;
@@ -16,13 +16,13 @@ pub const MOST_STARTS: u8 = MOST_TIMERS;
 /// The most tests of a transition.
 pub const MOST_TESTS: u8 = 8;
 
-/// The largest constant of a test: of version 2.
+/// The largest constant of a test: of versions 2 and 3.
 pub const LARGEST_CONSTANT: u32 = 4_294_967_295;
 
 /// The largest constant of a test of version 1.
 pub const LARGEST_CONSTANT_VERSION_1: u32 = 65_535;
 
-/// The bytes of the largest chart file: of version 2.
+/// The bytes of the largest chart file: of versions 2 and 3.
 pub const LARGEST_FILE: usize = 62_478;
 
 /// The bytes of the largest chart file of version 1.

@@ -1,7 +1,7 @@
 //! The rewriting of a chart for a board of K timers.
 
 use crate::analysis::{judge, used, Families, Liveness};
-use crate::chart::{Chart, Transition};
+use crate::chart::{Chart, Test, Transition};
 use crate::floor::Floor;
 use crate::limits::{MOST_TIMERS, TIMERS};
 use crate::refusal::{Answer, Refusal};
@@ -50,7 +50,7 @@ impl Plan {
         let graph = judge(&chart)?;
         judge_board(k)?;
         let liveness = Liveness::of(&chart, graph);
-        let twins = Twins::of(&chart);
+        let twins = Twins::of(&chart, liveness.reached());
         let families = Families::of(&chart, &liveness, &twins);
         let given = families.first_fit(k as usize).ok_or(Refusal::nowhere(20))?;
         let mut numbers = vec![0; TIMERS * usize::from(chart.locations())];
@@ -86,12 +86,21 @@ impl Plan {
     /// Writes the rewritten chart's file to the front of `out` and returns its length. Judges 21.
     ///
     /// A test reads the number at the transition's source. Of the starts only those live at the target remain, under
-    /// their number there, which twins share; they form a set, so they stand rising and each once.
+    /// their number there, which twins share; they form a set, so they stand rising and each once. A transition that
+    /// leaves a spare location is left without tests and starts.
     fn write(&self, out: &mut [u8]) -> Answer<usize> {
-        let born = |transition: &Transition| {
-            self.twins.merged(transition.starts.common(self.live()[usize::from(transition.target)]))
+        let is_spare = |transition: &Transition| !self.liveness.reached().has(transition.source);
+        let born = |transition: &Transition| match is_spare(transition) {
+            true => TimerSet::EMPTY,
+            false => self.twins.merged(transition.starts.common(self.live()[usize::from(transition.target)])),
         };
-        let length = self.chart.file_length_with(|transition| born(transition).len());
+        let tests = |transition| -> &[Test] {
+            match is_spare(transition) {
+                true => &[],
+                false => self.chart.tests(transition),
+            }
+        };
+        let length = self.chart.file_length_with(|transition| (born(transition).len(), tests(transition)));
         let Some(file) = out.get_mut(..length) else {
             return Err(Refusal::nowhere(21));
         };
@@ -99,6 +108,7 @@ impl Plan {
             file,
             self.used,
             |transition| born(transition).into_iter().map(|timer| self.number(transition.target, timer)).collect(),
+            tests,
             |transition, timer| self.number(transition.source, timer),
         );
         Ok(length)

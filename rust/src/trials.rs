@@ -4,6 +4,7 @@
 
 use std::fmt::{Debug, Display, Formatter};
 
+use crate::analysis::judge;
 use crate::chart::Chart;
 use crate::controller::{self, parts_of, Board, Head, Parts, Report, SetUp, State, Turn};
 use crate::generator::{Random, Steps};
@@ -13,7 +14,9 @@ use crate::library;
 use crate::limits::{MOST_HEADS, MOST_TICKS};
 use crate::player::{self, Playing};
 use crate::refusal::{Answer, Refusal};
+use crate::sets::LocationSet;
 use crate::tally::{number_of, ByNumber};
+use crate::version::Version;
 use crate::NOWHERE;
 
 /// The player.
@@ -77,6 +80,12 @@ pub struct Tally {
     cut_events: u64,
     /// Controllers by their number of heads.
     heads: [u64; MOST_HEADS],
+    /// Heads with spare locations; turns at which such a head served an event at a reached location, and took a transition.
+    spare_heads: u64,
+    beside_spare: u64,
+    /// Turns at which a head that nobody set up stood at a spare location and served an event: no transition was taken, one
+    /// was.
+    at_spare: [u64; 2],
 }
 
 impl Tally {
@@ -94,7 +103,8 @@ impl Tally {
         }
         let named = REASONS.into_iter().zip(&self.reasons).filter(|(_, &count)| count == 0);
         missing.extend(named.map(|(name, _)| name.to_string()));
-        if self.reports.iter().chain(&self.heads).chain(&[self.cut_events]).any(|&count| count == 0) {
+        let others = [self.cut_events, self.spare_heads, self.beside_spare];
+        if self.reports.iter().chain(&self.heads).chain(&self.at_spare).chain(&others).any(|&count| count == 0) {
             missing.push(self.to_string());
         }
         missing
@@ -109,9 +119,15 @@ impl Tally {
 impl Display for Tally {
     fn fmt(&self, f: &mut Formatter<'_>) -> std::fmt::Result {
         let Tally { heads, reports: [nothing, none_taken, taken], cut_events, reasons, .. } = self;
+        let Tally { spare_heads, beside_spare, at_spare: [stays, leaves], .. } = self;
         write!(f, "controllers of 1 to 8 heads: {heads:?}; turns with nothing waiting: {nothing}, ")?;
         write!(f, "no transition taken: {none_taken} (with the event's low byte one would be: {cut_events}), ")?;
-        write!(f, "a transition taken: {taken}; refused alone for")?;
+        write!(
+            f,
+            "a transition taken: {taken}; heads with spare locations: {spare_heads}, transitions that they took "
+        )?;
+        write!(f, "from reached ones: {beside_spare}, from spare ones: {leaves}, none taken there: {stays}; ")?;
+        write!(f, "refused alone for")?;
         REASONS.iter().zip(reasons).try_for_each(|(name, count)| write!(f, " {name}: {count};"))
     }
 }
@@ -198,7 +214,8 @@ impl Trials {
                 let reason = later_reason(board, &before, call, refusal);
                 reason.into_iter().for_each(|name| self.tally.count_reason(name));
             }
-            Ok(Some(Turn { report, .. })) => {
+            Ok(Some(Turn { head, report })) => {
+                self.count_spare(board, &before, head as usize, report);
                 let index = match report {
                     Report::Nothing => 0,
                     Report::NoneTaken => 1,
@@ -211,6 +228,22 @@ impl Trials {
             Ok(None) => {}
         }
         Ok(answer)
+    }
+
+    /// Counts a turn of a head whose chart has spare locations.
+    fn count_spare(&mut self, board: &Board, before: &State, head: usize, report: Report) {
+        let taken = match report {
+            Report::Nothing => return,
+            Report::NoneTaken => false,
+            Report::Taken(_) => true,
+        };
+        let file = parts_of(&board.files, &board.heads.lengths).nth(head).expect("the head has a file");
+        if let Some(reached) = reached_beside_spare(file) {
+            match reached.has(before.heads[head].location as u8) {
+                true => self.tally.beside_spare += u64::from(taken),
+                false => self.tally.at_spare[usize::from(taken)] += 1,
+            }
+        }
     }
 
     /// One controller: set-up, also with what is spoilt; a list of so many calls from there on; and calls on states that
@@ -226,6 +259,7 @@ impl Trials {
         let handed = heads.set_up(random);
         let mut state = any_state(random);
         self.tally.heads[heads.number() - 1] += 1;
+        self.tally.spare_heads += heads.files.iter().filter_map(|file| reached_beside_spare(file)).count() as u64;
         for _ in 0..3 {
             let spoilt = self.spoilt(&heads, &handed);
             let _ = self.set_up(&mut state.clone(), &spoilt)?;
@@ -383,6 +417,16 @@ fn takes_low_byte(board: &Board, state: &State) -> bool {
     let mut cut = *state;
     cut.heads[state.turn as usize].event &= 255;
     cut != *state && matches!(controller::turn(&mut cut, board), Ok(Turn { report: Report::Taken(_), .. }))
+}
+
+/// The reached locations of a good file's chart, if it has spare ones too.
+fn reached_beside_spare(file: &[u8]) -> Option<LocationSet> {
+    if file[0] != Version::Three as u8 {
+        return None;
+    }
+    let chart = Chart::read(file).expect("the file is good");
+    let reached = *judge(&chart).expect("the chart is accepted").reached();
+    (reached.count() < chart.locations()).then_some(reached)
 }
 
 /// Why set-up refuses, if the number has several reasons and only one of them holds.

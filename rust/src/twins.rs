@@ -1,9 +1,10 @@
 //! Twins (document 02, P6): timers that every transition starts together or not at all. Before families are formed they
-//! count as one timer, the lowest of them, which is live wherever any of them is.
+//! count as one timer, the lowest of them, which is live wherever any of them is. Transitions that leave spare locations are
+//! passed over (P7).
 
 use crate::chart::Chart;
 use crate::limits::TIMERS;
-use crate::sets::TimerSet;
+use crate::sets::{LocationSet, TimerSet};
 
 /// Of each timer of a chart the lowest of its twins, itself among them.
 #[derive(Clone, Debug, PartialEq, Eq)]
@@ -25,10 +26,11 @@ impl Twins {
         Twins { lowest, higher: TimerSet::EMPTY }
     };
 
-    /// The twins of a chart, whether or not they are tested or live anywhere. Timers that nothing starts are twins too.
-    pub fn of(chart: &Chart) -> Self {
+    /// The twins of a chart with these reached locations, whether or not they are tested or live anywhere. Timers that
+    /// nothing starts are twins too.
+    pub fn of(chart: &Chart, reached: &LocationSet) -> Self {
         let mut groups = Groups::of(chart.timers());
-        for transition in chart.transitions() {
+        for transition in chart.transitions_from(reached) {
             if groups.count == usize::from(chart.timers()) {
                 // All are apart.
                 return Twins::NONE;

@@ -1,4 +1,5 @@
-//! The versions of a chart file, and what hangs on them: how many bytes a constant has.
+//! The versions of a chart file, and what hangs on them: how many bytes a constant has, and whether there may be spare
+//! locations.
 
 use crate::limits::{LARGEST_CONSTANT, LARGEST_CONSTANT_VERSION_1};
 
@@ -10,18 +11,30 @@ pub enum Version {
     One = 1,
     /// Constants of four bytes.
     Two = 2,
+    /// Constants of four bytes, and spare locations are allowed.
+    Three = 3,
 }
 
 impl Version {
-    pub const ALL: [Version; 2] = [Version::One, Version::Two];
+    pub const ALL: [Version; 3] = [Version::One, Version::Two, Version::Three];
 
-    /// The version of a byte; none for one that is neither 1 nor 2.
+    /// The version of a byte; none for one that is not 1 to 3.
     #[inline]
     pub const fn from_byte(byte: u8) -> Option<Self> {
         match byte {
             1 => Some(Version::One),
             2 => Some(Version::Two),
-            0 | 3..=255 => None,
+            3 => Some(Version::Three),
+            0 | 4..=255 => None,
+        }
+    }
+
+    /// Whether a chart may have spare locations: such as no path from the initial one reaches (document 02, P7).
+    #[inline]
+    pub const fn allows_spare(self) -> bool {
+        match self {
+            Version::One | Version::Two => false,
+            Version::Three => true,
         }
     }
 
@@ -30,7 +43,7 @@ impl Version {
     pub const fn largest_constant(self) -> u32 {
         match self {
             Version::One => LARGEST_CONSTANT_VERSION_1,
-            Version::Two => LARGEST_CONSTANT,
+            Version::Two | Version::Three => LARGEST_CONSTANT,
         }
     }
 
@@ -39,7 +52,7 @@ impl Version {
     pub const fn test_length(self) -> u16 {
         match self {
             Version::One => 4,
-            Version::Two => 6,
+            Version::Two | Version::Three => 6,
         }
     }
 

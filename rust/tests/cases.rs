@@ -11,81 +11,125 @@ use timing_chart::analysis::{self, Analysis};
 use timing_chart::chart::Chart;
 use timing_chart::controller::{self, Board, Head, Parts, Report, SetUp, Start, State, Turn};
 use timing_chart::counter::{self, CounterPlaying};
+use timing_chart::drawing::{Arrow, Drawing};
 use timing_chart::limits::{LARGEST_FILE, LOCATIONS};
 use timing_chart::listing::listing;
 use timing_chart::lists::{self, Header, Lists};
 use timing_chart::player::{self, Playing};
 use timing_chart::rewriting::{self, Rewriting};
 use timing_chart::twins::Twins;
-use timing_chart::{Answer, Refusal};
+use timing_chart::{Answer, Refusal, NOWHERE};
 
 /// The cases that hold now, but for those of [`SUPERSEDED`]: of each file how many there are, and how many of them expect
 /// a number of rounds.
-const CASES: [(&str, usize, usize); 6] = [
+const CASES: [(&str, usize, usize); 7] = [
     ("p01.jsonl", 48, 0),
     ("p02.jsonl", 125, 0),
     ("p03.jsonl", 52, 52),
     ("p04.jsonl", 81, 0),
     ("p05.jsonl", 86, 0),
     ("p06.jsonl", 53, 15),
+    ("p07.jsonl", 98, 16),
 ];
 
-/// The cases whose answers a later request has changed, with the figures that hold now: by document 02, P6, since their
-/// charts have twins. They were computed for the request of their file, and stand there as they were.
-const SUPERSEDED: [Superseded; 8] = [
-    Superseded { file: "p01.jsonl", line: 46, used: 10, floor: 10, searched: true },
-    Superseded { file: "p01.jsonl", line: 47, used: 10, floor: 10, searched: true },
-    Superseded { file: "p01.jsonl", line: 48, used: 10, floor: 10, searched: true },
-    Superseded { file: "p03.jsonl", line: 13, used: 10, floor: 10, searched: true },
-    Superseded { file: "p03.jsonl", line: 25, used: 4, floor: 4, searched: true },
-    Superseded { file: "p03.jsonl", line: 27, used: 10, floor: 10, searched: false },
-    Superseded { file: "p03.jsonl", line: 28, used: 9, floor: 9, searched: true },
-    Superseded { file: "p03.jsonl", line: 36, used: 20, floor: 20, searched: false },
+/// The cases whose answers a later request has changed, with what holds now. They were computed for the request of their
+/// file, and stand there as they were.
+const SUPERSEDED: [Superseded; 12] = [
+    Superseded { file: "p01.jsonl", line: 46, now: Now::Figures { used: 10, floor: 10, searched: true } },
+    Superseded { file: "p01.jsonl", line: 47, now: Now::Figures { used: 10, floor: 10, searched: true } },
+    Superseded { file: "p01.jsonl", line: 48, now: Now::Figures { used: 10, floor: 10, searched: true } },
+    Superseded { file: "p02.jsonl", line: 92, now: Now::Written { length: 51 } },
+    Superseded { file: "p02.jsonl", line: 119, now: Now::Written { length: 99 } },
+    Superseded { file: "p02.jsonl", line: 121, now: Now::NoRoom },
+    Superseded { file: "p02.jsonl", line: 124, now: Now::Written { length: 40 } },
+    Superseded { file: "p03.jsonl", line: 13, now: Now::Figures { used: 10, floor: 10, searched: true } },
+    Superseded { file: "p03.jsonl", line: 25, now: Now::Figures { used: 4, floor: 4, searched: true } },
+    Superseded { file: "p03.jsonl", line: 27, now: Now::Figures { used: 10, floor: 10, searched: false } },
+    Superseded { file: "p03.jsonl", line: 28, now: Now::Figures { used: 9, floor: 9, searched: true } },
+    Superseded { file: "p03.jsonl", line: 36, now: Now::Figures { used: 20, floor: 20, searched: false } },
 ];
 
-/// A case, and its figures by now; of the rewriting `used` alone counts.
+/// A case by its file and its line, and what holds now.
 struct Superseded {
     file: &'static str,
     line: usize,
-    used: u64,
-    floor: u64,
-    searched: bool,
+    now: Now,
+}
+
+enum Now {
+    /// By document 02, P6, since the chart has twins: other figures; of the rewriting `used` alone counts.
+    Figures { used: u64, floor: u64, searched: bool },
+    /// By document 02, P7, since there is a version 3: a chart of it is written, to a file of so many bytes; before, it was
+    /// refused 2.
+    Written { length: usize },
+    /// The same where the file finds no room: 21.
+    NoRoom,
 }
 
 impl Superseded {
-    /// The case with the answer that holds now. What twins do not change stays the case's: the live sets and the rounds,
-    /// and which timers the program lists. The board numbers and the rewritten file are this crate's, which
-    /// tests/definitions.rs compares with the definitions.
+    /// The case with the answer that holds now.
     fn now(&self, case: &Json) -> Json {
-        let chart = Chart::read(&case.bytes("file")).expect("the chart is accepted");
-        assert_ne!(Twins::of(&chart), Twins::NONE);
-        let now = match case.text("call") {
-            "analysis" => {
-                let answer = case.get("answer").expect("a result").clone();
-                let figures = answer.with("used", Json::Number(self.used)).with("floor", Json::Number(self.floor));
-                figures.with("searched", Json::Bool(self.searched))
+        match self.now {
+            Now::Figures { used, floor, searched } => with_figures(case, used, floor, searched),
+            Now::Written { length } => {
+                was_wrong_version(case);
+                // The file as tests draw it, which is not done by the writer.
+                let file = drawing_of(case).file();
+                assert_eq!(file.len(), length);
+                case.clone().without("refused").with("answer", hex(&file))
             }
-            "program" => {
-                let text = listing(&program_input(case));
-                let word = if self.searched { "floor" } else { "seen" };
-                let figures = format!("used {} {word} {} limit {}\n", self.used, self.floor, case.number("k"));
-                assert!(text.starts_with(&figures));
-                assert_eq!(listed(&text), listed(case.text("answer")));
-                Json::Text(text)
+            Now::NoRoom => {
+                was_wrong_version(case);
+                assert!(case.number("room") < drawing_of(case).file().len() as u64);
+                case.clone().with("refused", Json::List([21, NOWHERE].map(Json::Number).to_vec()))
             }
-            "rewriting" => {
-                let mut out = vec![0; LARGEST_FILE];
-                let answer = rewriting::rewrite(&case.bytes("file"), case.number("k") as u32, &mut out);
-                let length = answer.expect("the chart fits the board").length as usize;
-                let file = out[..length].iter().map(|byte| format!("{byte:02x}")).collect();
-                let answer = case.get("answer").expect("a result").clone();
-                answer.with("used", Json::Number(self.used)).with("file", Json::Text(file))
-            }
-            call => panic!("no figures of {call}"),
-        };
-        assert_ne!(Some(&now), case.get("answer"));
-        case.clone().with("answer", now)
+        }
     }
+}
+
+/// Asserts that the case is of the writer and of version 3, and that it was refused for this.
+fn was_wrong_version(case: &Json) {
+    assert_eq!((case.text("call"), case.number("version")), ("write", 3));
+    assert_eq!(case.numbers::<u64>("refused"), [2, NOWHERE]);
+}
+
+/// A case whose chart has twins, with the answer that holds now. What twins do not change stays the case's: the live sets
+/// and the rounds, and which timers the program lists. The board numbers and the rewritten file are this crate's, which
+/// tests/definitions.rs compares with the definitions.
+fn with_figures(case: &Json, used: u64, floor: u64, searched: bool) -> Json {
+    let chart = Chart::read(&case.bytes("file")).expect("the chart is accepted");
+    let graph = analysis::judge(&chart).expect("the chart is accepted");
+    assert_ne!(Twins::of(&chart, graph.reached()), Twins::NONE);
+    let now = match case.text("call") {
+        "analysis" => {
+            let answer = case.get("answer").expect("a result").clone();
+            let figures = answer.with("used", Json::Number(used)).with("floor", Json::Number(floor));
+            figures.with("searched", Json::Bool(searched))
+        }
+        "program" => {
+            let text = listing(&program_input(case));
+            let word = if searched { "floor" } else { "seen" };
+            let figures = format!("used {used} {word} {floor} limit {}\n", case.number("k"));
+            assert!(text.starts_with(&figures));
+            assert_eq!(listed(&text), listed(case.text("answer")));
+            Json::Text(text)
+        }
+        "rewriting" => {
+            let mut out = vec![0; LARGEST_FILE];
+            let answer = rewriting::rewrite(&case.bytes("file"), case.number("k") as u32, &mut out);
+            let length = answer.expect("the chart fits the board").length as usize;
+            let answer = case.get("answer").expect("a result").clone();
+            answer.with("used", Json::Number(used)).with("file", hex(&out[..length]))
+        }
+        call => panic!("no figures of {call}"),
+    };
+    assert_ne!(Some(&now), case.get("answer"));
+    case.clone().with("answer", now)
+}
+
+/// Bytes as a case gives them.
+fn hex(bytes: &[u8]) -> Json {
+    Json::Text(bytes.iter().map(|byte| format!("{byte:02x}")).collect())
 }
 
 /// The locations of the program's text with the timers that are listed there, without their board numbers.
@@ -218,6 +262,13 @@ impl Json {
     fn with(mut self, name: &str, value: Json) -> Json {
         let Json::Object(entries) = &mut self else { panic!("no object: {self:?}") };
         entries.insert(name.to_string(), value);
+        self
+    }
+
+    /// The object with no value under a name.
+    fn without(mut self, name: &str) -> Json {
+        let Json::Object(entries) = &mut self else { panic!("no object: {self:?}") };
+        entries.remove(name);
         self
     }
 
@@ -449,6 +500,26 @@ fn state_of(case: &Json, given: &Json) -> State {
         begin += block;
     }
     state
+}
+
+/// The chart that a case hands to the writer.
+fn drawing_of(case: &Json) -> Drawing {
+    let [sources, targets, accepting] = ["source", "target", "accepting"].map(|name| case.numbers::<u16>(name));
+    let [timers, codes, starts] = ["test_timer", "test_code", "starts"].map(|name| case.numbers::<u8>(name));
+    let mut starts = starts.into_iter();
+    let mut tests = timers.into_iter().zip(codes).zip(case.numbers::<u32>("test_constant"));
+    let mut counts = case.numbers::<usize>("start_count").into_iter().zip(case.numbers::<usize>("test_count"));
+    let mut arrow = |((source, target), event)| {
+        let (start_count, test_count) = counts.next().expect("each transition has these numbers");
+        let starts = starts.by_ref().take(start_count).collect();
+        let test = |((timer, code), constant)| (timer, code, constant);
+        let tests = tests.by_ref().take(test_count).map(test).collect();
+        Arrow { source, target, event, starts, tests }
+    };
+    let transitions = sources.into_iter().zip(targets).zip(case.numbers::<u8>("event")).map(&mut arrow).collect();
+    let [locations, initial] = ["locations", "initial"].map(|name| case.number(name) as u16);
+    let [version, timers] = ["version", "timers"].map(|name| case.number(name) as u8);
+    Drawing { version, locations, initial, timers, accepting, transitions }
 }
 
 /// The starts of each transition as one word, from the timers of all of them and how many each transition has.

@@ -2,7 +2,7 @@
 //! what is promised of it, on random lists of calls. The differential test compares the two at large.
 
 use timing_chart::controller::{Board, Head, Report, SetUp, Start, State, Turn};
-use timing_chart::drawing::{chart_b, Arrow, Drawing, AT_LEAST, BELOW};
+use timing_chart::drawing::{chart_b, spare_beside_twins, Arrow, Drawing, AT_LEAST, BELOW};
 use timing_chart::limits::{MOST_HEADS, MOST_TICKS};
 use timing_chart::trials::{Calls, Trials};
 use timing_chart::{Answer, Refusal, NOWHERE};
@@ -224,12 +224,30 @@ fn later_calls_judge(calls: Calls) {
     assert_eq!(unused.state, expected);
 }
 
+fn spare_locations(calls: Calls) {
+    let file = spare_beside_twins().file();
+    let heads = Driven::set_up(calls, 2, &[(&file, 2, &[7, 7])]).unwrap();
+    // A run comes to no spare location, but a state that nobody set up may have it, and is judged as any other.
+    for (count, report, location, counts) in [(4, Report::Taken(3), 1, [0, 5]), (5, Report::NoneTaken, 4, [8, 6])] {
+        let mut heads = heads.clone();
+        heads.state.heads[0].location = 4;
+        heads.state.counts[1] = count;
+        assert_eq!((heads.event(0, 0, 1), heads.turn()), (Ok(()), told(0, report)));
+        assert_eq!((heads.state.heads[0], &heads.state.counts[..2]), (at(location, 1), &counts[..]));
+    }
+    assert_eq!(heads.judged(|state| state.heads[0].location = 5), [refused(32); 2]);
+    let version_2 = spare_beside_twins().version(2).file();
+    let set_up = Driven::set_up(calls, 2, &[(&file, 2, &[7, 7]), (&version_2, 2, &[])]);
+    assert_eq!(set_up.map(drop), Err(Refusal { number: 9, place: 4 }));
+}
+
 fn all(calls: Calls) {
     two_heads(calls);
     lowest_transition(calls);
     turns_go_round(calls);
     set_up_judges(calls);
     later_calls_judge(calls);
+    spare_locations(calls);
 }
 
 #[test]

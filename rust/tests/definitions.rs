@@ -7,14 +7,15 @@ use timing_chart::analysis::{self, analyse, Analysis};
 use timing_chart::chart::Chart;
 use timing_chart::counter::{play_counter, CounterPlaying};
 use timing_chart::drawing::{
-    chart_a, chart_b, chart_c, dwell, lowest_untested, over_floor, self_loop, twins_around, twins_on_two_ways,
-    two_twins, Arrow, Drawing, AT_LEAST,
+    chart_a, chart_b, chart_c, dwell, lowest_untested, over_floor, self_loop, spare_beside_twins, spare_cycle,
+    spare_first, spare_row, spare_unstarted, twins_around, twins_on_two_ways, two_twins, Arrow, Drawing, AT_LEAST,
 };
 use timing_chart::generator::*;
 use timing_chart::limits::{
     LARGEST_CONSTANT_VERSION_1, LARGEST_FILE, LOCATIONS, MOST_LOCATIONS, MOST_SEARCHED, MOST_TESTS, MOST_TICKS,
     TRANSITIONS,
 };
+use timing_chart::listing::listing;
 use timing_chart::lists::{self, Header, LentLists, Lists};
 use timing_chart::player::{play, Playing};
 use timing_chart::rewriting::{rewrite, Rewriting};
@@ -37,11 +38,24 @@ fn reached(drawing: &Drawing, from: u16, passes: impl Fn(&Arrow) -> bool) -> BTr
     found
 }
 
-fn judged(drawing: &Drawing) -> Answer<()> {
+/// The locations that no path from the initial one reaches.
+fn spare(drawing: &Drawing) -> BTreeSet<u16> {
     let all = reached(drawing, drawing.initial, |_| true);
-    if let Some(place) = (0..drawing.locations).find(|location| !all.contains(location)) {
+    (0..drawing.locations).filter(|location| !all.contains(location)).collect()
+}
+
+/// The chart without the transitions that leave spare locations.
+fn without_spare_transitions(drawing: &Drawing) -> Drawing {
+    let (mut kept, spare) = (drawing.clone(), spare(drawing));
+    kept.transitions.retain(|transition| !spare.contains(&transition.source));
+    kept
+}
+
+fn judged(drawing: &Drawing) -> Answer<()> {
+    if let (1 | 2, Some(&place)) = (drawing.version, spare(drawing).first()) {
         return Err(Refusal { number: 9, place: u64::from(place) });
     }
+    // A transition that leaves a spare location is on no path from the initial one.
     let unstarted = |transition: &Arrow| {
         transition.tests.iter().any(|&(timer, _, _)| {
             reached(drawing, drawing.initial, |other| !other.is_start(timer)).contains(&transition.source)
@@ -53,6 +67,7 @@ fn judged(drawing: &Drawing) -> Answer<()> {
     }
 }
 
+/// Whether a timer is live at a reached location. Paths from there come to no spare one.
 fn is_live(drawing: &Drawing, location: u16, timer: u8) -> bool {
     let before_a_start = reached(drawing, location, |transition| !transition.is_start(timer));
     drawing
@@ -62,13 +77,15 @@ fn is_live(drawing: &Drawing, location: u16, timer: u8) -> bool {
 }
 
 /// The live sets as words, made in rounds: each makes all locations' sets from those of the round before, the first
-/// from empty ones, and the first that changes no set is the last. With the number of rounds.
+/// from empty ones, and the first that changes no set is the last. Those of spare locations have no timers in any round.
+/// With the number of rounds.
 fn in_rounds(drawing: &Drawing) -> (Vec<u64>, u64) {
+    let spare = spare(drawing);
     let mut before = vec![0; usize::from(drawing.locations)];
     let mut rounds = 0;
     loop {
         let mut sets = vec![0; usize::from(drawing.locations)];
-        for transition in &drawing.transitions {
+        for transition in drawing.transitions.iter().filter(|transition| !spare.contains(&transition.source)) {
             let tested = transition.tests.iter().fold(0, |word, test| word | 1 << test.0);
             let started = transition.starts.iter().fold(0, |word, timer| word | 1 << timer);
             sets[usize::from(transition.source)] |= tested | before[usize::from(transition.target)] & !started;
@@ -81,15 +98,27 @@ fn in_rounds(drawing: &Drawing) -> (Vec<u64>, u64) {
     }
 }
 
-/// Whether every transition starts both timers or neither.
+/// Whether every transition of these starts both timers or neither.
+fn start_together(transitions: &[Arrow], first: u8, second: u8) -> bool {
+    transitions.iter().all(|transition| transition.is_start(first) == transition.is_start(second))
+}
+
+/// The same for the transitions that count.
 fn are_twins(drawing: &Drawing, first: u8, second: u8) -> bool {
-    drawing.transitions.iter().all(|transition| transition.is_start(first) == transition.is_start(second))
+    start_together(&without_spare_transitions(drawing).transitions, first, second)
 }
 
 /// Of each timer the lowest of its twins.
 fn lowest_twins(drawing: &Drawing) -> Vec<u8> {
-    let lowest = |timer| (0..=timer).find(|&other| are_twins(drawing, other, timer)).expect("it is its own twin");
-    (0..drawing.timers).map(lowest).collect()
+    let transitions = without_spare_transitions(drawing).transitions;
+    let lowest = |timer| (0..=timer).find(|&other| start_together(&transitions, other, timer));
+    (0..drawing.timers).map(|timer| lowest(timer).expect("it is its own twin")).collect()
+}
+
+/// The twins that this crate finds in a chart that is accepted.
+fn twins_of(drawing: &Drawing) -> Twins {
+    let chart = Chart::read(&drawing.file()).unwrap();
+    Twins::of(&chart, analysis::judge(&chart).unwrap().reached())
 }
 
 /// A pair of a location and a timer, ordered as 64 times the location plus the timer.
@@ -119,7 +148,7 @@ impl Planned {
 
     fn with(drawing: &Drawing, stands: Vec<u8>) -> Self {
         let mut drawn = BTreeSet::new();
-        for location in 0..drawing.locations {
+        for location in reached(drawing, drawing.initial, |_| true) {
             drawn.extend((0..drawing.timers).filter(|&j| is_live(drawing, location, j)).map(|j| (location, j)));
         }
         let pairs: BTreeSet<Pair> = drawn.iter().map(|&(q, j)| (q, stands[usize::from(j)])).collect();
@@ -212,9 +241,14 @@ impl Planned {
     }
 
     fn rewritten(&self, drawing: &Drawing) -> Drawing {
-        let mut result = drawing.clone();
+        let (mut result, spare) = (drawing.clone(), spare(drawing));
         result.timers = self.used() as u8;
         for transition in &mut result.transitions {
+            if spare.contains(&transition.source) {
+                transition.tests.clear();
+                transition.starts.clear();
+                continue;
+            }
             for test in &mut transition.tests {
                 test.0 = self.number(transition.source, test.0) as u8;
             }
@@ -336,7 +370,8 @@ fn counter_played(
     Ok(CounterPlaying { location: u64::from(location), accepting: drawing.accepting.contains(&location) })
 }
 
-/// Random charts, most of them accepted, some with a test or a transition too many or too few.
+/// Random charts, most of them accepted, some with a test or a transition too many or too few, some with spare locations,
+/// which are of version 3 but for a few.
 fn drawings(random: &mut Random, count: usize, most_locations: u16) -> impl Iterator<Item = Drawing> + '_ {
     (0..count).map(move |_| {
         let shape = Shape::random(random, most_locations);
@@ -355,6 +390,10 @@ fn drawings(random: &mut Random, count: usize, most_locations: u16) -> impl Iter
                 }
                 _ => {}
             }
+        }
+        if random.chance(1, 4) {
+            drawing.version = if random.chance(1, 8) { drawing.version } else { 3 };
+            add_spare(random, &mut drawing);
         }
         drawing
     })
@@ -410,16 +449,23 @@ fn analysis_and_rewriting_follow_the_definitions() {
         twins_around(),
         lowest_untested(),
         twins_on_two_ways(),
+        spare_beside_twins(),
+        spare_cycle(),
+        spare_unstarted(),
+        spare_row(),
+        spare_first(),
         many_numbers(4, 16),
         many_numbers(5, 16),
         sixty_five_numbers(1),
     ]);
     let boards: Vec<Drawing> =
         drawings.iter().filter_map(|drawing| check_analysis_and_rewriting(&mut random, drawing)).collect();
-    for version in [1, 2] {
+    for version in [1, 2, 3] {
         let count = boards.iter().filter(|board| board.version == version).count();
-        assert!(count > 500, "{count}");
+        assert!(count > 400, "{count}");
     }
+    let with_spare = boards.iter().filter(|board| !spare(board).is_empty()).count();
+    assert!(with_spare > 300, "{with_spare}");
 }
 
 #[test]
@@ -458,7 +504,7 @@ fn twins_follow_the_definition() {
     let mut random = Random::new(13);
     let (mut pairs, mut groups, mut met) = (0, 0, 0);
     for drawing in charts_with_twins(&mut random, 500) {
-        let twins = Twins::of(&Chart::read(&drawing.file()).unwrap());
+        let twins = twins_of(&drawing);
         let lowest = lowest_twins(&drawing);
         // Every timer is its own twin, and twins of twins are twins: these are the timers with one lowest twin.
         for first in 0..drawing.timers {
@@ -496,7 +542,7 @@ fn twins_have_one_number_where_they_are_live() {
     let (mut shared, mut lowest_not_live, mut parted) = (0, 0, 0);
     for drawing in charts_with_twins(&mut random, 800) {
         let planned = Planned::of(&drawing);
-        let numbers = given_numbers(&drawing, &Twins::of(&Chart::read(&drawing.file()).unwrap()));
+        let numbers = given_numbers(&drawing, &twins_of(&drawing));
         assert_eq!(numbers, planned.numbers());
         let is_live = |location, timer| planned.drawn.contains(&(location, timer));
         let somewhere = |timer| (0..drawing.locations).any(|location| is_live(location, timer));
@@ -537,10 +583,10 @@ fn without_twins_the_numbers_are_what_they_were() {
         let (floor, searched) = before.floor(&drawing);
         assert_eq!(told, Analysis { used: before.used() as u64, floor, searched, rounds: figures.rounds });
         assert_eq!(live, told_live);
-        let twins = Twins::of(&Chart::read(&told_apart.file()).unwrap());
+        let twins = twins_of(&told_apart);
         assert_eq!(twins, Twins::NONE);
         assert_eq!(given_numbers(&told_apart, &twins), before.numbers());
-        match Twins::of(&Chart::read(&drawing.file()).unwrap()) {
+        match twins_of(&drawing) {
             Twins::NONE => {
                 assert_eq!(figures, told);
                 apart += 1;
@@ -549,6 +595,201 @@ fn without_twins_the_numbers_are_what_they_were() {
         }
     }
     assert!(apart > 100 && others > 100, "{apart} {others}");
+}
+
+/// Random charts with spare locations, of version 3, some of them refused by 10.
+fn charts_with_spare(random: &mut Random, count: usize) -> Vec<Drawing> {
+    let with_spare = |drawing: &Drawing| !spare(drawing).is_empty();
+    let mut all: Vec<Drawing> = drawings(random, 4 * count, 9).filter(with_spare).collect();
+    all.iter_mut().for_each(|drawing| drawing.version = 3);
+    all.extend([spare_beside_twins(), spare_cycle(), spare_unstarted(), spare_row(), spare_first()]);
+    all
+}
+
+/// Whether some path of at most so many transitions from a location ends in a test of the timer and starts it nowhere
+/// before; every path is gone along by itself.
+fn is_live_by_paths(drawing: &Drawing, location: u16, timer: u8, most: u32) -> bool {
+    let leaving = |transition: &&Arrow| transition.source == location;
+    most > 0
+        && drawing.transitions.iter().filter(leaving).any(|transition| {
+            transition.is_test(timer)
+                || !transition.is_start(timer) && is_live_by_paths(drawing, transition.target, timer, most - 1)
+        })
+}
+
+#[test]
+fn nothing_is_live_at_spare_locations() {
+    let mut random = Random::new(16);
+    let (mut lively, mut checked, mut rounds_fewer) = (0, 0, 0);
+    for drawing in charts_with_spare(&mut random, 400).iter().filter(|drawing| judged(drawing).is_ok()) {
+        let spare = spare(drawing);
+        let mut live = vec![5; usize::from(drawing.locations)];
+        let figures = analyse(&drawing.file(), &mut live).expect("a chart that is accepted");
+        let file = drawing.file();
+        let text = listing(&[vec![64], file].concat());
+        for location in 0..drawing.locations {
+            let set = live[usize::from(location)];
+            // On so few transitions, all paths are short enough to be gone along.
+            let short = drawing.transitions.len() <= 10;
+            for timer in 0..drawing.timers {
+                let is_live = set >> timer & 1 == 1;
+                if spare.contains(&location) {
+                    assert!(!is_live);
+                    lively += u64::from(short && is_live_by_paths(drawing, location, timer, 3));
+                } else if short {
+                    // No path must be longer than one through all locations.
+                    assert_eq!(is_live, is_live_by_paths(drawing, location, timer, u32::from(drawing.locations)));
+                    checked += u64::from(is_live);
+                }
+            }
+            if spare.contains(&location) && figures.used <= 64 {
+                assert!(text.contains(&format!("\nat {location}\n")), "{text}");
+            }
+        }
+        // Each round makes nothing live there; if they counted, there would sometimes be more rounds.
+        let as_reached = Drawing { transitions: all_reached(drawing), ..drawing.clone() };
+        rounds_fewer += u64::from(in_rounds(&as_reached).1 > figures.rounds);
+    }
+    assert!(lively > 300 && checked > 300 && rounds_fewer > 10, "{lively} {checked} {rounds_fewer}");
+}
+
+/// The transitions of a chart with one more from the initial location to each spare one.
+fn all_reached(drawing: &Drawing) -> Vec<Arrow> {
+    let added = spare(drawing).into_iter().map(|location| {
+        let every: Vec<u8> = (0..drawing.timers).collect();
+        Arrow::new(drawing.initial, location).starts(&every)
+    });
+    drawing.transitions.iter().cloned().chain(added).collect()
+}
+
+#[test]
+fn transitions_that_leave_spare_locations_change_nothing() {
+    let mut random = Random::new(17);
+    let (mut refused, mut apart, mut bare) = (0, 0, 0);
+    for drawing in charts_with_spare(&mut random, 500) {
+        let without = without_spare_transitions(&drawing);
+        assert_eq!(spare(&without), spare(&drawing));
+        let analysed = |drawing: &Drawing| {
+            let mut live = [5; LOCATIONS];
+            (analyse(&drawing.file(), &mut live), live)
+        };
+        let (answer, live) = analysed(&drawing);
+        let (answer_without, live_without) = analysed(&without);
+        // 10 has a transition as its place, and those after a spare one are numbered otherwise.
+        assert_eq!(
+            (answer.map_err(|refusal| refusal.number), live),
+            (answer_without.map_err(|r| r.number), live_without)
+        );
+        let Ok(figures) = answer else {
+            assert_eq!(answer.map(drop), judged(&drawing));
+            refused += 1;
+            continue;
+        };
+        assert_eq!(twins_of(&drawing), twins_of(&without));
+        let pairs = (0..drawing.timers).flat_map(|first| (0..first).map(move |second| (first, second)));
+        let told = |&(a, b): &(u8, u8)| are_twins(&drawing, a, b) && !start_together(&drawing.transitions, a, b);
+        apart += pairs.filter(told).count();
+        assert_eq!(given_numbers(&drawing, &twins_of(&drawing)), given_numbers(&without, &twins_of(&without)));
+        if figures.used > 64 {
+            continue;
+        }
+        // The rewritten file: the same without these transitions, and with them where they were, bare.
+        let rewritten = |drawing: &Drawing| {
+            let mut out = vec![0; LARGEST_FILE];
+            let length = rewrite(&drawing.file(), figures.used as u32, &mut out).expect("the chart fits").length;
+            out.truncate(length as usize);
+            out
+        };
+        let board = Chart::read(&rewritten(&drawing)).unwrap();
+        assert_eq!((board.version(), board.transitions().len()), (Version::Three, drawing.transitions.len()));
+        let spare = spare(&drawing);
+        let mut kept = Vec::new();
+        for (drawn, written) in drawing.transitions.iter().zip(board.transitions()) {
+            assert_eq!(
+                (drawn.source, drawn.target, drawn.event),
+                (u16::from(written.source), u16::from(written.target), written.event)
+            );
+            if spare.contains(&drawn.source) {
+                assert!(written.starts.is_empty() && board.tests(written).is_empty());
+                bare += u64::from(!drawn.starts.is_empty() || !drawn.tests.is_empty());
+            } else {
+                assert_eq!(board.tests(written).len(), drawn.tests.len());
+                kept.push((written.starts, board.tests(written).to_vec()));
+            }
+        }
+        let board_without = Chart::read(&rewritten(&without)).unwrap();
+        let all = board_without.transitions().iter();
+        let all: Vec<_> = all.map(|written| (written.starts, board_without.tests(written).to_vec())).collect();
+        assert_eq!(kept, all);
+    }
+    assert!(refused > 20 && apart > 100 && bare > 300, "{refused} {apart} {bare}");
+}
+
+#[test]
+fn charts_with_spare_locations_and_their_boards_play_alike() {
+    let mut random = Random::new(18);
+    let (mut numbers, mut named) = (ByNumber::default(), 0);
+    for drawing in charts_with_spare(&mut random, 300).iter().filter(|drawing| judged(drawing).is_ok()) {
+        let (file, spare) = (drawing.file(), spare(drawing));
+        let mut board = vec![0; file.len()];
+        let Ok(Rewriting { used, length }) = rewrite(&file, 64, &mut board) else { continue };
+        board.truncate(length as usize);
+        for _ in 0..6 {
+            let mut steps = run(&mut random, drawing, 20, 5, true);
+            let last = steps.times.last().copied().unwrap_or(0);
+            // Some transition as it comes, often one that leaves a spare location.
+            let any = random.below(drawing.transitions.len().max(1) as u64) as u32;
+            match random.below(3) {
+                0 => {
+                    steps.cut(&mut random);
+                    steps.push(any, last);
+                }
+                1 => lengthen(&mut random, drawing, &mut steps),
+                _ => {}
+            }
+            let start = counts(&mut random, usize::from(drawing.timers), true);
+            let for_board = counts(&mut random, used as usize, true);
+            let answer = play(&file, &start, &steps.transitions, &steps.times);
+            assert_eq!(answer, played(drawing, &start, &steps));
+            assert_eq!(play(&board, &for_board, &steps.transitions, &steps.times), answer);
+            numbers[number_of(&answer)] += 1;
+            match answer {
+                // No run comes to a spare location.
+                Ok(playing) => assert!(!spare.contains(&(playing.location as u16))),
+                Err(Refusal { number: 22, place }) => {
+                    let transition = &drawing.transitions[steps.transitions[place as usize] as usize];
+                    named += u64::from(spare.contains(&transition.source));
+                }
+                Err(_) => {}
+            }
+            if keeps_provisos(&steps.times) && Chart::read(&file).unwrap().largest_constant() <= Some(65_535) {
+                let steps = CounterSteps::of(&steps, first_reading(&mut random));
+                assert_eq!(on_counter_board(&file, &start, &steps), without_time(answer));
+                assert_eq!(on_counter_board(&board, &for_board, &steps), without_time(answer));
+            }
+        }
+    }
+    assert!(named > 100 && [0, 22, 24].iter().all(|&number| numbers[number] > 20), "{named} {numbers:?}");
+}
+
+#[test]
+fn before_version_3_spare_locations_are_9() {
+    let mut random = Random::new(19);
+    let (mut lost, mut none) = (0, 0);
+    for mut drawing in drawings(&mut random, 1_000, 12) {
+        let lowest = spare(&drawing).first().copied();
+        for version in [1, 2, 3] {
+            drawing.version = version;
+            let answer = analyse(&drawing.file(), &mut [0; LOCATIONS]);
+            let is_9 = matches!(answer, Err(Refusal { number: 9, .. }));
+            assert_eq!(is_9, version < 3 && lowest.is_some());
+            if let (true, Some(lowest)) = (is_9, lowest) {
+                assert_eq!(answer, Err(Refusal { number: 9, place: u64::from(lowest) }));
+            }
+        }
+        *(if lowest.is_some() { &mut lost } else { &mut none }) += 1;
+    }
+    assert!(lost > 200 && none > 400, "{lost} {none}");
 }
 
 #[test]
@@ -948,7 +1189,7 @@ fn stored(file: &[u8], version: u8) -> Answer<Vec<u8>> {
 }
 
 #[test]
-fn charts_stored_as_the_other_version_lose_nothing() {
+fn charts_stored_as_another_version_lose_nothing() {
     let mut random = Random::new(7);
     let (mut small, mut large) = (0, 0);
     for _ in 0..1_000 {
@@ -958,9 +1199,13 @@ fn charts_stored_as_the_other_version_lose_nothing() {
         assert_eq!(stored(&file, drawing.version), Ok(file.clone()));
         let version_2 = drawing.clone().version(2).file();
         assert_eq!(stored(&file, 2), Ok(version_2.clone()));
+        let version_3 = drawing.clone().version(3).file();
+        assert_eq!(stored(&file, 3), Ok(version_3.clone()));
+        assert_eq!((&version_3[1..], version_3[0]), (&version_2[1..], 3));
         let constants = drawing.transitions.iter().flat_map(|transition| &transition.tests).map(|test| test.2);
         if constants.max() > Some(LARGEST_CONSTANT_VERSION_1) {
             assert_eq!(stored(&version_2, 1), Err(Refusal { number: 17, place: NOWHERE }));
+            assert_eq!(stored(&version_3, 1), Err(Refusal { number: 17, place: NOWHERE }));
             large += 1;
         } else {
             assert_eq!(stored(&version_2, 1), Ok(drawing.version(1).file()));
@@ -971,31 +1216,34 @@ fn charts_stored_as_the_other_version_lose_nothing() {
 }
 
 #[test]
-fn both_versions_of_a_chart_answer_alike() {
+fn all_versions_of_a_chart_answer_alike() {
     let mut random = Random::new(8);
     for _ in 0..500 {
         let shape = Shape { version: Version::One, ..Shape::random(&mut random, 20) };
         let shape = Shape { constant: shape.constant.min(LARGEST_CONSTANT_VERSION_1), ..shape };
         let drawing = accepted(&mut random, &shape);
-        let (one, two) = (drawing.file(), drawing.clone().version(2).file());
+        let [one, two, three] = [1, 2, 3].map(|version| drawing.clone().version(version).file());
         let analysed = |file: &[u8]| {
             let mut live = [0; LOCATIONS];
             (analyse(file, &mut live), live)
         };
         assert_eq!(analysed(&one), analysed(&two));
+        assert_eq!(analysed(&one), analysed(&three));
         let board = |file: &[u8]| {
             let mut out = vec![0; LARGEST_FILE];
             let length = rewrite(file, 64, &mut out)?.length as usize;
             out.truncate(length);
             Ok(out)
         };
-        let stored = |file: Vec<u8>| stored(&file, 2);
-        assert_eq!(board(&one).and_then(stored), board(&two));
+        let stored = |file: Vec<u8>| stored(&file, 3);
+        assert_eq!(board(&one).and_then(stored), board(&three));
+        assert_eq!(board(&two).and_then(stored), board(&three));
         let mut steps = run(&mut random, &drawing, 30, 5, true);
         lengthen(&mut random, &drawing, &mut steps);
         let start = counts(&mut random, usize::from(drawing.timers), true);
         let played = |file: &[u8]| play(file, &start, &steps.transitions, &steps.times);
         assert_eq!(played(&one), played(&two));
+        assert_eq!(played(&one), played(&three));
     }
 }
 
@@ -1020,7 +1268,8 @@ fn lists_are_judged_in_the_order_of_the_fields() {
     };
     assert_eq!(write(header, lists), Ok(()));
     assert_eq!(write(Header { version: 2, ..header }, lists), Ok(()));
-    assert_eq!(write(Header { version: 3, locations: 0, ..header }, lists), refused(2, NOWHERE));
+    assert_eq!(write(Header { version: 3, ..header }, lists), Ok(()));
+    assert_eq!(write(Header { version: 4, locations: 0, ..header }, lists), refused(2, NOWHERE));
     assert_eq!(write(Header { locations: 0, initial: 9, ..header }, lists), refused(4, NOWHERE));
     assert_eq!(write(Header { locations: 257, ..header }, lists), refused(4, NOWHERE));
     assert_eq!(write(Header { initial: 4, timers: 99, ..header }, lists), refused(5, NOWHERE));
@@ -1051,6 +1300,7 @@ fn lists_are_judged_in_the_order_of_the_fields() {
     let large = Lists { constants: &[65_536, 0], ..lists };
     assert_eq!(write(header, large), refused(17, NOWHERE));
     assert_eq!(write(Header { version: 2, ..header }, large), Ok(()));
+    assert_eq!(write(Header { version: 3, ..header }, large), Ok(()));
     assert_eq!(write(header, Lists { codes: &[0, 5], ..large }), refused(8, 2));
     assert_eq!(write(header, Lists { constants: &[65_536], ..lists }), refused(3, NOWHERE));
 }

@@ -5,13 +5,14 @@ use timing_chart::chart::{Chart, Comparison};
 use timing_chart::counter::{play_counter, CounterPlaying};
 use timing_chart::drawing::*;
 use timing_chart::generator::{
-    five_groups, hardest_floor, longest, many_numbers, meetings, pairs, sixty_five_numbers, Random,
+    five_groups, hardest_floor, largest_spare, longest, many_numbers, meetings, pairs, sixty_five_numbers, Random,
 };
 use timing_chart::limits::{LARGEST_FILE, LARGEST_FILE_VERSION_1};
 use timing_chart::listing::listing;
 use timing_chart::lists::{self, Header, Lists};
 use timing_chart::player::{play, Playing};
 use timing_chart::rewriting::{rewrite, Rewriting};
+use timing_chart::sets::LocationSet;
 use timing_chart::twins::Twins;
 use timing_chart::version::Version;
 use timing_chart::{Answer, Refusal, NOWHERE};
@@ -43,13 +44,20 @@ fn seen(used: u64, floor: u64, rounds: u64) -> Analysis {
 fn families(drawing: &Drawing) -> Vec<(usize, u16)> {
     let chart = Chart::read(&drawing.file()).unwrap();
     let graph = analysis::judge(&chart).unwrap();
-    let families = analysis::Families::of(&chart, &analysis::Liveness::of(&chart, graph), &Twins::of(&chart));
+    let twins = Twins::of(&chart, graph.reached());
+    let families = analysis::Families::of(&chart, &analysis::Liveness::of(&chart, graph), &twins);
     let numbers = families.first_fit(usize::MAX).unwrap();
     let number = |family: &analysis::Family| {
         let lowest = family.locations.iter().next().unwrap();
         64 * usize::from(lowest) + usize::from(family.timer)
     };
     families.list().iter().map(number).zip(numbers).collect()
+}
+
+/// The twins of a chart without spare locations.
+fn twins_of(drawing: &Drawing) -> Twins {
+    let chart = Chart::read(&drawing.file()).unwrap();
+    Twins::of(&chart, &LocationSet::below(chart.locations()))
 }
 
 fn rewritten(drawing: &Drawing, k: u32) -> Answer<Vec<u8>> {
@@ -283,7 +291,7 @@ fn the_counter_board_judges_as_the_player_without_15_and_23() {
     assert_eq!(played(&[0, 0], &[0, 1, 99], &[5, 8, 9]), refused(24, 1));
     // 1 to 10 come before the counts.
     assert_eq!(play_counter(&[], &[], &[0], 0, &[]), refused(1, NOWHERE));
-    assert_eq!(play_counter(&chart_b().version(3).file(), &[], &[0], 0, &[]), refused(2, NOWHERE));
+    assert_eq!(play_counter(&chart_b().version(4).file(), &[], &[0], 0, &[]), refused(2, NOWHERE));
     assert_eq!(play_counter(&never_started().file(), &[], &[0], 0, &[]), refused(10, 1));
 }
 
@@ -292,11 +300,11 @@ fn counts_of_the_counter_board_stop_at_65_536() {
     // The last step takes one of the transitions that test above, equal and at most 65,535.
     let played = |readings: [u16; 3]| {
         [2, 3, 4].map(|last| {
-            let [one, two] = [1, 2].map(|version| {
+            let [one, two, three] = [1, 2, 3].map(|version| {
                 let file = three_tests(65_535).version(version).file();
                 play_counter(&file, &[16_777_215], &[0, 1, last], 0, &readings)
             });
-            assert_eq!(one, two);
+            assert_eq!([two, three], [one; 2]);
             one
         })
     };
@@ -433,7 +441,7 @@ fn k_of_64_is_judged_and_65_refused() {
 fn version_and_length() {
     let good = chart_b().file();
     let mut file = good.clone();
-    for version in [0, 3, 4, 255] {
+    for version in [0, 4, 5, 255] {
         file[0] = version;
         assert_eq!(read(&file), refused(2, NOWHERE));
         assert_eq!(read(&chart_b().version(version).file()), refused(2, NOWHERE));
@@ -445,8 +453,9 @@ fn version_and_length() {
     }
     assert_eq!(read(&[1, 0, 0, 0, 0]), refused(3, NOWHERE));
     assert_eq!(read(&[2, 0, 0, 0, 0]), refused(3, NOWHERE));
+    assert_eq!(read(&[3, 0, 0, 0, 0]), refused(3, NOWHERE));
     assert_eq!(read(&[0, 0, 0, 0, 0]), refused(2, NOWHERE));
-    assert_eq!(read(&[3, 0, 0, 0, 0]), refused(2, NOWHERE));
+    assert_eq!(read(&[4, 0, 0, 0, 0]), refused(2, NOWHERE));
     assert_eq!(read(&[1, 0, 0, 0, 1]), refused(1, NOWHERE));
     // All 32 bits of the length count.
     for byte in 1..4 {
@@ -460,7 +469,7 @@ fn version_and_length() {
 #[test]
 fn every_cut_is_3_without_a_place() {
     for drawing in [chart_a(), chart_b(), chart_c(), self_loop(), one_location()] {
-        for version in [1, 2] {
+        for version in [1, 2, 3] {
             let file = drawing.clone().version(version).file();
             let body = &file[5..];
             for length in 0..body.len() {
@@ -473,12 +482,13 @@ fn every_cut_is_3_without_a_place() {
     }
 }
 
-/// The answer to chart B with a change, in both versions.
+/// The answer to chart B with a change, in all versions.
 fn changed(change: impl FnOnce(&mut Drawing)) -> Answer<()> {
     let mut drawing = chart_b();
     change(&mut drawing);
     let answer = read(&drawing.file());
-    assert_eq!(read(&drawing.version(2).file()), answer);
+    assert_eq!(read(&drawing.clone().version(2).file()), answer);
+    assert_eq!(read(&drawing.version(3).file()), answer);
     answer
 }
 
@@ -574,6 +584,8 @@ fn a_records_length_is_judged_at_its_count_of_tests() {
     assert_eq!(read(&last(1, 7)), refused(3, NOWHERE));
     assert_eq!(read(&last(2, 7 + 54)), refused(4, 0));
     assert_eq!(read(&last(2, 7 + 36)), refused(3, NOWHERE));
+    assert_eq!(read(&last(3, 7 + 54)), refused(4, 0));
+    assert_eq!(read(&last(3, 7 + 36)), refused(3, NOWHERE));
 }
 
 /// The largest file that the reader accepts.
@@ -594,17 +606,26 @@ fn largest_file(version: Version) -> Vec<u8> {
 #[test]
 fn the_largest_files_have_54_286_and_62_478_bytes() {
     assert_eq!((LARGEST_FILE_VERSION_1, LARGEST_FILE), (54_286, 62_478));
-    // The longest ones that are judged to the end are shorter: the initial location's transition cannot have tests.
-    for (version, length, judged) in [(Version::One, 54_286, 54_254), (Version::Two, 62_478, 62_430)] {
+    // The longest ones without spare locations that are judged to the end are shorter: the initial location's transition
+    // cannot have tests.
+    let versions = [(Version::One, 54_286, 54_254), (Version::Two, 62_478, 62_430), (Version::Three, 62_478, 62_430)];
+    for (version, length, judged) in versions {
         let file = largest_file(version);
         assert_eq!(file.len(), length);
         let chart = Chart::read(&file).unwrap();
         let mut out = vec![0; length];
         assert_eq!(chart.write(&mut out), Ok(length));
         assert_eq!(out, file);
-        assert_eq!(analyse(&file, &mut [0; 256]), refused(9, 1));
-        // The program's input is not too long by it.
-        assert_eq!(listing(&[vec![64], file].concat()), "refused 9 1\n");
+        // All its transitions leave location 255, which is spare: version 3 allows that. The program's input is not too
+        // long by it.
+        let (answer, text) = (analyse(&file, &mut [0; 256]), with_k(64, file));
+        if version == Version::Three {
+            assert_eq!(answer, Ok(searched(0, 0, 1)));
+            let bare: String = (0..256).map(|location| format!("at {location}\n")).collect();
+            assert_eq!(text, format!("used 0 floor 0 limit 64\n{bare}"));
+        } else {
+            assert_eq!((answer, text), (refused(9, 1), "refused 9 1\n".to_string()));
+        }
         let longest = longest(&mut Random::new(1), version);
         assert_eq!(longest.file().len(), judged);
         assert_eq!(rewritten(&longest, 64).map(|file| file[0]), Ok(version as u8));
@@ -643,22 +664,28 @@ fn chart_b_as_version_2() {
 }
 
 #[test]
-fn a_file_under_the_other_version() {
-    let relabelled = |drawing: &Drawing, version: u8| {
-        let mut file = drawing.clone().version(3 - version).file();
-        file[0] = version;
+fn a_file_under_another_version() {
+    let relabelled = |drawing: &Drawing, (from, to): (u8, u8)| {
+        let mut file = drawing.clone().version(from).file();
+        file[0] = to;
         read(&file)
     };
     let mut early = chart_b();
     early.transitions[1].target = 4;
     let mut late = chart_b();
     late.transitions[1].tests[0].1 = 5;
-    for version in [1, 2] {
+    for versions in [(1, 2), (2, 1), (1, 3), (3, 1)] {
         // The length of the first record with tests is wrong then, whatever these are; what fails before it counts.
-        assert_eq!(relabelled(&chart_b(), version), refused(3, NOWHERE));
-        assert_eq!(relabelled(&late, version), refused(3, NOWHERE));
-        assert_eq!(relabelled(&early, version), refused(5, 1));
-        assert_eq!(relabelled(&self_loop(), version), Ok(()));
+        assert_eq!(relabelled(&chart_b(), versions), refused(3, NOWHERE));
+        assert_eq!(relabelled(&late, versions), refused(3, NOWHERE));
+        assert_eq!(relabelled(&early, versions), refused(5, 1));
+        assert_eq!(relabelled(&self_loop(), versions), Ok(()));
+    }
+    for versions in [(2, 3), (3, 2)] {
+        // Files of versions 2 and 3 are read alike.
+        assert_eq!(relabelled(&chart_b(), versions), Ok(()));
+        assert_eq!(relabelled(&late, versions), refused(8, 1));
+        assert_eq!(relabelled(&early, versions), refused(5, 1));
     }
     let file = [2, 0, 0, 0, 9, 0, 1, 0, 0, 0, 0, 0, 0, 0];
     assert_eq!(Chart::read(&file).map(|chart| chart.version()), Ok(Version::Two));
@@ -710,6 +737,9 @@ fn a_constant_too_large_for_version_1_is_17() {
     }
     assert_eq!(written(1, &[0], &[65_535], &mut [0; 60]), Ok(14 + 10 + 13));
     assert_eq!(written(1, &[0], &[65_535], &mut []), refused(21, NOWHERE));
+    // Version 3 has constants of four bytes too.
+    assert_eq!(written(3, &[0], &[4_294_967_295], &mut [0; 39]), Ok(14 + 10 + 15));
+    assert_eq!(written(3, &[0], &[4_294_967_295], &mut [0; 38]), refused(21, NOWHERE));
 }
 
 #[test]
@@ -727,7 +757,7 @@ fn the_writer_judges_the_version_first() {
         constants: &[],
     };
     assert_eq!(lists::write(&header, &lists, &mut []), refused(4, NOWHERE));
-    for version in [0, 3, 4, 255] {
+    for version in [0, 4, 5, 255] {
         assert_eq!(lists::write(&Header { version, ..header }, &lists, &mut []), refused(2, NOWHERE));
         assert_eq!(written(version, &[5], &[65_536], &mut []), refused(2, NOWHERE));
     }
@@ -942,6 +972,7 @@ fn rounds_of_the_live_sets() {
     };
     assert_eq!(rounds(chart_a()), 3);
     assert_eq!(rounds(chart_a().version(2)), 3);
+    assert_eq!(rounds(chart_a().version(3)), 3);
     assert_eq!(rounds(chart_b()), 2);
     assert_eq!(rounds(chart_c()), 4);
     // Nothing is tested: the first round changes nothing, and counts.
@@ -1103,7 +1134,7 @@ fn timers_that_nothing_starts_are_twins() {
         4,
         vec![Arrow::new(0, 1).starts(&[1, 2]), Arrow::new(1, 2).tests(2, AT_LEAST, 1), Arrow::new(2, 2)],
     );
-    let twins = Twins::of(&Chart::read(&drawing.file()).unwrap());
+    let twins = twins_of(&drawing);
     assert_eq!([0, 1, 2, 3].map(|timer| twins.lowest(timer)), [0, 1, 1, 0]);
     assert_eq!(families(&drawing), [(65, 0)]);
     // 10 goes by the drawn timer.
@@ -1133,10 +1164,109 @@ fn twins_count_once_in_the_20_families() {
     assert_eq!(figures(doubled(11)), searched(1, 1, 2));
 }
 
+/// The program's text for a chart of version 3; as version 1 and 2 it is refused by 9 at this location.
+fn text_of_spare(drawing: &Drawing, k: u8, lowest: u64) -> String {
+    for version in [1, 2] {
+        let file = drawing.clone().version(version).file();
+        assert_eq!(read(&file), Ok(()));
+        assert_eq!(analyse(&file, &mut [0; 256]), refused(9, lowest));
+        assert_eq!(rewrite(&file, 65, &mut []), refused(9, lowest));
+        assert_eq!(play(&file, &[], &[], &[0]), refused(9, lowest));
+        assert_eq!(play_counter(&file, &[], &[], 0, &[0]), refused(9, lowest));
+    }
+    with_k(k, drawing.file())
+}
+
+#[test]
+fn spare_transitions_are_passed_over_for_twins() {
+    let drawing = spare_beside_twins();
+    let text = "used 1 floor 1 limit 2\nat 0\nat 1 0>0 1>0\nat 2 1>0\nat 3\nat 4\n";
+    assert_eq!(text_of_spare(&drawing, 2, 4), text);
+    assert_eq!(families(&drawing), [(64, 0)]);
+    assert_eq!(live_of(&drawing.file()).1, searched(1, 1, 3));
+    // Transition 3 keeps source, target and event, and nothing else.
+    let file = drawing.file();
+    let board = rewritten(&drawing, 1).unwrap();
+    assert_eq!((file.len(), board.len()), (73, 65));
+    let expected = [
+        &[3, 0, 0, 0, 60, 0, 5, 0, 0, 1, 0, 1, 0, 3, 0, 4][..],
+        &[0, 8, 0, 0, 0, 1, 0, 1, 0, 0],
+        &[0, 13, 0, 1, 0, 2, 0, 0, 1, 0, 2, 0, 0, 0, 2],
+        &[0, 13, 0, 2, 0, 3, 0, 0, 1, 0, 0, 0, 0, 0, 9],
+        &[0, 7, 0, 4, 0, 1, 0, 0, 0],
+    ];
+    assert_eq!(board, expected.concat());
+    // What is bare already stays so.
+    let mut again = vec![0; board.len()];
+    assert_eq!(rewrite(&board, 1, &mut again), Ok(Rewriting { used: 1, length: 65 }));
+    assert_eq!(again, board);
+    // Without the transition nothing else changes.
+    let mut without = drawing.clone();
+    without.transitions.pop();
+    assert_eq!(with_k(2, without.file()), text);
+    for (file, counts) in [(&file, &[5, 5][..]), (&board, &[5])] {
+        let played = |transitions: &[u32], times: &[u64]| play(file, counts, transitions, times);
+        assert_eq!(played(&[0, 1, 2], &[1, 3, 10]), Ok(Playing { location: 3, time: 10, accepting: true }));
+        assert_eq!(played(&[0, 1, 2], &[1, 3, 11]), refused(24, 2));
+        assert_eq!(played(&[3], &[1]), refused(22, 0));
+        assert_eq!(played(&[0, 3], &[1, 1]), refused(22, 1));
+        assert_eq!(played(&[0, 4], &[1, 1]), refused(14, 1));
+    }
+}
+
+#[test]
+fn what_counts_for_no_path() {
+    // A cycle that nothing leads to is spare, though each of its locations is entered.
+    let text = "used 1 floor 1 limit 1\nat 0\nat 1 0>0\nat 2\nat 3\nat 4\nat 5\n";
+    assert_eq!(text_of_spare(&spare_cycle(), 1, 4), text);
+    // A test on no path is not unstarted; the timer is in no family.
+    let drawing = spare_unstarted();
+    assert_eq!(text_of_spare(&drawing, 0, 2), "used 0 floor 0 limit 0\nat 0\nat 1\nat 2\n");
+    assert_eq!(play(&drawing.file(), &[0], &[1], &[0]), refused(22, 0));
+    assert_eq!(rewritten(&drawing, 0).map(|file| file.len()), Ok(34));
+    // Of reached ones the lowest counts, whatever the spare ones test.
+    let mut unstarted = drawing.clone();
+    unstarted.transitions.extend([Arrow::new(1, 1).tests(0, AT_LEAST, 0), Arrow::new(1, 0).tests(0, AT_LEAST, 0)]);
+    assert_eq!(analyse(&unstarted.file(), &mut []), refused(10, 2));
+    assert_eq!(rewrite(&unstarted.file(), 65, &mut []), refused(10, 2));
+    // No rounds are made for spare locations.
+    let row = spare_row();
+    assert_eq!(text_of_spare(&row, 1, 2), "used 1 floor 1 limit 1\nat 0\nat 1 0>0\nat 2\nat 3\nat 4\nat 5\n");
+    assert_eq!(live_of(&row.file()).1, searched(1, 1, 2));
+    // The initial location is reached, wherever it stands, and though nothing enters or leaves it.
+    assert_eq!(text_of_spare(&spare_first(), 0, 0), "used 0 floor 0 limit 0\nat 0\nat 1\nat 2\n");
+    let mut alone = spare_first();
+    alone.transitions.clear();
+    assert_eq!(text_of_spare(&alone, 0, 0), "used 0 floor 0 limit 0\nat 0\nat 1\nat 2\n");
+    assert_eq!(play(&alone.file(), &[], &[], &[]), Ok(Playing { location: 1, time: 0, accepting: false }));
+    // The list of live sets has an entry for spare locations too.
+    assert_eq!(analyse(&alone.file(), &mut [0; 2]), refused(21, NOWHERE));
+}
+
+#[test]
+fn the_counter_board_looks_at_all_constants() {
+    let mut drawing = spare_unstarted();
+    assert_eq!(play_counter(&drawing.file(), &[0], &[0], 0, &[0]), at(1, false));
+    drawing.transitions[1].tests[0].2 = 65_536;
+    assert_eq!(play_counter(&drawing.file(), &[0], &[0], 0, &[0]), refused(18, NOWHERE));
+    // In the rewritten file the test is gone.
+    let board = rewritten(&drawing, 0).unwrap();
+    assert_eq!(play_counter(&board, &[], &[0], 0, &[0]), at(1, false));
+}
+
+#[test]
+fn the_largest_file_with_spare_locations_is_judged_to_the_end() {
+    let drawing = largest_spare(&mut Random::new(1));
+    assert_eq!(drawing.file().len(), LARGEST_FILE);
+    assert_eq!(live_of(&drawing.file()).1, searched(0, 0, 1));
+    // Its 512 records are bare.
+    assert_eq!(rewritten(&drawing, 0).map(|file| file.len()), Ok(14 + 512 + 512 * 9));
+}
+
 #[test]
 fn the_charts_of_document_01_have_no_twins() {
     for drawing in [chart_a(), chart_b(), chart_c(), one_location(), self_loop(), never_started(), started_anew()] {
-        assert_eq!(Twins::of(&Chart::read(&drawing.file()).unwrap()), Twins::NONE);
+        assert_eq!(twins_of(&drawing), Twins::NONE);
     }
 }
 

@@ -8,7 +8,7 @@ use timing_chart::controller::{Head, Report, Start, State, Turn};
 use timing_chart::counter::CounterPlaying;
 use timing_chart::drawing::{
     chain, chart_a, chart_a_continued, chart_b, dwell, looped_chain, lowest_untested, never_started, over_floor,
-    self_loop, two_twins, Drawing, AT_LEAST, AT_MOST,
+    self_loop, spare_beside_twins, spare_unstarted, two_twins, Arrow, Drawing, AT_LEAST, AT_MOST,
 };
 use timing_chart::library::{analyse, play, play_counter, rewrite, Controller};
 use timing_chart::player::Playing;
@@ -156,9 +156,37 @@ fn version_2() {
         file[0] = 3 - file[0];
         let refusal = |number| Refusal { number, place: NOWHERE };
         assert_eq!(analyse(&file, &mut [0; 4]).map(|_| ()), answer.map_err(refusal));
-        file[0] = 3;
+        file[0] = 4;
         assert_eq!(analyse(&file, &mut [0; 4]), Err(refusal(2)));
     }
+}
+
+#[test]
+fn version_3() {
+    let drawing = spare_beside_twins();
+    let file = drawing.file();
+    let mut live = [77; 6];
+    assert_eq!(analyse(&file, &mut live), Ok(Analysis { used: 1, floor: 1, searched: true, rounds: 3 }));
+    assert_eq!(live, [0, 3, 2, 0, 0, 77]);
+    let mut expected = drawing.clone();
+    expected.timers = 1;
+    expected.transitions[0].starts = vec![0];
+    expected.transitions[2].tests[0].0 = 0;
+    expected.transitions[3] = Arrow::new(4, 1);
+    let mut out = [0xAA; 70];
+    assert_eq!(rewrite(&file, 1, &mut out[..64]), Err(Refusal { number: 21, place: NOWHERE }));
+    assert_eq!(out, [0xAA; 70]);
+    assert_eq!(rewrite(&file, 1, &mut out), Ok(Rewriting { used: 1, length: 65 }));
+    assert_eq!(out[..65], expected.file());
+    assert_eq!(out[65..], [0xAA; 5]);
+    let ends = Ok(Playing { location: 3, time: 10, accepting: true });
+    assert_eq!(play(&file, &[9, 9], &[0, 1, 2], &[1, 3, 10]), ends);
+    assert_eq!(play(&out[..65], &[9], &[0, 1, 2], &[1, 3, 10]), ends);
+    assert_eq!(play(&file, &[9, 9], &[3], &[1]), Err(Refusal { number: 22, place: 0 }));
+    let version_2 = drawing.version(2).file();
+    assert_eq!(analyse(&version_2, &mut live), Err(Refusal { number: 9, place: 4 }));
+    // Tests on no path are not unstarted.
+    assert_eq!(rewrite(&spare_unstarted().file(), 0, &mut out), Ok(Rewriting { used: 0, length: 34 }));
 }
 
 #[test]

@@ -4,6 +4,7 @@ use mathlib.Core.List.{List}
 use Prim.Native.Nat.{ℕ}
 use Rattle.model.specs.Answer.{Answer, result, refused, then}
 use Rattle.model.specs.Chart.{Chart}
+use Rattle.model.specs.Spare.{reachedPart}
 use Rattle.model.specs.FirstFit.{used}
 use Rattle.model.specs.Floor.{floor, searched}
 use Rattle.analysis.specs.Analysing.{valuesOf, analysedIn, analyseAnswer}
@@ -14,6 +15,6 @@ unfolding analyseAnswer answerBefore valuesOf withoutRounds
 answers-as-before room bs = go (analysedIn room bs)
   where
     go : (x : Answer Chart) → then (then x (λ c. result (valuesOf c))) (λ f. result (withoutRounds f))
-        ≡ then x (λ c. result (record { used = used c; floor = floor c; searched = searched c }))
+        ≡ then x (λ c. let part = reachedPart c in result (record { used = used part; floor = floor part; searched = searched part }))
     go (result c) = refl
     go (refused n p) = refl

@@ -9,11 +9,12 @@ use borrow.Author.Tests.{le-leb, lt-leb}
 use Rattle.model.specs.Answer.{result, refused, nowhere}
 use Rattle.model.specs.Chart.{Chart}
 use Rattle.model.specs.Live.{liveSets, liveRounds}
+use Rattle.model.specs.Spare.{reachedPart}
 use Rattle.model.specs.FirstFit.{used}
 use Rattle.model.specs.Floor.{floor, searched}
 use Rattle.chart_lists.specs.Lists.{put, overwritten}
 use Rattle.judgement.specs.Judging.{judgedIn}
-use Rattle.analysis.specs.Analysing.{valuesOf, analysedChart, analysedIn, analyseAnswer}
+use Rattle.analysis.specs.Analysing.{valuesOf, analysedSets, analysedChart, analysedIn, analyseAnswer}
 
 module _ (c : Chart) (room : ℕ) where
   pub short : room < c .locations → analysedChart room c ≡ refused 21 nowhere
@@ -31,7 +32,7 @@ module _ (bs before : List ℕ) where
     unfolding analyseAnswer analysedIn
     refused-answer = rw e
 
-    pub refused-list : before ≡ overwritten liveSets (analysedIn (length before) bs) before
+    pub refused-list : before ≡ overwritten analysedSets (analysedIn (length before) bs) before
     unfolding analysedIn
     refused-list = rw e
 
@@ -42,18 +43,19 @@ module _ (bs before : List ℕ) where
       unfolding analyseAnswer analysedIn
       short-answer = rw (e, short c (length before) h)
 
-      pub short-list : before ≡ overwritten liveSets (analysedIn (length before) bs) before
+      pub short-list : before ≡ overwritten analysedSets (analysedIn (length before) bs) before
       unfolding analysedIn
       short-list = rw (e, short c (length before) h)
 
-    -- the chart's values, and its live sets over the front
+    -- the values of the part that counts, and its live sets over the front
     module _ (h : c .locations ≤ length before) where
-      pub found-answer : {u f n : ℕ} {s : Bool} → u ≡ used c → f ≡ floor c → s ≡ searched c → n ≡ liveRounds c
+      pub found-answer : {u f n : ℕ} {s : Bool} → u ≡ used (reachedPart c) → f ≡ floor (reachedPart c) → s ≡ searched (reachedPart c)
+          → n ≡ liveRounds (reachedPart c)
           → result (record { used = u; floor = f; searched = s; rounds = n }) ≡ analyseAnswer (length before) bs
       unfolding analyseAnswer analysedIn valuesOf
       found-answer x y z n = rw (e, long-enough c (length before) h, x, y, z, n)
 
-      pub found-list : {after sets : List ℕ} → sets ≡ liveSets c → after ≡ put sets before
-          → after ≡ overwritten liveSets (analysedIn (length before) bs) before
-      unfolding analysedIn
+      pub found-list : {after sets : List ℕ} → sets ≡ liveSets (reachedPart c) → after ≡ put sets before
+          → after ≡ overwritten analysedSets (analysedIn (length before) bs) before
+      unfolding analysedIn analysedSets
       found-list l x = rw (e, long-enough c (length before) h, x, l)

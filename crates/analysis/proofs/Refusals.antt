@@ -1,20 +1,24 @@
 -- Which refusals the analysis returns: 1 to 10 are those of the judgement, 21 comes exactly where an accepted chart has more locations than the
--- list has entries; else the chart's values. Nothing is hard: all by the three answers there are. Assumes nothing.
+-- list has entries; else the chart's values; a file of version 3 is never refused 9. Nothing is hard: all by the three answers there are. Assumes
+-- nothing.
 use mathlib.Core.Path.{_≡_, refl, sym, ap, ap₂, _∙_}
 use mathlib.Core.Logic.{_⊎_, inl, inr, _↔_, Iff·trans}
+use mathlib.Core.Option.{some}
 use mathlib.Core.List.{List}
 use Prim.Native.Nat.{ℕ, _≤_, _<_}
 use native.Mathlib.Omega.{arith}
+use lib.ListN.{getElem?}
 use Rattle.file_format.specs.Parse.{Bytes}
 use Rattle.lists.proofs.Bools.{lt-or-le}
 use Rattle.model.specs.Answer.{Answer, result, refused, nowhere}
 use Rattle.model.specs.Chart.{Chart}
 use Rattle.model.proofs.Answers.{not-result, result-same, refused-same}
-use Rattle.model.specs.Places.{LowestUnreached, LowestUnstarted}
+use Rattle.model.specs.Places.{LowestUnreached, LowestUnstarted, HasUnreached}
 use Rattle.file_format.specs.File.{chartIn}
 use Rattle.judgement.specs.Judging.{judgedIn}
 use Rattle.judgement.specs.Charts.{HoldsChart, Accepts}
 use Rattle.judgement.proofs.Corollaries.{judged-numbers, judged-9, judged-10, judged-1-to-8, judged-result, refusals-of-judgedIn}
+use Rattle.judgement.proofs.Corollaries.{somewhere, unreached-in, never-unreached}
 use Rattle.analysis.specs.Analysing.{AnalysisValues, valuesOf, analysedIn, analyseAnswer}
 use Rattle.analysis.specs.Found.{Analysed}
 use Rattle.analysis.specs.Refusals.{RefusalOfAnalysis, TooShort}
@@ -73,8 +77,16 @@ module _ (room : ℕ) (bs : List ℕ) where
     pub analysis-1-to-8 : (n p : ℕ) → n ≤ 8 → (analyseAnswer room bs ≡ refused n p) ↔ (chartIn bs ≡ refused n p)
     analysis-1-to-8 n p h = Iff·trans (of-judged n p (omega arith)) (judged-1-to-8 bs bytes n p h)
 
+    -- 9 at the lowest location that no path reaches, in a chart of a version that allows none
     pub analysis-9 : (q : ℕ) → (analyseAnswer room bs ≡ refused 9 q) ↔ HoldsChart bs (λ c. LowestUnreached c q)
     analysis-9 q = Iff·trans (of-judged 9 q (omega arith)) (judged-9 bs bytes q)
+
+    -- 9 wherever the version is below 3 and some location is not reached, and in no file of version 3
+    pub analysis-9-when : ((q : ℕ) × (analyseAnswer room bs ≡ refused 9 q)) ↔ HoldsChart bs HasUnreached
+    analysis-9-when = Iff·trans (somewhere analysis-9) (unreached-in bs bytes)
+
+    pub analysis-never-9 : getElem? bs 0 ≡ some 3 → (q : ℕ) → analyseAnswer room bs ≡ refused 9 q → ⊥
+    analysis-never-9 v q e = never-unreached bs bytes v (analysis-9-when .0 (q, e))
 
     pub analysis-10 : (i : ℕ) → (analyseAnswer room bs ≡ refused 10 i) ↔ HoldsChart bs (λ c. LowestUnstarted c i)
     analysis-10 i = Iff·trans (of-judged 10 i (omega arith)) (judged-10 bs bytes i)

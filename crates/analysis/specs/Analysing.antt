@@ -1,11 +1,13 @@
--- What the analysis of a chart file answers; in the lent list it leaves the live sets (`overwritten liveSets`). Assumes nothing.
+-- What the analysis of a chart file answers, and the live sets that it leaves in the lent list (`overwritten analysedSets`): both of the part of the
+-- chart that counts (document 02, P7). Assumes nothing.
 use mathlib.Core.Bool.{Bool}
 use mathlib.Core.List.{List}
 use Prim.Native.Nat.{ℕ}
 use lib.Dec.{leb}
 use Rattle.model.specs.Answer.{Answer, result, then, unless, nowhere}
 use Rattle.model.specs.Chart.{Chart}
-use Rattle.model.specs.Live.{liveRounds}
+use Rattle.model.specs.Live.{liveSets, liveRounds}
+use Rattle.model.specs.Spare.{reachedPart}
 use Rattle.model.specs.FirstFit.{used}
 use Rattle.model.specs.Floor.{floor, searched}
 use Rattle.refusal.specs.Refused.{refusedAs}
@@ -29,9 +31,14 @@ pub record AnalysisValues : Type 0 where
   pub searched : Bool
   pub rounds : ℕ
 
--- those of a chart
+-- those of a chart: of the part that counts
 unfoldable pub valuesOf : Chart → AnalysisValues
-valuesOf c = record { used = used c; floor = floor c; searched = searched c; rounds = liveRounds c }
+valuesOf c = let part = reachedPart c in
+    record { used = used part; floor = floor part; searched = searched part; rounds = liveRounds part }
+
+-- the sets that the list is left with: the live set of each location; that of a location which no path reaches is empty
+unfoldable pub analysedSets : Chart → List ℕ
+analysedSets c = liveSets (reachedPart c)
 
 -- what is answered
 unfoldable pub analyseAnswer : (room : ℕ) → List ℕ → Answer AnalysisValues

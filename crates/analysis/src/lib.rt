@@ -3,9 +3,8 @@
 ghost use mathlib.Core.Path.{_≡_};
 ghost use Prim.Native.Nat.{_≤_};
 ghost use lib.ListN.{length};
-ghost use Rattle.model.specs.Live.{liveSets};
 ghost use Rattle.chart_lists.specs.Lists.{put, overwritten};
-ghost use Rattle.analysis.specs.Analysing.{analysedIn, analyseAnswer, analysisAs};
+ghost use Rattle.analysis.specs.Analysing.{analysedIn, analysedSets, analyseAnswer, analysisAs};
 use numbering::FileNumbered;
 use refusal::Refusal;
 
@@ -37,7 +36,7 @@ fn copy(sets: &[u64], live: &mut [u64])
 pub fn analyse(file: &[u8], live: &mut [u64]) -> Analysis
     ensures answer { λ r. ⌜ analysisAs r ≡ analyseAnswer (length (now (live .entry))) (now (file .entry)) ⌝ }
     ensures lent { λ _. ⌜ now (live .exit)
-        ≡ overwritten liveSets (analysedIn (length (now (live .entry))) (now (file .entry))) (now (live .entry)) ⌝ }
+        ≡ overwritten analysedSets (analysedIn (length (now (live .entry))) (now (file .entry))) (now (live .entry)) ⌝ }
 {
     let mut sets = [0u64; chart_lists::MOST_LOCATIONS];
     let mut cells = [0u16; allocation::MOST_CELLS];

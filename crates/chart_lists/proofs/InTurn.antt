@@ -73,31 +73,33 @@ module _ {c : Chart} {i : ℕ} {r : Transition} (n : Nth c i r) where
   timers-room =
       omega (arith, before-next, timers-each c, tests-front (take (i + 1) (c .transitions)) _ (take-append-drop (i + 1) (c .transitions)))
 
-  -- the timers of its tests
-  pub timers-next : {l : List ℕ} → Begins (listsOf c .timers) l
-      → take (length (r .tests)) (drop (testsBefore c i) l) ≡ timersOf (r .tests)
-  unfolding listsOf
-  timers-next {l} b =
-      let e : length (map timer (allTests (take i (c .transitions)))) ≡ testsBefore c i = length-map (allTests (take i (c .transitions))) timer in
-      rw (all, drop-at _ _ _ e) (take-at _ _ _ (length-map (r .tests) timer))
+  -- one number of each of its tests, in a list that begins with that number of every test
+  pub entries-next : (f : Test → ℕ) {l : List ℕ} → Begins (map f (allTests (c .transitions))) l
+      → take (length (r .tests)) (drop (testsBefore c i) l) ≡ map f (r .tests)
+  entries-next f {l} b =
+      let e : length (map f (allTests (take i (c .transitions)))) ≡ testsBefore c i = length-map (allTests (take i (c .transitions))) f in
+      rw (all, drop-at _ _ _ e) (take-at _ _ _ (length-map (r .tests) f))
     where
-      timer : Test → ℕ
-      timer t = t .timer
-
       after : List Test
       after = allTests (drop (i + 1) (c .transitions))
 
       beyond : List ℕ
-      beyond = drop (length (listsOf c .timers)) l
+      beyond = drop (length (map f (allTests (c .transitions)))) l
 
       split : allTests (c .transitions) ≡ (allTests (take i (c .transitions)) ++ r .tests) ++ after
       split = ap allTests (sym (take-append-drop (i + 1) (c .transitions))) ∙ tests-append (take (i + 1) (c .transitions)) _
           ∙ ap (λ (ts : List Test). ts ++ after) tests-next
 
-      all : l ≡ map timer (allTests (take i (c .transitions))) ++ (map timer (r .tests) ++ (map timer after ++ beyond))
+      all : l ≡ map f (allTests (take i (c .transitions))) ++ (map f (r .tests) ++ (map f after ++ beyond))
       all =
-          sym (take-append-drop (length (listsOf c .timers)) l) ∙ ap (λ (xs : List ℕ). xs ++ beyond) (b .is ∙ ap (map timer) split)
+          sym (take-append-drop (length (map f (allTests (c .transitions)))) l) ∙ ap (λ (xs : List ℕ). xs ++ beyond) (b .is ∙ ap (map f) split)
           ∙ simp (map-append, append-assoc)
+
+  -- the timers of its tests
+  pub timers-next : {l : List ℕ} → Begins (listsOf c .timers) l
+      → take (length (r .tests)) (drop (testsBefore c i) l) ≡ timersOf (r .tests)
+  unfolding listsOf
+  timers-next b = entries-next (λ t. t .timer) b
 
   -- each of them is one of 64
   pub timers-small : {W : ℕ} → Valid W c → {l : List ℕ} → Begins (listsOf c .timers) l → (k : ℕ) → k < length (r .tests)

@@ -1,5 +1,5 @@
--- Calls to try, on files, with the replies that document 02, P4, gives. That the definitions give these replies is one statement, `cases-hold` in
--- proofs/Cases. Assumes nothing.
+-- Calls to try, on files, with the replies that document 02, P4 and P7, gives. That the definitions give these replies is one statement, `cases-hold`
+-- in proofs/Cases. Assumes nothing.
 use mathlib.Core.List.{List, [], _∷_, _++_, map}
 use Prim.Native.Nat.{ℕ}
 use lib.ListN.{length, take, replicate}
@@ -7,7 +7,8 @@ use Rattle.comparison.specs.declared.Comparison.the-variants.{AtLeast, Below}
 use Rattle.lists.specs.Lists.{upTo}
 use Rattle.model.specs.Answer.{Answer, result, refused, then, nowhere}
 use Rattle.model.specs.Chart.{Chart}
-use Rattle.model.specs.Cases.{arrow, test, drawn, B, selfLoop, neverStarted, twoEvents}
+use Rattle.model.specs.Version.{inVersion}
+use Rattle.model.specs.Cases.{arrow, test, drawn, B, selfLoop, neverStarted, twoEvents, spareUnstarted}
 use Rattle.file_format.specs.Parse.{writeAll}
 use Rattle.file_format.specs.File.{fileOf}
 use Rattle.controller_model.specs.declared.Head.{Head}
@@ -186,6 +187,12 @@ driven =
     ∷ is received 0 ((0 ∷ 3 ∷ 1 ∷ 7 ∷ 4 ∷ []) ∷ []) (4 ∷ 5 ∷ [])
     ∷ is (taken 0 0) 0 (at 1 4 ∷ []) (5 ∷ 0 ∷ [])
     ∷ [])
+    -- of version 3, with a spare location
+    ∷ case (calls (headInput spareUnstarted 1 (7 ∷ []) ∷ []) 1 (event 0 0 4 ∷ turn ∷ []))
+    (is received 0 (at 0 0 ∷ []) (7 ∷ [])
+    ∷ is received 0 ((0 ∷ 0 ∷ 1 ∷ 0 ∷ 4 ∷ []) ∷ []) (7 ∷ [])
+    ∷ is (taken 0 0) 0 (at 1 4 ∷ []) (11 ∷ [])
+    ∷ [])
     -- turns go round three heads, not eight
     ∷ case (calls threeLoops 3 (turn ∷ turn ∷ turn ∷ turn ∷ []))
     (is received 0 (at 0 0 ∷ at 0 0 ∷ at 0 0 ∷ []) (0 ∷ 0 ∷ 0 ∷ [])
@@ -202,7 +209,9 @@ refusedAtSetUp =
     case (calls [] 65 []) (no 25 nowhere ∷ [])
     ∷ case (calls (replicate 9 (headInput B 2 [])) 65 []) (no 25 nowhere ∷ [])
     ∷ case (calls (headInput B 2 [] ∷ record { file = []; block = 2; counts = [] } ∷ []) 65 []) (no 1 nowhere ∷ [])
+    ∷ case (calls (headInput B 2 [] ∷ headInput (inVersion 2 spareUnstarted) 1 [] ∷ []) 65 []) (no 9 2 ∷ [])
     ∷ case (calls (headInput B 2 [] ∷ headInput neverStarted 1 [] ∷ []) 65 []) (no 10 1 ∷ [])
+    ∷ case (calls (headInput B 2 [] ∷ headInput spareUnstarted 1 [] ∷ []) 65 []) (no 11 nowhere ∷ [])
     ∷ case (calls (headInput B 2 (0 ∷ []) ∷ []) 65 []) (no 11 nowhere ∷ [])
     ∷ case (calls (headInput B 1 (0 ∷ []) ∷ headInput B 1 (0 ∷ 0 ∷ []) ∷ []) 4 []) (no 12 nowhere ∷ [])
     ∷ case (calls (headInput B 2 (0 ∷ 0 ∷ []) ∷ headInput B 2 (0 ∷ 16777216 ∷ []) ∷ []) 3 []) (no 12 1 ∷ [])
@@ -210,7 +219,8 @@ refusedAtSetUp =
     ∷ case (calls (headInput B 1 (0 ∷ 0 ∷ []) ∷ headInput B 3 (0 ∷ 0 ∷ []) ∷ []) 4 []) (no 25 nowhere ∷ [])
     ∷ []
 
--- states that nobody set up: 25 comes before 32, 32 before 26; every head is looked at, a waiting time only where an event waits
+-- states that nobody set up: 25 comes before 32, 32 before 26; every head is looked at, a waiting time only where an event waits; a spare location is
+-- a location
 unfoldable pub handedIn : List Case
 handedIn =
     case (on-state (headInput B 1 [] ∷ headInput B 2 [] ∷ []) 4 (stateWith 9 (standing 0 0) (standing 0 0) (0 ∷ 0 ∷ 0 ∷ 0 ∷ [])) turn)
@@ -225,4 +235,7 @@ handedIn =
     ∷ case (on-state twoB 4 (stateWith 0 (standing 0 0) (standing 0 5) (0 ∷ 0 ∷ 0 ∷ 16777221 ∷ [])) turn) (no 32 nowhere ∷ [])
     ∷ case (on-state twoB 4 (stateWith 1 (standing 0 0) (waitingAt 0 5 2 5) (9 ∷ 9 ∷ 0 ∷ 16777220 ∷ [])) turn)
     (is (taken 1 0) 0 (at 0 0 ∷ at 1 5 ∷ []) (9 ∷ 9 ∷ 0 ∷ 16777220 ∷ []) ∷ [])
+    ∷ case (on-state (headInput spareUnstarted 2 [] ∷ headInput B 2 [] ∷ []) 4
+    (stateWith 0 (waitingAt 2 5 1 6) (standing 0 0) (3 ∷ 0 ∷ 0 ∷ 0 ∷ [])) turn)
+    (is (taken 0 1) 1 (at 1 6 ∷ at 0 0 ∷ []) (4 ∷ 0 ∷ 0 ∷ 0 ∷ []) ∷ [])
     ∷ []

@@ -1,4 +1,5 @@
--- The refusals of the controller's calls: their numbers and their places, and what each says of what is handed in (document 02, P4). Assumes nothing.
+-- The refusals of the controller's calls: their numbers and their places, and what each says of what is handed in (document 02, P4; versions: P7).
+-- Assumes nothing.
 use mathlib.Core.Path.{_≡_}
 use mathlib.Core.Logic.{_⊎_}
 use mathlib.Core.Bool.{true, false}
@@ -65,6 +66,10 @@ pub record FirstWith (files : List ℕ) (hs : Heads) (P : Chart → Type 0) : Ty
   pub is-head : head < hs .number
   pub holds : HoldsChart (headFile files hs head) P
   pub before : (g : ℕ) → g < head → (c : Chart) × Accepts (headFile files hs g) c
+
+-- the file of every head is of version 3, its first byte
+abbrev pub AllVersion3 : (files : List ℕ) → Heads → Type 0
+AllVersion3 files hs = (h : ℕ) → h < hs .number → getElem? (headFile files hs h) 0 ≡ some 3
 
 -- the number of heads and all charts pass, K is over 64
 pub record BoardRefused (files : List ℕ) (hs : Heads) (K : ℕ) : Type 0 where

@@ -1,28 +1,35 @@
 -- No proviso of the claim can be left out: for each there is a call that keeps all others, and on which the counter board and the player, without
--- the time, answer differently; and the relations of the claim do not hold of everything. Nothing is hard: both answers are computed. Assumes
--- nothing.
+-- the time, answer differently, or the counter board on the drawn and on the rewritten chart; and the relations of the claim do not hold of
+-- everything. Nothing is hard: both answers are computed. Assumes nothing.
 use mathlib.Core.Path.{_≡_, refl, sym, ap, _∙_}
-use mathlib.Core.Bool.{true, false, true≢false}
-use mathlib.Core.List.{List, [], _∷_}
+use mathlib.Core.Bool.{true, false, xor, true≢false}
+use mathlib.Core.List.{List, [], _∷_, filterMap}
 use Prim.Native.Nat.{ℕ, zero, suc, _-_, _*_, _≤_, _<_}
 use native.Mathlib.Omega.{arith}
 use lib.ListN.{length, getD}
-use Rattle.lists.specs.Lists.{memb, anyOf, firstOf, lowest, gather, upTo}
+use Rattle.lists.specs.Lists.{memb, anyOf, filtered, firstOf, lowest, gather, upTo, pick, top}
 use Rattle.lists.proofs.Gather.{length-upTo, getD-upTo}
-use Rattle.timer_set.specs.Members.{member, joined, common, minus, added, everyTimer, setOf}
+use Rattle.timer_set.specs.Members.{member, joined, common, minus, added, everyTimer, setOf, members, image}
 use Rattle.comparison.specs.Comparison.{met, comparisonOf, codeOf}
 use Rattle.model.specs.Answer.{Answer, result, refused, nowhere}
-use Rattle.model.specs.Version.{knownVersion, widthOf, inVersion, isLarge, largeConstant}
+use Rattle.model.specs.Version.{knownVersion, widthOf, allowsSpare, inVersion, isLarge, largeConstant}
 use Rattle.model.specs.Run.{largestTime, grown, restarted, allMet, after, enabled, attempt, steps, begin, outcome, playerTime, accepts}
 use Rattle.model.specs.Flow.{brings, made, round, roundsOf, sameSets, changing, settled}
-use Rattle.model.specs.Live.{startsSet, testsSet, atInitial, unstartedFlow, reachedFlow, unstartedSets, reachedSets}
+use Rattle.model.specs.Valid.{Valid}
+use Rattle.model.specs.Live.{startsSet, testsSet, atInitial, liveFlow, unstartedFlow, reachedFlow, liveSets, unstartedSets, reachedSets}
 use Rattle.model.specs.Live.{isEmpty, firstUnreached, firstUnstarted}
-use Rattle.model.specs.Judge.{judged}
+use Rattle.model.specs.Spare.{leavesReached, reachedPart, spareCleared}
+use Rattle.model.specs.Twins.{inSameSets, lowestInSame, lowestTwin, mergedSets}
+use Rattle.model.specs.Family.{isPair, livePairs, familyNumber, linkFlow, familyOf, familyFrom, families, meets}
+use Rattle.model.specs.FirstFit.{held, free, place, firstFit, usedBy, numberAt, allHeld, blocked, board}
+use Rattle.model.specs.Rewrite.{numbering, through, boardNumbering, renamed, newTests, newStarts, newTransition, rewrittenBy, rewritten}
+use Rattle.model.specs.Judge.{judged, fitted, rewriting}
 use Rattle.model.specs.Player.{arrival, answerOf, tooLarge, countsJudged, stepsOf, played}
 use Rattle.model.specs.PlayerTerms.{CountsAllowed}
-use Rattle.model.specs.Cases.{arrow, test, drawn, B, selfLoop}
+use Rattle.model.specs.Cases.{arrow, test, drawn, B, selfLoop, spareUnstarted′}
 use Rattle.model.proofs.Answers.{not-result, result-same, refused-same}
 use Rattle.model.proofs.PlayerLaws.{counts-allowed}
+use Rattle.model.proofs.Forward.{reached-iff}
 use Rattle.file_format.specs.Parse.{number, below, many, entry, rising, digits, writeAll}
 use Rattle.file_format.specs.Body.{readComparison, readTest, readTests, recordLength, readTransition, readTransitions, readHeader, chartOf, readBody}
 use Rattle.file_format.specs.Body.{writeTest, writeTransition, writeHeader, writeBody}
@@ -33,9 +40,10 @@ use Rattle.counter_model.specs.Counter.{counterNumbers, ticksPassed, rea
 use Rattle.counter_model.specs.CounterRun.{countsAt, counterAfter, counterAttempt, counterSteps, counterBegin, counterOutcome}
 use Rattle.counter_model.specs.CounterPlayer.{CounterArrival, counterArrival, counterAnswerOf, counterAnswer}
 use Rattle.counter_model.specs.CounterClaim.{EachStepFrom, NeverFall, NoneLate, FewTicks, Spaced, withoutTime, CounterAsPlayer, SameOnCounter}
-use Rattle.counter_model.specs.Cases.{arrived, threeTests}
+use Rattle.counter_model.specs.Constants.{LargeSpare}
+use Rattle.counter_model.specs.Cases.{arrived, threeTests, largeSpare}
 use Rattle.counter_model.specs.Examples.{Example, boardCalled, playerCalled, boardSteps, playerSteps, Callable, SmallConstants}
-use Rattle.counter_model.specs.Examples.{falling, late, longWait, longFirstWait, large, noSteps}
+use Rattle.counter_model.specs.Examples.{falling, late, longWait, longFirstWait, large, singleStep, noSteps}
 
 -- ---- the answers, computed
 
@@ -52,21 +60,25 @@ answers : Answered falling (refused 24 1) (refused 23 1)
     × Answered large (refused 18 nowhere) (arrived 3 true)
     × Answered (noSteps B (7 ∷ 7 ∷ [])) (arrived 0 false) (arrived 0 false)
     × Answered (noSteps selfLoop (0 ∷ [])) (arrived 0 true) (arrived 0 true)
-unfolding falling late longWait large noSteps boardCalled playerCalled arrived threeTests
+    × Answered (singleStep largeSpare (0 ∷ [])) (refused 18 nowhere) (arrived 1 true)
+    × Answered (singleStep spareUnstarted′ []) (arrived 1 true) (arrived 1 true)
+unfolding falling late longWait large singleStep noSteps boardCalled playerCalled arrived threeTests largeSpare
     ticksPassed readingAt readingsAt risen countsAt counterAfter counterAttempt counterSteps counterBegin counterOutcome
     counterArrival counterAnswerOf counterAnswer withoutTime
-    arrow test drawn inVersion B selfLoop
+    arrow test drawn inVersion B selfLoop spareUnstarted′
     member joined common minus added everyTimer setOf met comparisonOf codeOf
     memb anyOf firstOf lowest gather upTo
     grown restarted allMet after enabled attempt steps begin outcome playerTime accepts
     brings made round roundsOf sameSets changing settled
     startsSet testsSet atInitial unstartedFlow reachedFlow unstartedSets reachedSets isEmpty firstUnreached firstUnstarted
     judged arrival answerOf tooLarge countsJudged stepsOf played
-    knownVersion widthOf isLarge largeConstant number below many entry rising digits writeAll
+    knownVersion widthOf allowsSpare isLarge largeConstant number below many entry rising digits writeAll
     readComparison readTest readTests recordLength readTransition readTransitions readHeader chartOf readBody
     writeTest writeTransition writeHeader writeBody
     readFrame judgeFrame readFile writeFile chartIn fileOf judgedIn playAnswer
 answers = (
+  record { accepted = refl; counts-pass = refl; board-is = refl; player-is = refl },
+  record { accepted = refl; counts-pass = refl; board-is = refl; player-is = refl },
   record { accepted = refl; counts-pass = refl; board-is = refl; player-is = refl },
   record { accepted = refl; counts-pass = refl; board-is = refl; player-is = refl },
   record { accepted = refl; counts-pass = refl; board-is = refl; player-is = refl },
@@ -83,6 +95,19 @@ unfolding longFirstWait large boardSteps playerSteps arrived threeTests
     counterArrival counterAnswerOf withoutTime arrow test drawn inVersion
     met memb grown restarted allMet after enabled attempt steps begin outcome playerTime accepts arrival answerOf stepsOf
 steps-answers = ((refl, refl), (refl, refl))
+
+-- of the rewriting
+spare-rewritten : rewriting 0 largeSpare ≡ result (record { used = 0; chart = spareUnstarted′ })
+unfolding largeSpare arrow test drawn inVersion spareUnstarted′
+    member joined common minus added everyTimer setOf members image filterMap xor
+    memb anyOf filtered firstOf lowest gather upTo pick top
+    brings made round roundsOf sameSets changing settled
+    startsSet testsSet atInitial liveFlow unstartedFlow reachedFlow liveSets unstartedSets reachedSets isEmpty firstUnreached firstUnstarted
+    inSameSets lowestInSame lowestTwin mergedSets isPair livePairs familyNumber linkFlow familyOf familyFrom families meets
+    held free place firstFit usedBy numberAt allHeld blocked board
+    numbering through boardNumbering renamed newTests newStarts newTransition rewrittenBy rewritten
+    allowsSpare leavesReached reachedPart spareCleared judged fitted rewriting
+spare-rewritten = refl
 
 -- refusals of two numbers, and a result and a refusal, are two answers
 numbers-differ : {x y : Answer CounterArrival} (n m p q : ℕ) → (n ≡ m → ⊥) → x ≡ refused n p → y ≡ refused m q → x ≡ y → ⊥
@@ -200,6 +225,40 @@ small-constants-needed = let w = answers .3 in let v = steps-answers .1 in (
   λ e. arrival-differs 24 2 (v .1) (v .0) (sym e),
 )
 
+largeSpare-valid : Valid 4 largeSpare
+unfolding largeSpare inVersion drawn arrow test
+largeSpare-valid = omega arith
+
+-- the only constant over 65,535 is on a transition that leaves a spare location: the board refuses 18 on the drawn file, and arrives on the rewritten
+-- one
+pub reached-constant-needed : LargeSpare largeSpare
+    × (rewriting 0 largeSpare ≡ result (record { used = 0; chart = spareUnstarted′ }))
+    × Callable (singleStep largeSpare (0 ∷ [])) × Callable (singleStep spareUnstarted′ [])
+    × (boardCalled (singleStep largeSpare (0 ∷ [])) ≡ refused 18 nowhere)
+    × (boardCalled (singleStep spareUnstarted′ []) ≡ arrived 1 true)
+unfolding largeSpare inVersion drawn arrow test singleStep
+    member joined minus added everyTimer setOf lowest gather upTo
+    brings made round roundsOf sameSets changing settled atInitial reachedFlow reachedSets isEmpty
+reached-constant-needed = let w = answers .6 in let v = answers .7 in (
+  record {
+    large = record {
+      number = 1;
+      transition = _;
+      is-nth = record { there = refl };
+      place = 0;
+      test = _;
+      is-test = refl;
+      over = omega arith;
+    };
+    spare = λ x. true≢false (reached-iff largeSpare-valid 2 (omega arith) .1 x);
+  },
+  spare-rewritten,
+  callable (singleStep largeSpare (0 ∷ [])) w (omega arith),
+  callable (singleStep spareUnstarted′ []) v (omega arith),
+  w .board-is,
+  v .board-is,
+)
+
 -- ---- what does not hold
 
 -- these times keep not all provisos
@@ -231,3 +290,11 @@ not-same-on-counter x =
     let e = x .answers (7 ∷ 7 ∷ []) (0 ∷ []) 0 0 [] [] (callable (noSteps B (7 ∷ 7 ∷ [])) b (omega arith) .counts-allowed)
     (callable (noSteps selfLoop (0 ∷ [])) l (omega arith) .counts-allowed) in
     true≢false (sym (ap (λ (a : CounterArrival). a .accepting) (result-same (sym (b .board-is) ∙ e ∙ l .board-is))))
+
+-- nor on a chart and its rewritten one where the only constant over 65,535 is on a transition that leaves a spare location
+pub not-same-on-spare : SameOnCounter (fileOf largeSpare) largeSpare (fileOf spareUnstarted′) spareUnstarted′ → ⊥
+unfolding boardCalled singleStep arrived
+not-same-on-spare x =
+    let w = reached-constant-needed in
+    let e = x .answers (0 ∷ []) [] 0 0 (0 ∷ []) (readingsAt 0 (5 ∷ [])) (w .2 .counts-allowed) (w .3 .counts-allowed) in
+    arrival-differs 18 nowhere (w .5) (w .4) (sym e)

@@ -4,11 +4,12 @@
 use mathlib.Core.Path.{_≡_, refl, sym, _∙_, subst}
 use mathlib.Core.Logic.{_⊎_, inl, inr, _↔_, Iff·trans}
 use mathlib.Core.Bool.{Bool, true, false, not, true≢false}
+use mathlib.Core.Option.{some}
 use mathlib.Core.List.{List, [], _∷_}
 use Prim.Native.Nat.{ℕ, _≤_, _<_}
 use native.Mathlib.Omega.{arith}
 use lib.Dec.{eqb}
-use lib.ListN.{length, getD}
+use lib.ListN.{length, getD, getElem?}
 use borrow.Author.Tests.{eq-eqb}
 use Rattle.lists.specs.Lists.{memb, anyOf}
 use Rattle.lists.proofs.Bools.{not-both, not-true, same-number}
@@ -17,7 +18,7 @@ use Rattle.model.specs.Answer.{Answer, result, refused, then, unless, nowhere}
 use Rattle.model.specs.Chart.{Chart}
 use Rattle.model.specs.Version.{widthOf, largeConstant}
 use Rattle.model.specs.Valid.{Valid}
-use Rattle.model.specs.Places.{LowestUnreached, LowestUnstarted}
+use Rattle.model.specs.Places.{LowestUnreached, LowestUnstarted, HasUnreached}
 use Rattle.model.specs.Run.{playerTime}
 use Rattle.model.specs.Player.{Arrival, answerOf, stepsOf}
 use Rattle.model.specs.PlayerTerms.{CountsAllowed}
@@ -29,7 +30,7 @@ use Rattle.file_format.specs.File.{chartIn}
 use Rattle.file_format.proofs.File.{reads-valid}
 use Rattle.judgement.specs.Judging.{judgedIn}
 use Rattle.judgement.specs.Charts.{HoldsChart, Accepts}
-use Rattle.judgement.proofs.Corollaries.{judged-numbers, judged-9, judged-10}
+use Rattle.judgement.proofs.Corollaries.{judged-numbers, judged-9, judged-10, somewhere, unreached-in, never-unreached}
 use Rattle.player.specs.Playing.{playAnswer}
 use Rattle.player.specs.Refusals.{RefusalOfPlay}
 use Rattle.player.specs.Refusals.RefusalOfPlay.{of-judgement as play-judgement, of-counts as play-counts, of-lengths as play-lengths}
@@ -104,12 +105,19 @@ module _ (bs counts is : List ℕ) (first : ℕ) (rs : List ℕ) where
   counter-judged n p l = Iff·trans (judges-as-player rs refl n p (omega arith)) (play-judged bs counts is rs n p l)
 
   module _ (bytes : Bytes bs) where
-    -- 9 at the lowest location that no path reaches, 10 at the lowest transition with an unstarted test
+    -- 9, below version 3, at the lowest location that no path reaches, 10 at the lowest transition with an unstarted test
     pub counter-9 : (q : ℕ) → (counterAnswer bs counts is first rs ≡ refused 9 q) ↔ HoldsChart bs (λ c. LowestUnreached c q)
     counter-9 q = Iff·trans (counter-judged 9 q (omega arith)) (judged-9 bs bytes q)
 
     pub counter-10 : (i : ℕ) → (counterAnswer bs counts is first rs ≡ refused 10 i) ↔ HoldsChart bs (λ c. LowestUnstarted c i)
     counter-10 i = Iff·trans (counter-judged 10 i (omega arith)) (judged-10 bs bytes i)
+
+    -- 9 wherever the version is below 3 and some location is not reached, and in no file of version 3, its first byte
+    pub counter-9-when : ((q : ℕ) × (counterAnswer bs counts is first rs ≡ refused 9 q)) ↔ HoldsChart bs HasUnreached
+    counter-9-when = Iff·trans (somewhere counter-9) (unreached-in bs bytes)
+
+    pub counter-never-9 : getElem? bs 0 ≡ some 3 → (q : ℕ) → counterAnswer bs counts is first rs ≡ refused 9 q → ⊥
+    counter-never-9 v q e = never-unreached bs bytes v (counter-9-when .0 (q, e))
 
     -- ---- every refusal, with its place
 

@@ -1,13 +1,13 @@
--- Calls to try, on files, with the replies that document 02, P5, gives. That the definitions give these replies is one statement, `cases-hold` in
--- proofs/Cases. Assumes nothing.
+-- Calls to try, on files, with the replies that document 02, P5 and P7, gives. That the definitions give these replies is one statement, `cases-hold`
+-- in proofs/Cases. Assumes nothing.
 use mathlib.Core.Bool.{Bool, true, false}
 use mathlib.Core.List.{List, [], _∷_}
 use Prim.Native.Nat.{ℕ}
-use Rattle.comparison.specs.declared.Comparison.the-variants.{AtMost, Below, Above, Equal}
+use Rattle.comparison.specs.declared.Comparison.the-variants.{AtMost, Below, AtLeast, Above, Equal}
 use Rattle.model.specs.Answer.{Answer, result, refused, nowhere}
 use Rattle.model.specs.Chart.{Chart}
 use Rattle.model.specs.Version.{inVersion}
-use Rattle.model.specs.Cases.{arrow, test, drawn, B, neverStarted, restart}
+use Rattle.model.specs.Cases.{arrow, test, drawn, B, neverStarted, restart, spareUnstarted}
 use Rattle.file_format.specs.File.{fileOf}
 use Rattle.counter_model.specs.CounterPlayer.{CounterArrival, counterAnswer}
 
@@ -55,6 +55,10 @@ largeUnmet = inVersion 2 (drawn 3 2 1 (
     ∷ arrow 1 2 [] []
     ∷ arrow 1 2 [] (test 0 Below 0 ∷ test 0 AtMost 65536 ∷ [])
     ∷ []))
+
+-- of version 3: no path reaches location 2, and the test on the transition that leaves it has the only constant over 65,535
+unfoldable pub largeSpare : Chart
+largeSpare = inVersion 3 (drawn 3 1 1 (arrow 0 1 [] [] ∷ arrow 2 1 [] (test 0 AtLeast 65536 ∷ []) ∷ []))
 
 -- ---- the calls
 
@@ -114,7 +118,12 @@ refusedCalls =
     ∷ case (threeTests 2 65536) (0 ∷ []) [] 100 [] (refused 18 nowhere)
     -- on a transition that nobody can take
     ∷ case largeUnmet (0 ∷ []) (0 ∷ 1 ∷ []) 100 (150 ∷ 200 ∷ []) (refused 18 nowhere)
-    -- no constant is over 65,535, in a file of version 2
+    -- on a transition that leaves a spare location; below version 3 the chart is refused 9, before 12 and 13
+    ∷ case largeSpare (0 ∷ []) (0 ∷ []) 100 (150 ∷ []) (refused 18 nowhere)
+    ∷ case (inVersion 2 largeSpare) [] (0 ∷ []) 100 [] (refused 9 2)
+    -- no constant is over 65,535, beside a spare location with an unstarted test
+    ∷ case spareUnstarted (0 ∷ []) (0 ∷ []) 100 (150 ∷ []) (arrived 1 true)
+    -- nor in a file of version 2
     ∷ case (threeTests 2 65535) (0 ∷ []) (0 ∷ 1 ∷ 2 ∷ []) 0 (0 ∷ 40000 ∷ 14464 ∷ []) (arrived 3 true)
     -- step 1 has no transition; step 2 would be refused 22
     ∷ case B (0 ∷ 0 ∷ []) (0 ∷ 3 ∷ 0 ∷ []) 0 (0 ∷ 0 ∷ 0 ∷ []) (refused 14 1)

@@ -1,5 +1,5 @@
--- Calls on which the counter board and the player answer differently, each with one proviso of the claim left out and all others kept: that each
--- proviso is needed is shown in proofs/Needed. Assumes nothing.
+-- Calls on which the counter board and the player answer differently, each with one proviso of the claim left out and all others kept; and a chart
+-- on which the board answers otherwise than on the rewritten one. That each proviso is needed is shown in proofs/Needed. Assumes nothing.
 use mathlib.Core.Path.{_≡_}
 use mathlib.Core.Bool.{false}
 use mathlib.Core.List.{List, [], _∷_}
@@ -82,6 +82,10 @@ longFirstWait = record {
 -- a test above 65,536, 80,000 ticks after its timer's start
 unfoldable pub large : Example
 large = record { chart = threeTests 2 65536; counts = 0 ∷ []; transitions = 0 ∷ 1 ∷ 2 ∷ []; times = 0 ∷ 40000 ∷ 80000 ∷ []; first = 0 }
+
+-- transition 0 at 5
+unfoldable pub singleStep : Chart → (counts : List ℕ) → Example
+singleStep c v = record { chart = c; counts = v; transitions = 0 ∷ []; times = 5 ∷ []; first = 0 }
 
 -- no steps
 unfoldable pub noSteps : Chart → (counts : List ℕ) → Example

@@ -23,7 +23,7 @@ pub data RefusalOfCounter (steps n p : ℕ) : Type 0 where
   of-constants : n ≡ 18 → p ≡ nowhere → RefusalOfCounter steps n p
   of-step : memb n (14 ∷ 22 ∷ 24 ∷ []) ≡ true → p < steps → RefusalOfCounter steps n p
 
--- 18: 1 to 10, 12 and 13 pass, and some test of the chart has a constant over 65,535, on whichever transition
+-- 18: 1 to 10, 12 and 13 pass, and some test of the chart has a constant over 65,535, on whichever transition, one that leaves a spare location too
 pub record ConstantRefused (bs counts transitions readings : List ℕ) : Type 0 where
   pub chart : Chart
   pub accepts : Accepts bs chart

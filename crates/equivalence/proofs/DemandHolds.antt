@@ -8,16 +8,18 @@ use Rattle.model.specs.Answer.{result}
 use Rattle.model.specs.Chart.{Chart}
 use Rattle.model.specs.Version.{widthOf}
 use Rattle.model.specs.Valid.{Storable}
+use Rattle.model.specs.Spare.{spareCleared}
 use Rattle.model.specs.Rewrite.{Numbering, rewrittenBy}
 use Rattle.model.specs.Plan.{Plan}
 use Rattle.model.specs.Judge.{Rewriting, judged, rewriting}
 use Rattle.model.specs.Equivalence.{Alike}
 use Rattle.file_format.specs.Parse.{Bytes}
 use Rattle.model.proofs.Answers.{result-same}
-use Rattle.model.proofs.EqualRuns.{plan-alike}
+use Rattle.model.proofs.SameReached.{plan-there}
+use Rattle.model.proofs.SpareCleared.{cleared-same, cleared-storable}
 use Rattle.model.proofs.RewrittenValid.{rewritten-storable}
-use Rattle.model.proofs.RewritingAlike.{rewriting-is}
-use Rattle.model.proofs.EqualAnswers.{rewritten-judged, equal-behaviour, rewriting-judged}
+use Rattle.model.proofs.RewritingAlike.{rewriting-is, plan-cleared-alike}
+use Rattle.model.proofs.EqualAnswers.{cleared-judged, equal-behaviour, rewriting-judged}
 use Rattle.model.specs.Player.{stepsOf}
 use Rattle.model.specs.PlayerTerms.{CountsAllowed, PlayerAnswer}
 use Rattle.model.proofs.PlayerLaws.{played-answer, alike-played}
@@ -48,10 +50,11 @@ demand-of c c′ s j alike s′ j′ = record {
 }
 
 -- every numbering that is a plan of the chart
-pub plan-demand : (c : Chart) (N : Numbering) → Storable c → judged c ≡ result c → Plan c N → N .used ≤ 64 → Demand c (rewrittenBy N c)
+pub plan-demand : (c : Chart) (N : Numbering) → Storable c → judged c ≡ result c → Plan c N → N .used ≤ 64
+    → Demand c (rewrittenBy N (spareCleared c))
 plan-demand c N s j P few =
-    demand-of c (rewrittenBy N c) s j (plan-alike c N P) (rewritten-storable c N P s few)
-    (rewritten-judged (widthOf (c .version)) c N P (s .valid) few j)
+    demand-of c (rewrittenBy N (spareCleared c)) s j (plan-cleared-alike N (s .valid) P)
+    (rewritten-storable (spareCleared c) N (plan-there (cleared-same (s .valid)) P) (cleared-storable s) few) (cleared-judged N (s .valid) P few j)
 
 -- a file, the chart that it holds, and what the rewriting returns for it
 module _ (K room : ℕ) (bs : List ℕ) (bytes : Bytes bs) (c : Chart) (reads : chartIn bs ≡ result c) (x : Rewriting)

@@ -7,7 +7,8 @@ use Prim.Native.Nat.{ℕ}
 use Rattle.model.specs.Answer.{result}
 use Rattle.model.specs.Chart.{Chart}
 use Rattle.model.specs.Run.{Counts, Step}
-use Rattle.model.specs.Rewrite.{boardNumbering, rewrittenBy}
+use Rattle.model.specs.Spare.{reachedPart}
+use Rattle.model.specs.Rewrite.{boardNumbering, rewritten}
 use Rattle.model.specs.Judge.{Rewriting}
 use Rattle.model.specs.Equivalence.{IsRun}
 use Rattle.model.proofs.RewritingAlike.{rewriting-is}
@@ -22,8 +23,9 @@ use Rattle.equivalence.proofs.DemandHolds.{made}
 -- a file, the chart that it holds, and what the rewriting returns for it
 module _ (K room : ℕ) (bs : List ℕ) (bytes : Bytes bs) (c : Chart) (reads : chartIn bs ≡ result c) (x : Rewriting)
     (e : rewriteInto K room bs ≡ result x) where
-  pub twins-shown : (x .chart ≡ rewrittenBy (boardNumbering c) c)
-      × ((v w : Counts) (taken rest : List Step) → IsRun c v (taken ++ rest) → ShownAtPoints c (boardNumbering c) v w taken)
+  pub twins-shown : (x .chart ≡ rewritten c)
+      × ((v w : Counts) (taken rest : List Step) → IsRun c v (taken ++ rest)
+      → ShownAtPoints c (reachedPart c) (rewritten c) (boardNumbering (reachedPart c)) v w taken)
   twins-shown =
       let r = rewriting-is K c x (made K room bs bytes c reads x e) in
       (r .chart, first-fit-shown (reads-storable bs c bytes reads .valid) (r .accepted))

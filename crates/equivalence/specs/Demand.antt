@@ -17,7 +17,7 @@ pub record Demand (c c′ : Chart) : Type 0 where
   -- from any counts in either, for every step list: the same steps, the same refusal at the same step for the same reason, the same runs, the same
   -- acceptance; and at every point of a run each test reads a timer started earlier in it that shows the drawn timer's count
   pub alike : Alike c c′
-  -- the rewritten chart is one that the player takes: a file holds it, every location reached, nothing unstarted
+  -- the rewritten chart is one that the player takes: a file holds it, and neither 9 nor 10 refuses it
   pub storable : Storable c′
   pub judged-so : judged c′ ≡ result c′
   -- the player, called on both files from counts that 12 allows, gives one answer

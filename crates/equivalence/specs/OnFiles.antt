@@ -4,7 +4,7 @@ use Prim.Native.Nat.{ℕ}
 use lib.ListN.{replicate}
 use Rattle.model.specs.Answer.{Answer, result, refused}
 use Rattle.model.specs.Chart.{Chart}
-use Rattle.model.specs.Live.{liveSets}
+use Rattle.model.specs.Spare.{reachedPart}
 use Rattle.model.specs.FirstFit.{board}
 use Rattle.model.specs.Cases.{Question, Reply, boardNumbers}
 use Rattle.model.specs.Cases.Question.{live-sets, numbers, round-count, rewrite, play}
@@ -12,13 +12,13 @@ use Rattle.model.specs.Cases.Reply.{sets, given, count, rewriting-is, played-is
 use Rattle.file_format.specs.File.{fileOf}
 use Rattle.file_format.specs.Lengths.{largestFile}
 use Rattle.chart_lists.specs.Lists.{overwritten}
-use Rattle.analysis.specs.Analysing.{AnalysisValues, analysedIn, analyseAnswer}
+use Rattle.analysis.specs.Analysing.{AnalysisValues, analysedSets, analysedIn, analyseAnswer}
 use Rattle.rewriting.specs.Rewriting.{rewriteInto}
 use Rattle.player.specs.Playing.{playAnswer}
 
 -- a list of as many words as there are locations, lent to the analysis
 unfoldable pub analysedList : Chart → List ℕ
-analysedList c = overwritten liveSets (analysedIn (c .locations) (fileOf c)) (replicate (c .locations) 7)
+analysedList c = overwritten analysedSets (analysedIn (c .locations) (fileOf c)) (replicate (c .locations) 7)
 
 -- a reply by the values that the analysis answers; a refused chart has none
 abbrev pub ofValues : Chart → (AnalysisValues → Reply) → Answer AnalysisValues → Reply
@@ -28,7 +28,7 @@ ofValues c reply (refused n p) = sets (analysedList c)
 -- the reply of the entry point that answers the question
 unfoldable pub askFile : Question → Reply
 askFile (live-sets c) = sets (analysedList c)
-askFile (numbers c) = ofValues c (λ f. given (boardNumbers (board c)) (f .used) (f .floor)) (analyseAnswer (c .locations) (fileOf c))
+askFile (numbers c) = ofValues c (λ f. given (boardNumbers (board (reachedPart c))) (f .used) (f .floor)) (analyseAnswer (c .locations) (fileOf c))
 askFile (round-count c) = ofValues c (λ f. count (f .rounds)) (analyseAnswer (c .locations) (fileOf c))
 askFile (rewrite c k) = rewriting-is (rewriteInto k largestFile (fileOf c))
 askFile (play c v is ts) = played-is (playAnswer (fileOf c) v is ts)

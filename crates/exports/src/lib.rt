@@ -1,9 +1,8 @@
 // The calls as C sees them: a slice is a pointer and a length, an answer a struct by value whose number is 0 where there is a result.
 ghost use mathlib.Core.Path.{_≡_};
 ghost use lib.ListN.{length};
-ghost use Rattle.model.specs.Live.{liveSets};
 ghost use Rattle.chart_lists.specs.Lists.{overwritten};
-ghost use Rattle.analysis.specs.Analysing.{analysedIn, analyseAnswer};
+ghost use Rattle.analysis.specs.Analysing.{analysedSets, analysedIn, analyseAnswer};
 ghost use Rattle.rewriting.specs.Rewriting.{newFile, rewriteInto, rewriteAnswer};
 ghost use Rattle.player.specs.Playing.{playAnswer};
 ghost use Rattle.counter_model.specs.CounterPlayer.{counterAnswer};
@@ -74,7 +73,7 @@ pub struct chart_counter_playing {
 pub extern "C" fn chart_analyse(file: &[u8], live: &mut [u64]) -> chart_analysis
     ensures answer { λ r. ⌜ r ≡ analysisOf (analyseAnswer (length (now (live .entry))) (now (file .entry))) ⌝ }
     ensures lent { λ _. ⌜ now (live .exit)
-        ≡ overwritten liveSets (analysedIn (length (now (live .entry))) (now (file .entry))) (now (live .entry)) ⌝ }
+        ≡ overwritten analysedSets (analysedIn (length (now (live .entry))) (now (file .entry))) (now (live .entry)) ⌝ }
 {
     let a = analysis::analyse(file, live);
     match a {

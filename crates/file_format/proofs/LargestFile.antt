@@ -73,6 +73,10 @@ pub largest-accepted : LargestFile 2 largestFile
 unfolding knownVersion widthOf
 largest-accepted = largest-of 2 refl
 
+pub largest-of-version-3 : LargestFile 3 largestFile
+unfolding knownVersion widthOf
+largest-of-version-3 = largest-of 3 refl
+
 pub largest-of-version-1 : LargestFile 1 largestOfVersion1
 unfolding knownVersion widthOf
 largest-of-version-1 = largest-of 1 refl

@@ -64,11 +64,12 @@ fileCase file number place = record { file = file; number = number; place = plac
 unfoldable pub fileCases : List FileCase
 fileCases =
     -- fewer than 5 bytes, a wrong version
-    fileCase (3 ∷ []) 1 nowhere
+    fileCase (4 ∷ []) 1 nowhere
     -- a wrong length, a wrong version
-    ∷ fileCase (3 ∷ 0 ∷ 0 ∷ 0 ∷ 1 ∷ []) 1 nowhere
+    ∷ fileCase (4 ∷ 0 ∷ 0 ∷ 0 ∷ 1 ∷ []) 1 nowhere
     -- a wrong version, no locations
-    ∷ fileCase (framed 3 (0 ∷ 0 ∷ [])) 2 nowhere
+    ∷ fileCase (framed 4 (0 ∷ 0 ∷ [])) 2 nowhere
+    ∷ fileCase (framed 3 (0 ∷ 0 ∷ [])) 4 nowhere
     -- version 0, no locations
     ∷ fileCase (framed 0 (0 ∷ 0 ∷ [])) 2 nowhere
     -- version 2, no locations

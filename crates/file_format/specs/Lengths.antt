@@ -28,7 +28,7 @@ fileLength W c = 5 + bodyLength W c
 abbrev pub mostBytes : (W : ℕ) → ℕ
 mostBytes W = 46094 + 4096 * W
 
--- the bytes of the largest file that the reader accepts, one of version 2 (document 02, P2)
+-- the bytes of the largest file that the reader accepts, of version 2 or 3 (document 02, P2 and P7)
 abbrev pub largestFile : ℕ
 largestFile = 62478
 

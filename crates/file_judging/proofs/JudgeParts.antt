@@ -32,7 +32,7 @@ module _ (s : List ℕ) where
   judge-frame e = rw e
 
   module _ {v : ℕ} {body : List ℕ} (e₀ : judgeFrame knownVersion (readFrame s) ≡ result (record { version = v; body = body })) where
-    pub judge-version : v ≤ 2
+    pub judge-version : v ≤ 3
     judge-version = known-most v (judged-frame knownVersion (readFrame s) e₀ .is-known)
 
     pub judge-header : {n p : ℕ} → skipHeader v body ≡ refusal n p → chartIn s ≡ refused n p

@@ -1,2 +1,4 @@
 pub mod Visiting
 pub mod Ending
+pub mod Lent
+pub mod ChartSets

@@ -81,3 +81,16 @@ pub fn settle_forward<'a>(
         depth,
     );
 }
+
+// The sets that go forwards where nothing is cut, over sets that were empty: all timers at each location that a path from the initial one reaches,
+// none elsewhere.
+pub fn settle_reached<'a>(sources: &'a [u16], targets: &'a [u16], initial: u16, sets: &mut [u64])
+    requires { ⌜ SafeForward initial (length (now sets)) (now sources) (now targets) (replicate (length (now sources)) 0)
+        × (now sets ≡ replicate (length (now sets)) 0) ⌝ }
+    ensures { λ _. ⌜ now (sets .exit) ≡ forwardSets initial (length (now (sets .entry))) (now (sources .entry)) (now (targets .entry))
+        (replicate (length (now (sources .entry))) 0) ⌝ }
+{
+    let n = sources.len();
+    let zeros = [0u64; MOST_TRANSITIONS];
+    settle_forward(sources, targets, &zeros[..n], initial, sets);
+}

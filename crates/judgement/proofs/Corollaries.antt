@@ -1,29 +1,36 @@
--- What the judgement of a file says, by paths: 1 to 8 of the file; 9 at the lowest location that no path reaches; 10 at the lowest transition with
--- an unstarted test; else the file's chart. Every call that judges 1 to 10 cites these. Assumes nothing.
+-- What the judgement of a file says, by paths: 1 to 8 of the file; 9, below version 3, at the lowest location that no path reaches; 10 at the lowest
+-- transition with an unstarted test; else the file's chart. Every call that judges 1 to 10 cites these. Assumes nothing.
 use mathlib.Core.Path.{_≡_, refl, sym, ap, _∙_}
 use mathlib.Core.Logic.{_↔_}
+use mathlib.Core.Option.{some, Option·some-injective}
 use mathlib.Core.List.{List}
 use Prim.Native.Nat.{ℕ, _≤_}
 use native.Mathlib.Omega.{arith}
+use lib.ListN.{getElem?}
 use Rattle.file_format.specs.Parse.{Bytes}
 use Rattle.lists.proofs.Nth.{below-nth}
 use Rattle.model.specs.Answer.{Answer, result, refused}
 use Rattle.model.specs.Chart.{Chart}
 use Rattle.model.specs.Valid.{Valid}
 use Rattle.model.specs.Judge.{judged}
-use Rattle.model.specs.Places.{LowestUnreached, LowestUnstarted}
-use Rattle.model.proofs.Judgement.{Judgement, refused-9, refused-10, accepted as judged-accepted, judged-cases}
+use Rattle.model.specs.Places.{LowestUnreached, LowestUnstarted, HasUnreached}
+use Rattle.model.proofs.Judgement.{Judgement, refused-9, refused-10, accepted as judged-accepted, judged-cases, unreached-iff}
 use Rattle.model.proofs.Answers.{result-same}
 use Rattle.model.proofs.PlayerNumbers.{judged-is}
 use Rattle.model.proofs.Judgement.Judgement.{is-unreached, is-unstarted, is-accepted}
 use Rattle.file_format.specs.File.{chartIn}
 use Rattle.file_format.proofs.File.{reads-valid}
+use Rattle.file_format.proofs.Versions.{version-first}
 use Rattle.file_format.proofs.Answers.{result-refused, then-result}
 use Rattle.file_format.proofs.Refusals.{refusals-of-chartIn}
 use Rattle.judgement.specs.Judging.{judgedIn}
 use Rattle.judgement.specs.Charts.{HoldsChart, Accepts}
 use Rattle.judgement.specs.Refusals.{RefusalOfJudgement}
 use Rattle.judgement.specs.Refusals.RefusalOfJudgement.{of-file, of-unreached, of-unstarted}
+
+-- at each place alike, so at some place
+pub somewhere : {A B : ℕ → Type 0} → ((q : ℕ) → A q ↔ B q) → ((q : ℕ) × A q) ↔ ((q : ℕ) × B q)
+somewhere f = ((λ x. (x .0, f (x .0) .0 (x .1))), (λ x. (x .0, f (x .0) .1 (x .1))))
 
 -- 1 to 10 alone
 pub judged-numbers : {n p : ℕ} → RefusalOfJudgement n p → (1 ≤ n) × (n ≤ 10)
@@ -60,6 +67,22 @@ module _ (bs : List ℕ) where
           record { chart = h .chart; reads = h .reads; has = refused-9 (reads-valid bs (h .chart) bytes (h .reads)) q .0 (h .has) }),
       (λ h. judged-chart (h .reads) ∙ refused-9 (reads-valid bs (h .chart) bytes (h .reads)) q .1 (h .has)),
     )
+
+    -- so 9 comes wherever the version is below 3 and some location is not reached
+    pub unreached-in : ((q : ℕ) × HoldsChart bs (λ c. LowestUnreached c q)) ↔ HoldsChart bs HasUnreached
+    unreached-in = (
+      (λ x. let h = x .1 in
+          record { chart = h .chart; reads = h .reads; has = unreached-iff (reads-valid bs (h .chart) bytes (h .reads)) .0 (x .0, h .has) }),
+      (λ h.
+          let x = unreached-iff (reads-valid bs (h .chart) bytes (h .reads)) .1 (h .has) in
+          (x .0, record { chart = h .chart; reads = h .reads; has = x .1 })),
+    )
+
+    -- and refuses no file of version 3, which is its first byte
+    pub never-unreached : getElem? bs 0 ≡ some 3 → HoldsChart bs HasUnreached → ⊥
+    never-unreached e h =
+        let v : h .chart .version ≡ 3 = Option·some-injective _ _ (sym (version-first bs (h .chart) bytes (h .reads)) ∙ e) in
+        omega (arith, h .has .below-3)
 
     pub judged-10 : (i : ℕ) → (judgedIn bs ≡ refused 10 i) ↔ HoldsChart bs (λ c. LowestUnstarted c i)
     judged-10 i = (

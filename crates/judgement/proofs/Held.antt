@@ -20,12 +20,13 @@ use Rattle.chart_lists.proofs.Fronts.{locations-are, initial-is, transitions-ar
 use Rattle.chart_lists.proofs.Holds.{sources-each, targets-each, starts-each, test-counts-each, timers-each}
 use Rattle.flow.proofs.ChartFlows.{tested-each}
 use Rattle.forward.specs.Forward.{SafeForward}
+use Rattle.forward.proofs.ChartSets.{own-safe}
 use Rattle.judgement.specs.Judging.{headerJudged}
 use Rattle.judgement.specs.Tested.{setsIn, TimersFor}
 use Rattle.judgement.specs.Places.{judgedLists}
 use Rattle.judgement.specs.Charts.{HoldsTransitions}
 use Rattle.judgement.proofs.Tested.{sets-are}
-use Rattle.judgement.proofs.Judging.{own-safe, judged-are}
+use Rattle.judgement.proofs.Judging.{judged-are}
 
 sum-tests : (rs : List Transition) → sumOf (testCountsOf rs) ≡ length (allTests rs)
 unfolding sumOf allTests

@@ -1,5 +1,4 @@
 pub mod Tested
-pub mod Lent
 pub mod Unreached
 pub mod Judging
 pub mod Held

@@ -18,7 +18,7 @@ pub record HoldsChart (bs : List ℕ) (P : Chart → Type 0) : Type 0 where
   pub reads : chartIn bs ≡ result chart
   pub has : P chart
 
--- the file holds this chart, and every location is reached and no test is unstarted
+-- the file holds this chart, which neither 9 nor 10 refuses
 pub record Accepts (bs : List ℕ) (c : Chart) : Type 0 where
   pub reads : chartIn bs ≡ result c
   pub accepted : Accepted c

@@ -19,11 +19,10 @@ ghost use Rattle.filling.specs.Filling.{LargestLists};
 ghost use Rattle.judgement.specs.Judging.{judgedHeader, headerJudged};
 ghost use Rattle.judgement.specs.Tested.{TimersFor, setsIn, testsAt};
 ghost use Rattle.forward.specs.Forward.{SafeForward};
-ghost use Rattle.judgement.specs.Places.{firstEmpty, unreachedIn, judgedLists};
+ghost use Rattle.judgement.specs.Places.{firstEmpty, unreachedIn, refusedIn, judgedLists};
 ghost use Rattle.judgement.specs.Charts.{HoldsTransitions};
 use chart_lists::Header;
 use chart_lists::MOST_LOCATIONS;
-use chart_lists::MOST_TRANSITIONS;
 use chart_lists::Read;
 use refusal::Refusal;
 use timer_set::TimerSet;
@@ -93,7 +92,7 @@ fn first_testing(sources: &[u16], tested: &[u64], sets: &[u64]) -> usize
     n
 }
 
-// 9: the lowest location that no path reaches, or the number of locations. A chart of fewer than 64 timers starts timer 63 nowhere, so that it
+// The lowest location that no path reaches, or the number of locations. A chart of fewer than 64 timers starts timer 63 nowhere, so that it
 // is unstarted wherever a path leads.
 fn first_unreached<'a>(
     sources: &'a [u16],
@@ -108,12 +107,28 @@ fn first_unreached<'a>(
     if timers < 64 {
         return first_empty(sets);
     }
-    let n = sources.len();
     let m = sets.len();
-    let zeros = [0u64; MOST_TRANSITIONS];
     let mut reached = [0u64; MOST_LOCATIONS];
-    forward::settle_forward(sources, targets, &zeros[..n], initial, &mut reached[..m]);
+    forward::settle_reached(sources, targets, initial, &mut reached[..m]);
     first_empty(&reached[..m])
+}
+
+// 9: the lowest location that no path reaches, where the version does not allow one, or the number of locations.
+fn first_refused<'a>(
+    sources: &'a [u16],
+    targets: &'a [u16],
+    sets: &'a [u64],
+    version: u8,
+    timers: u8,
+    initial: u16,
+) -> usize
+    requires { ⌜ SafeForward initial (length (now sets)) (now sources) (now targets) (replicate (length (now sources)) 0) ⌝ }
+    ensures { λ r. ⌜ r ≡ refusedIn version timers initial (now (sources .entry)) (now (targets .entry)) (now (sets .entry)) ⌝ }
+{
+    if file_format::allows_spare(version) {
+        return sets.len();
+    }
+    first_unreached(sources, targets, sets, timers, initial)
 }
 
 // 9, then 10, else the chart's header.
@@ -132,7 +147,14 @@ fn judge_lists<'a>(
     let n = sources.len();
     let mut sets = [0u64; MOST_LOCATIONS];
     forward::settle_forward(sources, targets, starts, header.initial, &mut sets[..m]);
-    let unreached = first_unreached(sources, targets, &sets[..m], header.timers, header.initial);
+    let unreached = first_refused(
+        sources,
+        targets,
+        &sets[..m],
+        header.version,
+        header.timers,
+        header.initial,
+    );
     if unreached < m {
         return Read::Refused(Refusal {
             number: 9,

@@ -9,6 +9,7 @@ use borrow.Author.Tests.{le-leb, lt-leb}
 use Rattle.lists.proofs.Bools.{is-no}
 use Rattle.model.specs.Answer.{Answer, result, refused, then, nowhere}
 use Rattle.model.specs.Chart.{Chart}
+use Rattle.model.specs.Spare.{reachedPart}
 use Rattle.model.specs.FirstFit.{blocked, board, used}
 use Rattle.model.specs.Judge.{judged, fitted, rewriting}
 use Rattle.model.proofs.Answers.{result-same}
@@ -28,22 +29,23 @@ module _ (K : ℕ) (c : Chart) where
   listed-11 h = rw (lt-leb K 64 h)
 
   module _ (h : K ≤ 64) where
-    pub listed-20 : K < used c → listedChart K c ≡ refused 20 nowhere
+    pub listed-20 : K < used (reachedPart c) → listedChart K c ≡ refused 20 nowhere
     unfolding listedChart fitted
-    listed-20 l = rw (le-leb K 64 h, board-blocked K c .1 l)
+    listed-20 l = rw (le-leb K 64 h, board-blocked K (reachedPart c) .1 l)
 
-    pub listed-text : used c ≤ K → listedChart K c ≡ result c
+    pub listed-text : used (reachedPart c) ≤ K → listedChart K c ≡ result c
     unfolding listedChart fitted
     listed-text l =
-        let e : blocked K (board c) ≡ false = is-no (blocked K (board c)) (λ t. omega (arith, board-blocked K c .0 t)) in
+        let placed = board (reachedPart c) in
+        let e : blocked K placed ≡ false = is-no (blocked K placed) (λ t. omega (arith, board-blocked K (reachedPart c) .0 t)) in
         rw (le-leb K 64 h, e)
 
   -- the same as the code judges them
-  pub listed-refused : {u : ℕ} {f : Refusal} → LimitJudged K u (limit.Refused f) → u ≡ used c → listedChart K c ≡ refusedAs f
+  pub listed-refused : {u : ℕ} {f : Refusal} → LimitJudged K u (limit.Refused f) → u ≡ used (reachedPart c) → listedChart K c ≡ refusedAs f
   unfolding listedChart
   listed-refused j e = rw (← j .answer c e)
 
-  pub listed-enough : {u : ℕ} → LimitJudged K u limit.Enough → u ≡ used c → listedChart K c ≡ result c
+  pub listed-enough : {u : ℕ} → LimitJudged K u limit.Enough → u ≡ used (reachedPart c) → listedChart K c ≡ result c
   unfolding listedChart
   listed-enough j e = rw (← j .answer c e)
 

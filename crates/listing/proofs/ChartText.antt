@@ -11,6 +11,7 @@ use Rattle.lists.specs.Lists.{gather}
 use Rattle.lists.proofs.Flatten.{gather-same}
 use Rattle.model.specs.Chart.{Chart}
 use Rattle.model.specs.Valid.{Valid}
+use Rattle.model.specs.Spare.{reachedPart}
 use Rattle.model.specs.FirstFit.{used}
 use Rattle.model.specs.Floor.{floor, searched}
 use Rattle.model.specs.Rewrite.{Numbering, numbering, through, boardNumbering}
@@ -53,22 +54,24 @@ module _ (N : Numbering) (few : (q j k : ℕ) → N .number q j ≡ some k → k
   unfolding linesIn
   lines-are = gather-same (lineIn l timers) (lineOf timers N) locations line-is
 
-module _ {W : ℕ} {c : Chart} (v : Valid W c) (few : used c ≤ 64) {l : List ℕ}
-    (b : Begins (cellsOf (boardNumbering c) (c .locations)) l)
-    {m : Header} (is : m ≡ headerOf c) {u f : ℕ} {s : Bool} (eu : u ≡ used c) (ef : f ≡ floor c) (es : s ≡ searched c) where
+-- the numbers are those of the part that counts
+module _ {W : ℕ} {c : Chart} (v : Valid W c) (few : used (reachedPart c) ≤ 64) {l : List ℕ}
+    (b : Begins (cellsOf (boardNumbering (reachedPart c)) (c .locations)) l) {m : Header} (is : m ≡ headerOf c)
+    {u f : ℕ} {s : Bool} (eu : u ≡ used (reachedPart c)) (ef : f ≡ floor (reachedPart c)) (es : s ≡ searched (reachedPart c)) where
   pub text-is : (K : ℕ) → firstLine u f s K ++ linesIn l (m .timers) (m .locations) ≡ chartText K c
   unfolding chartText used boardNumbering through numbering
   text-is K =
+      let part = reachedPart c in
       rw (timers-are c is, locations-are c is, eu, ef, es)
-      (ap (λ (x : List ℕ). firstLine (used c) (floor c) (searched c) K ++ x)
-      (lines-are (boardNumbering c) (board-few c few) (c .timers) (c .locations) (v .few-timers) b))
+      (ap (λ (x : List ℕ). firstLine (used part) (floor part) (searched part) K ++ x)
+      (lines-are (boardNumbering part) (board-few part few) (c .timers) (c .locations) (v .few-timers) b))
 
   -- what the code that puts it asks for
   pub text-asks : (K room : ℕ) → largestText ≤ room → length l ≤ mostCells
       → (64 * m .locations ≤ length l) × (length l ≤ mostCells) × (m .timers ≤ mostTimers)
       × (length (firstLine u f s K ++ linesIn l (m .timers) (m .locations)) ≤ room)
   text-asks K room r n = (
-    omega (arith, locations-are c is, begins-room b, cells-length (boardNumbering c) (c .locations)),
+    omega (arith, locations-are c is, begins-room b, cells-length (boardNumbering (reachedPart c)) (c .locations)),
     n,
     omega (arith, timers-are c is, v .few-timers),
     rw (text-is K) (omega (arith, chart-fits v few K)),

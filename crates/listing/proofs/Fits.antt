@@ -13,6 +13,7 @@ use borrow.Author.Tests.{ltb-true, ltb-false}
 use Rattle.lists.specs.Lists.{gather}
 use Rattle.model.specs.Chart.{Chart}
 use Rattle.model.specs.Valid.{Valid}
+use Rattle.model.specs.Spare.{reachedPart}
 use Rattle.model.specs.FirstFit.{used}
 use Rattle.model.specs.Floor.{floor, searched}
 use Rattle.model.specs.Rewrite.{Numbering, boardNumbering}
@@ -70,11 +71,12 @@ pub board-few : (c : Chart) → used c ≤ 64 → (q j k : ℕ) → boardNumberi
 unfolding used
 board-few c few q j k e = omega (arith, number-under c q j k e, numbering-used c)
 
-pub chart-fits : {W : ℕ} {c : Chart} → Valid W c → used c ≤ 64 → (K : ℕ) → length (chartText K c) ≤ largestText
+pub chart-fits : {W : ℕ} {c : Chart} → Valid W c → used (reachedPart c) ≤ 64 → (K : ℕ) → length (chartText K c) ≤ largestText
 unfolding chartText
 chart-fits {W} {c} v few K =
-    let N = boardNumbering c in
-    let lines = gather-most (lineOf (c .timers) N) 408 (c .locations) (λ q h. line-most N (board-few c few) (c .timers) (v .few-timers) q) in
-    let first = first-length (N .used) (floor c) (searched c) K in
+    let part = reachedPart c in
+    let N = boardNumbering part in
+    let lines = gather-most (lineOf (c .timers) N) 408 (c .locations) (λ q h. line-most N (board-few part few) (c .timers) (v .few-timers) q) in
+    let first = first-length (N .used) (floor part) (searched part) K in
     rw length-append
-    (omega (arith, lines, v .few-locations, first, decimal-most (N .used), word-most (searched c), decimal-most (floor c), decimal-most K))
+    (omega (arith, lines, v .few-locations, first, decimal-most (N .used), word-most (searched part), decimal-most (floor part), decimal-most K))

@@ -11,3 +11,4 @@ pub mod Digits
 pub mod Refusals
 pub mod Example
 pub mod FloorWord
+pub mod SpareLine

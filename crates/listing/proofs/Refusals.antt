@@ -1,11 +1,12 @@
--- Which refusals the text shows, and when it shows 9 and 10. What is hard is that a text tells which refusal it shows (Digits), and that the text of
--- a chart shows none: it begins with another letter. Assumes nothing.
+-- Which refusals the text shows, and when it shows 9 and 10; 9 never for a file of version 3. What is hard is that a text tells which refusal it
+-- shows (Digits), and that the text of a chart shows none: it begins with another letter. Assumes nothing.
 use mathlib.Core.Path.{_≡_, refl, sym, _∙_}
 use mathlib.Core.Logic.{_⊎_, inl, inr, _↔_, Iff·trans}
+use mathlib.Core.Option.{some}
 use mathlib.Core.List.{List, [], _∷_}
 use Prim.Native.Nat.{ℕ, _^_, _≤_, _<_}
 use native.Mathlib.Omega.{arith}
-use lib.ListN.{length}
+use lib.ListN.{length, getElem?}
 use Rattle.file_format.specs.Parse.{Bytes}
 use Rattle.lists.proofs.Bools.{lt-or-le}
 use Rattle.model.specs.Answer.{refused, nowhere}
@@ -14,7 +15,7 @@ use Rattle.model.specs.Places.{LowestUnreached, LowestUnstarted}
 use Rattle.judgement.specs.Judging.{judgedIn}
 use Rattle.judgement.specs.Refusals.RefusalOfJudgement.{of-file, of-unreached, of-unstarted}
 use Rattle.judgement.specs.Charts.{HoldsChart}
-use Rattle.judgement.proofs.Corollaries.{judged-numbers, judged-9, judged-10, refusals-of-judgedIn}
+use Rattle.judgement.proofs.Corollaries.{judged-numbers, judged-9, judged-10, refusals-of-judgedIn, unreached-in, never-unreached}
 use Rattle.listing.specs.Text.{refusedWord, usedWord}
 use Rattle.listing.specs.Listing.{largestInput, accepted, answerText, refusedText, firstLine, chartText, textOf}
 use Rattle.listing.specs.Refusals.{RefusalShown}
@@ -81,8 +82,13 @@ module _ (K : ℕ) (file : List ℕ) (bytes : Bytes file) where
         out (is-used j h l a) e = other 20 (omega arith) (omega arith) (rw a at e)
         out (is-text {c} j h l a) e = absurd (text-differs K c n p (rw a at e))
 
+    -- 9 at the lowest location that no path reaches, in a chart of a version that allows none
     pub shows-9 : (q : ℕ) → q < 256 → (textOf (K ∷ file) ≡ refusedText 9 q) ↔ HoldsChart file (λ c. LowestUnreached c q)
     shows-9 q h = Iff·trans (shows-judged 9 q (omega arith) (omega arith)) (judged-9 file bytes q)
+
+    -- and of a file of version 3, which is its first byte, never
+    pub shows-never-9 : getElem? file 0 ≡ some 3 → (q : ℕ) → q < 256 → textOf (K ∷ file) ≡ refusedText 9 q → ⊥
+    shows-never-9 v q h x = never-unreached file bytes v (unreached-in file bytes .0 (q, shows-9 q h .0 x))
 
     pub shows-10 : (i : ℕ) → i < 512 → (textOf (K ∷ file) ≡ refusedText 10 i) ↔ HoldsChart file (λ c. LowestUnstarted c i)
     shows-10 i h = Iff·trans (shows-judged 10 i (omega arith) (omega arith)) (judged-10 file bytes i)

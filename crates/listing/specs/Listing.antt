@@ -1,5 +1,5 @@
--- The program's whole output for its whole input (document 01, "What the four parts hand back"; document 02, P1): one byte K, then a chart file.
--- Assumes nothing.
+-- The program's whole output for its whole input (document 01, "What the four parts hand back"; document 02, P1 and P7): one byte K, then a chart
+-- file. Assumes nothing.
 use mathlib.Core.Bool.{Bool, true, false}
 use mathlib.Core.Option.{Option, none, some}
 use mathlib.Core.List.{List, [], _∷_, _++_}
@@ -9,6 +9,7 @@ use lib.ListN.{length}
 use Rattle.lists.specs.Lists.{gather}
 use Rattle.model.specs.Answer.{Answer, result, refused, then, nowhere}
 use Rattle.model.specs.Chart.{Chart}
+use Rattle.model.specs.Spare.{reachedPart}
 use Rattle.model.specs.Floor.{floor, searched}
 use Rattle.model.specs.Rewrite.{Numbering, boardNumbering}
 use Rattle.model.specs.Judge.{fitted, rewriting}
@@ -45,9 +46,11 @@ entryText j (some c) = space ∷ (decimal j ++ (greater ∷ decimal c))
 unfoldable pub lineOf : (timers : ℕ) → Numbering → (q : ℕ) → List ℕ
 lineOf timers N q = atWord ++ (decimal q ++ (gather (λ j. entryText j (N .number q j)) timers ++ (lineFeed ∷ [])))
 
--- the text of a chart: the first line, then a line for each location
+-- the text of a chart: the first line, then a line for each location. Its numbers are those of the part that counts, so that the line of a location
+-- that no path reaches names no timer
 unfoldable pub chartText : (K : ℕ) → Chart → List ℕ
-chartText k c = let N = boardNumbering c in firstLine (N .used) (floor c) (searched c) k ++ gather (lineOf (c .timers) N) (c .locations)
+chartText k c = let part = reachedPart c in let N = boardNumbering part in
+    firstLine (N .used) (floor part) (searched part) k ++ gather (lineOf (c .timers) N) (c .locations)
 
 -- the chart, judged as the rewriting judges it, with room enough
 unfoldable pub accepted : (K : ℕ) → List ℕ → Answer Chart

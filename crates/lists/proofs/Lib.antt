@@ -10,3 +10,4 @@ pub mod Sums
 pub mod Zeros
 pub mod Growing
 pub mod All
+pub mod Filtered

@@ -51,6 +51,11 @@ module _ {A : Type 0} where
   pub getD-map : (f : A → ℕ) (l : List A) (i : ℕ) {a : A} → getElem? l i ≡ some a → getD (map f l) i 0 ≡ f a
   getD-map f l i e = getD-nth (map f l) i 0 (nth-map f l i e)
 
+  -- a function that changes no element changes nothing
+  pub map-unchanged : (f : A → A) (l : List A) → ((i : ℕ) (a : A) → getElem? l i ≡ some a → f a ≡ a) → map f l ≡ l
+  map-unchanged f [] h = refl
+  map-unchanged f (x ∷ l) h = ap₂ _∷_ (h 0 x refl) (map-unchanged f l (λ i. h (suc i)))
+
   -- a list by numbers is a mapped list, if each element is what its place gives
   pub upTo-map : {B : Type 0} (d : B) (f : ℕ → B) (g : A → B) (l : List A) (n : ℕ) → n ≡ length l
       → ((i : ℕ) (a : A) → getElem? l i ≡ some a → f i ≡ g a) → upTo f n ≡ map g l

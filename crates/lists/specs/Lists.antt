@@ -14,6 +14,11 @@ unfoldable pub anyOf : {A : Type 0} → (A → Bool) → List A → Bool
 anyOf f [] = false
 anyOf f (x ∷ xs) = f x || anyOf f xs
 
+-- the elements that pass, in their order
+unfoldable pub filtered : {A : Type 0} → (A → Bool) → List A → List A
+filtered f [] = []
+filtered f (x ∷ xs) = elim (f x) [ true ↦ x ∷ filtered f xs | false ↦ filtered f xs ]
+
 -- the place of the first element that passes, or the length of the list
 unfoldable pub firstOf : {A : Type 0} → (A → Bool) → List A → ℕ
 firstOf f [] = 0

@@ -13,7 +13,7 @@ use Rattle.timer_set.specs.Members.{member, joined, common, minus, added, every
 use Rattle.comparison.specs.Comparison.{met}
 use Rattle.lists.specs.Lists.{memb, firstOf, lowest, gather, upTo}
 use Rattle.model.specs.Answer.{result, refused, then}
-use Rattle.model.specs.Version.{knownVersion, widthOf}
+use Rattle.model.specs.Version.{knownVersion, allowsSpare, widthOf}
 use Rattle.model.specs.Chart.{Test, Transition, Chart}
 use Rattle.model.specs.AnyOrder.{SameTransitions}
 use Rattle.model.specs.Valid.{Valid, Storable}
@@ -25,6 +25,7 @@ use Rattle.model.specs.Live.{liveSets, liveRounds, unstartedSets, reache
 use Rattle.model.specs.Run.{Counts, State, EndsAccepting, Point, accepts, waited}
 use Rattle.model.specs.Run.{grown, restarted, allMet, after, enabled, attempt, steps, begin, outcome, everyTime}
 use Rattle.model.specs.Player.{Arrival, stepsOf, arrival, answerOf}
+use Rattle.model.specs.Spare.{reachedPart}
 use Rattle.model.specs.Rewrite.{Numbering, numbering, through, boardNumbering}
 use Rattle.model.specs.Plan.{Has, Plan}
 use Rattle.model.specs.Judge.{judged, rewriting}
@@ -117,7 +118,7 @@ unfolding B drawn arrow test
 B-valid = omega arith
 
 -- of B they are another plan than first fit's, which uses one number
-pub B-other-plan : Plan B (drawnNumbers B) × (drawnNumbers B ≡ boardNumbering B → ⊥)
+pub B-other-plan : Plan B (drawnNumbers B) × (drawnNumbers B ≡ boardNumbering (reachedPart B) → ⊥)
 unfolding B drawn drawnNumbers liveNumbers boardNumbering through numbering
 B-other-plan =
     let made = rewriting-is 16 B _ B-rewritten in (
@@ -125,12 +126,10 @@ B-other-plan =
       λ e. let z : _≡_ {A = ℕ} 2 1 = ap (λ (N : Numbering). N .used) e ∙ sym (made .used) in omega arith,
     )
 
--- a case marked ★
 A-live : liveSets A ≡ 0 ∷ 1 ∷ 3 ∷ 6 ∷ 5 ∷ 4 ∷ 0 ∷ []
-unfolding case starred unnoticed ask
-A-live =
-    let reply : sets (liveSets A) ≡ sets (0 ∷ 1 ∷ 3 ∷ 6 ∷ 5 ∷ 4 ∷ 0 ∷ []) = ap (λ (l : List Reply). getD l 0 (sets [])) starred-hold in
-    cc
+unfolding A drawn arrow test
+    member joined minus added setOf lowest gather upTo brings made round roundsOf sameSets changing settled startsSet testsSet liveFlow liveSets
+A-live = refl
 
 -- at location 2 timers 0 and 1 would share number 0, but transition 0 starts only timer 0
 pub one-number-no-plan : Plan A oneNumber → ⊥
@@ -148,13 +147,13 @@ one-number-no-plan P =
 loop-started : judged loopStarted ≡ result loopStarted
 unfolding loopStarted drawn arrow test judged
     member joined common minus added everyTimer setOf memb lowest firstOf gather upTo brings made round roundsOf sameSets changing settled
-    startsSet testsSet atInitial unstartedFlow reachedFlow unstartedSets reachedSets isEmpty firstUnreached firstUnstarted
+    startsSet testsSet atInitial unstartedFlow reachedFlow unstartedSets reachedSets isEmpty firstUnreached firstUnstarted allowsSpare
 loop-started = refl
 
 loop-not-started : judged loopNotStarted ≡ refused 10 1
 unfolding loopNotStarted drawn arrow test judged
     member joined common minus added everyTimer setOf memb lowest firstOf gather upTo brings made round roundsOf sameSets changing settled
-    startsSet testsSet atInitial unstartedFlow reachedFlow unstartedSets reachedSets isEmpty firstUnreached firstUnstarted
+    startsSet testsSet atInitial unstartedFlow reachedFlow unstartedSets reachedSets isEmpty firstUnreached firstUnstarted allowsSpare
 loop-not-started = refl
 
 loops-storable : Storable loopStarted × Storable loopNotStarted

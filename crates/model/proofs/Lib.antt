@@ -13,6 +13,10 @@ pub mod LiveRounds
 pub mod AnyOrder
 pub mod Forward
 pub mod Judgement
+pub mod SameReached
+pub mod ReachedPart
+pub mod SpareCleared
+pub mod ClearedRuns
 pub mod FirstFit
 pub mod NumberAt
 pub mod Joined

@@ -2,7 +2,7 @@
 -- nothing.
 use mathlib.Core.Path.{_≡_, refl, sym, _∙_}
 use mathlib.Core.Logic.{_⊎_, inl, inr}
-use mathlib.Core.Bool.{Bool, true, false, true≢false}
+use mathlib.Core.Bool.{Bool, true, false, true≢false, _||_}
 use mathlib.Core.Option.{Option, none, some}
 use mathlib.Core.List.{List, [], _∷_}
 use Prim.Native.Nat.{ℕ, suc, _-_}
@@ -11,6 +11,7 @@ use lib.ListN.{length, getD, getElem?}
 use Rattle.lists.specs.Lists.{memb, lowest}
 use Rattle.model.specs.Answer.{Answer, result, refused, unless, nowhere}
 use Rattle.model.specs.Chart.{Transition, Chart}
+use Rattle.model.specs.Version.{allowsSpare}
 use Rattle.model.specs.Run.{Counts, State, Step, grown, after, enabled, attempt, steps, begin, outcome, everyTime, playerTime}
 use Rattle.model.specs.Live.{firstUnreached, firstUnstarted}
 use Rattle.model.specs.Judge.{judged}
@@ -88,7 +89,8 @@ module _ (c : Chart) where
   pub judged-either : (judged c ≡ result c) ⊎ ((n p : ℕ) × (judged c ≡ refused n p) × (memb n (9 ∷ 10 ∷ []) ≡ true))
   unfolding judged
   judged-either =
-      two-tests (leb (c .locations) (firstUnreached c)) (leb (length (c .transitions)) (firstUnstarted c)) (firstUnreached c) (firstUnstarted c)
+      two-tests (allowsSpare (c .version) || leb (c .locations) (firstUnreached c)) (leb (length (c .transitions)) (firstUnstarted c))
+      (firstUnreached c) (firstUnstarted c)
     where
       two-tests : (b b′ : Bool) (p p′ : ℕ)
           → (unless b 9 p (unless b′ 10 p′ (result c)) ≡ result c) ⊎ Refused (unless b 9 p (unless b′ 10 p′ (result c)))

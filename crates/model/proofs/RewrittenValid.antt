@@ -15,7 +15,7 @@ use Rattle.model.specs.Rewrite.{Numbering, newTests, newStarts, newTrans
 use Rattle.model.specs.Plan.{Plan}
 use Rattle.model.proofs.Rewritten.{old-nth, tests-none, tests-some, tested-old, starts-below}
 
-all-map : {A B : Type 0} (P : A → Type 0) (Q : B → Type 0) (f : A → B) (l : List A) → ((a : A) → P a → Q (f a)) → All P l → All Q (map f l)
+pub all-map : {A B : Type 0} (P : A → Type 0) (Q : B → Type 0) (f : A → B) (l : List A) → ((a : A) → P a → Q (f a)) → All P l → All Q (map f l)
 all-map P Q f [] h x = tt
 all-map P Q f (a ∷ l) h x = (h a (x .0), all-map P Q f l h (x .1))
 

@@ -1,7 +1,8 @@
--- One step, and lists of steps: how an attempt is judged, and that what begins a run is a run. Nothing is hard. Assumes nothing.
-use mathlib.Core.Path.{_≡_, refl}
-use mathlib.Core.Bool.{Bool}
-use mathlib.Core.Option.{none}
+-- One step, and lists of steps: how an attempt is judged, which transition a step takes, and that what begins a run is a run. Nothing is hard.
+-- Assumes nothing.
+use mathlib.Core.Path.{_≡_, refl, sym, _∙_}
+use mathlib.Core.Bool.{Bool, true}
+use mathlib.Core.Option.{Option, none, some}
 use mathlib.Core.List.{List, [], _∷_, _++_}
 use Prim.Native.Nat.{ℕ, suc, _-_}
 use lib.Dec.{leb, eqb}
@@ -10,7 +11,8 @@ use Rattle.model.specs.Answer.{Answer, result, refused, then, unless}
 use Rattle.model.specs.Chart.{Transition, Chart, Nth}
 use Rattle.model.specs.Run.{Counts, State, Step, grown, after, enabled, attempt, steps, begin, outcome, everyTime}
 use Rattle.model.specs.Equivalence.{IsRun}
-use Rattle.model.proofs.Answers.{not-result}
+use Rattle.lists.proofs.Bools.{same-number}
+use Rattle.model.proofs.Answers.{not-result, result-same, unless-result}
 
 -- the judgement of a step that names the transition r, once its time is allowed
 abbrev pub judgedStep : Chart → (n : ℕ) → Transition → State → (time : ℕ) → Answer State
@@ -29,6 +31,30 @@ module _ (allowed : ℕ → Bool) (c : Chart) (n : ℕ) (s : State) (e : Step) w
       → attempt allowed c n s e ≡ unless (allowed (e .time)) 15 n (judgedStep c n r s (e .time))
   unfolding attempt
   attempt-some m = rw (m .there, attempt) refl
+
+-- a step that is taken: its transition leaves the present location, and t is what it leaves
+pub record Taken (c : Chart) (s : State) (e : Step) (t : State) : Type 0 where
+  pub transition : Transition
+  pub is-nth : Nth c (e .transition) transition
+  pub leaves : transition .source ≡ s .location
+  pub left : after transition s (e .time) ≡ t
+
+passed : (a b c d : Bool) (n : ℕ) {s s′ : State} → unless a 15 n (unless b 22 n (unless c 23 n (unless d 24 n (result s)))) ≡ result s′
+    → (b ≡ true) × (s ≡ s′)
+passed a b c d n e =
+    let x = unless-result b 22 n _ (unless-result a 15 n _ e .1) in
+    (x .0, result-same (unless-result d 24 n _ (unless-result c 23 n _ (x .1) .1) .1))
+
+pub attempt-taken : (allowed : ℕ → Bool) (c : Chart) (n : ℕ) (s : State) (e : Step) (t : State) → attempt allowed c n s e ≡ result t → Taken c s e t
+attempt-taken allowed c n s e t a = go (getElem? (c .transitions) (e .transition)) refl
+  where
+    go : (o : Option Transition) → getElem? (c .transitions) (e .transition) ≡ o → Taken c s e t
+    go none m = absurd (not-result (sym (attempt-none allowed c n s e m) ∙ a))
+    go (some r) m =
+        let nth : Nth c (e .transition) r = record { there = m } in
+        let x = passed (allowed (e .time)) (eqb (r .source) (s .location)) (leb (s .time) (e .time))
+        (enabled c r (grown (e .time - s .time) (s .counts))) n (sym (attempt-some allowed c n s e nth) ∙ a) in
+        record { transition = r; is-nth = nth; leaves = same-number (x .0); left = x .1 }
 
 module _ (allowed : ℕ → Bool) (c : Chart) where
   abbrev Ends : Answer State → Type 0

@@ -23,11 +23,11 @@ use Rattle.model.specs.Valid.{ValidTest, ValidTransition, Valid, Storabl
 
 pub known-some : (v : ℕ) → knownVersion v ≡ true → 1 ≤ v
 unfolding knownVersion
-known-some v e = leb-true 1 v (and-left (leb 1 v) (leb v 2) e)
+known-some v e = leb-true 1 v (and-left (leb 1 v) (leb v 3) e)
 
-pub known-most : (v : ℕ) → knownVersion v ≡ true → v ≤ 2
+pub known-most : (v : ℕ) → knownVersion v ≡ true → v ≤ 3
 unfolding knownVersion
-known-most v e = leb-true v 2 (and-right (leb 1 v) (leb v 2) e)
+known-most v e = leb-true v 3 (and-right (leb 1 v) (leb v 3) e)
 
 pub width-other : (v : ℕ) → (v ≡ 1 → ⊥) → widthOf v ≡ 4
 unfolding widthOf

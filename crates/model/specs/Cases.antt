@@ -11,6 +11,7 @@ use Rattle.model.specs.Chart.{Test, Transition, Chart}
 use Rattle.model.specs.Version.{inVersion}
 use Rattle.model.specs.AnyOrder.{lastToFirst}
 use Rattle.model.specs.Live.{liveSets, liveRounds}
+use Rattle.model.specs.Spare.{reachedPart}
 use Rattle.model.specs.Family.{familyNumber}
 use Rattle.model.specs.FirstFit.{Placed, board, usedBy}
 use Rattle.model.specs.Floor.{floor}
@@ -168,6 +169,32 @@ beyondCounts = inVersion 2 (drawn 3 2 1 (
 unfoldable pub longDwell′ : Chart
 longDwell′ = inVersion 2 (drawn 3 2 1 (arrow 0 1 (0 ∷ []) [] ∷ arrow 1 2 [] (test 0 AtLeast 65537 ∷ []) ∷ []))
 
+-- of version 3: no path reaches location 4; timers 0 and 1 are twins though its transition starts only 0
+unfoldable pub withSpare : Chart
+withSpare = inVersion 3 (drawn 5 3 2 (
+    arrow 0 1 (0 ∷ 1 ∷ []) []
+    ∷ arrow 1 2 [] (test 0 AtLeast 2 ∷ [])
+    ∷ onEvent 9 (arrow 4 1 (0 ∷ []) (test 1 AtMost 5 ∷ []))
+    ∷ arrow 2 3 [] (test 1 AtMost 9 ∷ [])
+    ∷ []))
+
+-- the same rewritten: the transition that leaves location 4 keeps its ends and its event alone
+unfoldable pub withSpare′ : Chart
+withSpare′ = inVersion 3 (drawn 5 3 1 (
+    arrow 0 1 (0 ∷ []) []
+    ∷ arrow 1 2 [] (test 0 AtLeast 2 ∷ [])
+    ∷ onEvent 9 (arrow 4 1 [] [])
+    ∷ arrow 2 3 [] (test 0 AtMost 9 ∷ [])
+    ∷ []))
+
+-- of version 3: nothing starts the timer that the transition from the spare location 2 tests
+unfoldable pub spareUnstarted : Chart
+spareUnstarted = inVersion 3 (drawn 3 1 1 (arrow 0 1 [] [] ∷ arrow 2 1 [] (test 0 AtLeast 0 ∷ []) ∷ []))
+
+-- the same rewritten
+unfoldable pub spareUnstarted′ : Chart
+spareUnstarted′ = inVersion 3 (drawn 3 1 0 (arrow 0 1 [] [] ∷ arrow 2 1 [] [] ∷ []))
+
 -- what a case asks of a chart
 pub data Question : Type 0 where
   live-sets : Chart → Question
@@ -190,9 +217,9 @@ boardNumbers ps = reverse (map (λ g. (familyNumber (g .family), g .number)) ps)
 
 -- what the definitions answer
 unfoldable pub ask : Question → Reply
-ask (live-sets c) = sets (liveSets c)
-ask (round-count c) = count (liveRounds c)
-ask (numbers c) = let placed = board c in given (boardNumbers placed) (usedBy placed) (floor c)
+ask (live-sets c) = sets (liveSets (reachedPart c))
+ask (round-count c) = count (liveRounds (reachedPart c))
+ask (numbers c) = let part = reachedPart c in let placed = board part in given (boardNumbers placed) (usedBy placed) (floor part)
 ask (rewrite c k) = rewriting-is (rewriting k c)
 ask (play c v is ts) = played-is (played c v is ts)
 
@@ -224,8 +251,9 @@ starred =
 -- what "goes wrong unnoticed", beside the cases above: a timer started anew begins a family of its own; a start on the same transition does not
 -- come before its test, neither where it is judged nor where it is played; an event is kept, which is 0 in all charts above; and, by document 02,
 -- first fit's used is not the floor, a constant over 65,535 is kept and compared as it is, the last round is counted, a round reads only the round
--- before (sweeps in place over A, written last to first, would be 2), twins share a number that is started once, and the lowest twin names the family
--- though it is live nowhere
+-- before (sweeps in place over A, written last to first, would be 2), twins share a number that is started once, the lowest twin names the family
+-- though it is live nowhere, and of version 3 a location that no path reaches has no live timer, tells no twins apart, is in no family, has no
+-- unstarted test, and its transitions stay without starts and tests
 unfoldable pub unnoticed : List Case
 unnoticed =
     case (numbers restart) (given ((64, 0) ∷ (128, 0) ∷ []) 1 1)
@@ -248,4 +276,11 @@ unnoticed =
     ∷ case (rewrite startedTogether 1) (rewriting-is (result (record { used = 1; chart = startedTogether′ })))
     ∷ case (rewrite startedTogether 0) (rewriting-is (refused 20 nowhere))
     ∷ case (numbers lowestUntested) (given ((64, 0) ∷ (65, 1) ∷ []) 2 2)
+    ∷ case (live-sets withSpare) (sets (0 ∷ 3 ∷ 2 ∷ 0 ∷ 0 ∷ []))
+    ∷ case (round-count withSpare) (count 3)
+    ∷ case (numbers withSpare) (given ((64, 0) ∷ []) 1 1)
+    ∷ case (rewrite withSpare 1) (rewriting-is (result (record { used = 1; chart = withSpare′ })))
+    ∷ case (rewrite (inVersion 2 withSpare) 1) (rewriting-is (refused 9 4))
+    ∷ case (rewrite spareUnstarted 0) (rewriting-is (result (record { used = 0; chart = spareUnstarted′ })))
+    ∷ case (rewrite (inVersion 2 spareUnstarted) 0) (rewriting-is (refused 9 2))
     ∷ []

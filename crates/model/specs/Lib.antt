@@ -7,6 +7,7 @@ pub mod Path
 pub mod LiveWithin
 pub mod Flow
 pub mod Live
+pub mod Spare
 pub mod Twins
 pub mod Family
 pub mod FirstFit

@@ -80,7 +80,7 @@ live c q j = member (getD (liveSets c) q 0) j
 unfoldable pub isEmpty : ℕ → Bool
 isEmpty w = eqb w 0
 
--- 9: the lowest location that no path reaches, or the number of locations
+-- the lowest location that no path reaches, or the number of locations; 9 refuses it below version 3
 unfoldable pub firstUnreached : Chart → ℕ
 firstUnreached c = let sets = reachedSets c in lowest (λ q. isEmpty (getD sets q 0)) (c .locations)
 

@@ -1,4 +1,4 @@
--- The chart rewritten by a numbering (document 01, "Live, born, family, board number"; document 02, P6). Assumes nothing.
+-- The chart rewritten by a numbering (document 01, "Live, born, family, board number"; document 02, P6 and P7). Assumes nothing.
 use mathlib.Core.Path.{_≡_}
 use mathlib.Core.Bool.{true, false}
 use mathlib.Core.Option.{Option, none, some}
@@ -9,6 +9,7 @@ use Rattle.timer_set.specs.Members.{member}
 use Rattle.lists.specs.Lists.{memb, pick}
 use Rattle.model.specs.Chart.{Test, Transition, Chart, tested}
 use Rattle.model.specs.Live.{liveSets}
+use Rattle.model.specs.Spare.{reachedPart, spareCleared}
 use Rattle.model.specs.Twins.{lowestTwin}
 use Rattle.model.specs.FirstFit.{Placed, numberAt, usedBy, board}
 
@@ -66,9 +67,9 @@ rewrittenBy N c = record {
   transitions = map (newTransition N) (c .transitions);
 }
 
--- the rewritten chart: by the board numbers of first fit
+-- the rewritten chart: by first fit's board numbers of the part that counts; transitions that leave a spare location have no tests and no starts
 unfoldable pub rewritten : Chart → Chart
-rewritten c = let N = boardNumbering c in rewrittenBy N c
+rewritten c = let N = boardNumbering (reachedPart c) in rewrittenBy N (spareCleared c)
 
 -- the timers that the transition names are below the limit
 pub record NamesBelow (limit : ℕ) (r : Transition) : Type 0 where

@@ -1,4 +1,5 @@
--- The versions of a chart file, the bytes that a constant has in each, and which charts version 1 does not hold (document 02, P2). Assumes nothing.
+-- The versions of a chart file, the bytes that a constant has in each, which charts version 1 does not hold (document 02, P2), and which versions
+-- allow locations that no path reaches (document 02, P7). Assumes nothing.
 use mathlib.Core.Path.{_≡_}
 use mathlib.Core.Bool.{Bool, true, false, _&&_}
 use mathlib.Core.Option.{some}
@@ -8,13 +9,17 @@ use lib.ListN.{getElem?}
 use Rattle.lists.specs.Lists.{anyOf}
 use Rattle.model.specs.Chart.{Test, Transition, Chart, Nth}
 
--- the versions that there are, 1 and 2: those that refusal 2 spares
+-- the versions that there are, 1 to 3: those that refusal 2 spares
 unfoldable pub knownVersion : (version : ℕ) → Bool
-knownVersion version = leb 1 version && leb version 2
+knownVersion version = leb 1 version && leb version 3
 
 -- the bytes of a constant: two in version 1, else four
 unfoldable pub widthOf : (version : ℕ) → ℕ
 widthOf version = elim (eqb version 1) [ true ↦ 2 | false ↦ 4 ]
+
+-- from version 3 on a chart may have locations that no path reaches; below it 9 refuses them
+unfoldable pub allowsSpare : (version : ℕ) → Bool
+allowsSpare version = leb 3 version
 
 -- the most bytes that a constant has in any version
 abbrev pub widest : ℕ

@@ -8,6 +8,7 @@ use lib.ListN.{length, take}
 use Rattle.model.specs.Answer.{Answer, result, refused}
 use Rattle.model.specs.Chart.{Chart}
 use Rattle.model.specs.Live.{liveSets, liveRounds}
+use Rattle.model.specs.Spare.{reachedPart}
 use Rattle.model.specs.Twins.{mergedSets}
 use Rattle.model.specs.FirstFit.{used}
 use Rattle.model.specs.Floor.{floor, searched}
@@ -24,32 +25,51 @@ use Rattle.numbering.specs.FileNumbers.{FileNumbers, fileNumbers, number
 
 -- ---- of a chart
 
-module _ (c : Chart) {m : Header} (is : m ≡ headerOf c) {merged : List ℕ} (b : Begins (mergedSets c) merged) where
-  merged-each-is : m .locations ≡ length (mergedSets c)
-  merged-each-is = locations-are c is ∙ sym (merged-each c)
+module _ (c : Chart) {n : ℕ} (is : n ≡ c .locations) {merged : List ℕ} (b : Begins (mergedSets c) merged) where
+  merged-each-is : n ≡ length (mergedSets c)
+  merged-each-is = is ∙ sym (merged-each c)
 
-  -- the part of the list that is looked at again is the merged sets
-  pub merged-front : take (m .locations) merged ≡ mergedSets c
+  -- the front of the list that is looked at again is the merged sets
+  pub merged-front : take n merged ≡ mergedSets c
   merged-front = begins-take b merged-each-is
 
-  pub merged-part : length (take (m .locations) merged) ≡ m .locations
+  pub merged-part : length (take n merged) ≡ n
   merged-part = begins-part b merged-each-is
 
-module _ (c : Chart) {m : Header} (is : m ≡ headerOf c) {live : List ℕ} (b : Begins (liveSets c) live) where
-  each : m .locations ≡ length (liveSets c)
-  each = locations-are c is ∙ sym (live-each c)
+module _ (c : Chart) {n : ℕ} (is : n ≡ c .locations) {live : List ℕ} (b : Begins (liveSets c) live) where
+  each : n ≡ length (liveSets c)
+  each = is ∙ sym (live-each c)
 
-  -- the part of the list that is looked at again is the live sets
-  pub live-front : take (m .locations) live ≡ liveSets c
+  -- the front of the list that is looked at again is the live sets
+  pub live-front : take n live ≡ liveSets c
   live-front = begins-take b each
 
-  pub live-part : length (take (m .locations) live) ≡ m .locations
+  pub live-part : length (take n live) ≡ n
   live-part = begins-part b each
 
-  pub live-room : m .locations ≤ length live
+  pub live-room : n ≤ length live
   live-room = omega (arith, each, begins-room b)
 
-  pub chart-numbers : {u f n : ℕ} {s : Bool} → u ≡ used c → f ≡ floor c → s ≡ searched c → n ≡ liveRounds c
+module _ (c : Chart) {m : Header} (is : m ≡ headerOf c) where
+  -- the part of a chart that counts has all its locations
+  pub part-are : m .locations ≡ reachedPart c .locations
+  unfolding reachedPart
+  part-are = locations-are c is
+
+  -- the header of the part, from that of the chart
+  pub part-header : {n : ℕ} → n ≡ length (reachedPart c .transitions) → record {
+    version = m .version;
+    locations = m .locations;
+    initial = m .initial;
+    timers = m .timers;
+    accepting = m .accepting;
+    transitions = n;
+  } ≡ headerOf (reachedPart c)
+  unfolding headerOf reachedPart
+  part-header e = rw (is, e)
+
+  pub chart-numbers : {u f n : ℕ} {s : Bool} → u ≡ used (reachedPart c) → f ≡ floor (reachedPart c) → s ≡ searched (reachedPart c)
+      → n ≡ liveRounds (reachedPart c)
       → _≡_ {A = FileNumbers} (record { header = m; used = u; floor = f; searched = s; rounds = n }) (fileNumbers c)
   unfolding fileNumbers
   chart-numbers e g h n = rw (is, e, g, h, n)
@@ -61,10 +81,10 @@ pub record FileChart (bs : List ℕ) (x : FileNumbers) : Type 0 where
   pub chart : Chart
   pub judged : judgedIn bs ≡ result chart
   pub header-is : x .header ≡ headerOf chart
-  pub used-is : x .used ≡ used chart
-  pub floor-is : x .floor ≡ floor chart
-  pub searched-is : x .searched ≡ searched chart
-  pub rounds-is : x .rounds ≡ liveRounds chart
+  pub used-is : x .used ≡ used (reachedPart chart)
+  pub floor-is : x .floor ≡ floor (reachedPart chart)
+  pub searched-is : x .searched ≡ searched (reachedPart chart)
+  pub rounds-is : x .rounds ≡ liveRounds (reachedPart chart)
 
 module _ (bs : List ℕ) where
   -- what is answered, by the judgement

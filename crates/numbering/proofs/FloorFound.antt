@@ -22,9 +22,6 @@ use Rattle.model.proofs.FamilyList.{families-are}
 use Rattle.model.proofs.LivePairs.{live-pairs-formed}
 use Rattle.sharing_plans.proofs.FamilyCounts.{used-families}
 use Rattle.sharing_plans.proofs.Floor.{floor-searched, floor-unsearched, fullest-fewest, fewest-used}
-use Rattle.chart_lists.specs.Header.{headerOf}
-use Rattle.chart_lists.specs.declared.Header.{Header}
-use Rattle.chart_lists.proofs.Fronts.{locations-are}
 use Rattle.meeting.specs.Meeting.{Asked}
 use Rattle.numbering.specs.ChartNumbered.{ChartNumbered}
 use Rattle.numbering.specs.FloorAsked.{FloorAsked}
@@ -32,14 +29,14 @@ use Rattle.numbering.specs.declared.Numbered.{Numbered}
 use Rattle.numbering.proofs.FileNumbers.{merged-front}
 
 -- the fronts of the lists that a chart's numbering leaves are what is asked
-pub floor-asked : {W : ℕ} (c : Chart) {m : Header} (is : m ≡ headerOf c) {live merged cells at : List ℕ} {r : Numbered} → Valid W c
-    → ChartNumbered c live merged cells at r → m .locations ≤ length at → FloorAsked c (take (m .locations) merged) (take (m .locations) at) r
+pub floor-asked : {W : ℕ} (c : Chart) {m : ℕ} (is : m ≡ c .locations) {live merged cells at : List ℕ} {r : Numbered} → Valid W c
+    → ChartNumbered c live merged cells at r → m ≤ length at → FloorAsked c (take m merged) (take m at) r
 floor-asked {W} c {m} is {at = at} valid n room = record {
   width = W;
   valid = valid;
   merged-are = merged-front c is (n .merged-are);
-  at-are = rw (locations-are c is) (n .at-are);
-  at-long = length-take-le (m .locations) at room ∙ locations-are c is;
+  at-are = rw is (n .at-are);
+  at-long = length-take-le m at room ∙ is;
   used-is = n .used-is;
   families-is = n .families-is;
 }

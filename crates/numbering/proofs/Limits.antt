@@ -7,6 +7,7 @@ use borrow.Author.Tests.{le-leb, lt-leb}
 use Rattle.lists.proofs.Bools.{is-no}
 use Rattle.model.specs.Chart.{Chart}
 use Rattle.model.specs.Answer.{nowhere}
+use Rattle.model.specs.Spare.{reachedPart}
 use Rattle.model.specs.FirstFit.{blocked, board, used}
 use Rattle.model.specs.Rewrite.{rewritten}
 use Rattle.model.specs.Judge.{fitted}
@@ -30,11 +31,11 @@ module _ (k count : ℕ) where
   module _ (h : k ≤ 64) where
     pub too-small : k < count → LimitJudged k count (refuse 20)
     unfolding fitted
-    too-small l = record { answer = λ c e. rw (le-leb k 64 h, board-blocked k c .1 (omega arith)); fits = λ e. absurd (never 20 e) }
+    too-small l = record { answer = λ c e. rw (le-leb k 64 h, board-blocked k (reachedPart c) .1 (omega arith)); fits = λ e. absurd (never 20 e) }
 
     pub enough : count ≤ k → LimitJudged k count limit.Enough
     unfolding fitted used rewritten
     enough l = record { answer = λ c e. rw (le-leb k 64 h, free c e); fits = λ e. (l, h) }
       where
-        free : (c : Chart) → count ≡ used c → blocked k (board c) ≡ false
-        free c e = is-no (blocked k (board c)) (λ t. omega (arith, board-blocked k c .0 t))
+        free : (c : Chart) → count ≡ used (reachedPart c) → blocked k (board (reachedPart c)) ≡ false
+        free c e = is-no (blocked k (board (reachedPart c))) (λ t. omega (arith, board-blocked k (reachedPart c) .0 t))

@@ -7,10 +7,14 @@ use lib.ListN.{length, take, replicate, length-replicate}
 use lib.Seq.{take-at}
 use Rattle.lists.proofs.Zeros.{take-zeros}
 use Rattle.model.specs.Chart.{Chart}
+use Rattle.model.specs.Valid.{Valid}
+use Rattle.model.specs.Places.{AllReached}
+use Rattle.model.specs.Spare.{reachedPart}
 use Rattle.model.specs.Flow.{Flow, settled, rounds}
 use Rattle.model.specs.Live.{testedSets, liveFlow, liveSets, liveRounds}
 use Rattle.model.specs.Family.{families, livePairs}
 use Rattle.model.specs.FirstFit.{used}
+use Rattle.model.proofs.ReachedPart.{part-whole}
 use Rattle.chart_lists.specs.Limits.{mostLocations}
 use Rattle.chart_lists.specs.Header.{headerOf}
 use Rattle.chart_lists.specs.declared.Header.{Header}
@@ -76,7 +80,7 @@ module _ (c : Chart) {m : Header} (is : m ≡ headerOf c) {s t w : List ℕ} (h 
     sources-are = sources-front c is (h .sources);
     targets-are = targets-front c is (h .targets);
     starts-are = starts-front c is (h .starts);
-    live-are = live-front c is b;
+    live-are = live-front c (locations-are c is) b;
     timers-are = timers-are c is;
   }
 
@@ -93,3 +97,9 @@ module _ (c : Chart) {m : Header} (is : m ≡ headerOf c) {s t w : List ℕ} (h 
     rounds-is = n;
     at-are = subst (FamiliesAt (families (livePairs c))) (sym (take-at at past (c .locations) (long ∙ locations-are c is))) (x .at-are);
   }
+
+-- where every location is reached, what is left of the chart is left of the part that counts
+pub whole-numbered : {W : ℕ} {c : Chart} {live merged cells at : List ℕ} {r : Numbered} → Valid W c → AllReached c
+    → ChartNumbered c live merged cells at r → ChartNumbered (reachedPart c) live merged cells at r
+whole-numbered {live = live} {merged = merged} {cells = cells} {at = at} {r = r} valid all =
+    subst (λ (d : Chart). ChartNumbered d live merged cells at r) (sym (part-whole valid all))

@@ -6,6 +6,7 @@ use Rattle.model.specs.Answer.{Answer, result, then}
 use Rattle.model.specs.Chart.{Chart}
 use Rattle.model.specs.Valid.{Valid}
 use Rattle.model.specs.Live.{liveSets, liveRounds}
+use Rattle.model.specs.Spare.{reachedPart}
 use Rattle.model.specs.FirstFit.{used}
 use Rattle.model.specs.Floor.{floor, searched}
 use Rattle.model.specs.Rewrite.{boardNumbering}
@@ -28,7 +29,8 @@ pub record FileNumbers : Type 0 where
   pub rounds : ℕ
 
 unfoldable pub fileNumbers : Chart → FileNumbers
-fileNumbers c = record { header = headerOf c; used = used c; floor = floor c; searched = searched c; rounds = liveRounds c }
+fileNumbers c = let part = reachedPart c in
+    record { header = headerOf c; used = used part; floor = floor part; searched = searched part; rounds = liveRounds part }
 
 -- 1 to 10, else these of the file's chart
 unfoldable pub numberedIn : List ℕ → Answer FileNumbers
@@ -39,9 +41,9 @@ abbrev pub fileNumberedAs : FileNumbered → Answer FileNumbers
 fileNumberedAs (file.Chart h u f s r) = result (record { header = h; used = u; floor = f; searched = s; rounds = r })
 fileNumberedAs (file.Refused f) = refusedAs f
 
--- a chart that a file can hold; the lists begin with its live sets and with the cells of its board numbers
+-- a chart that a file can hold; the lists begin with its live sets and with the cells of its board numbers, those of the part that counts
 pub record ListsNumbered (c : Chart) (live cells : List ℕ) : Type 0 where
   pub width : ℕ
   pub valid : Valid width c
-  pub live-are : Begins (liveSets c) live
-  pub cells-are : Begins (cellsOf (boardNumbering c) (c .locations)) cells
+  pub live-are : Begins (liveSets (reachedPart c)) live
+  pub cells-are : Begins (cellsOf (boardNumbering (reachedPart c)) (c .locations)) cells

@@ -4,7 +4,9 @@ ghost use Prim.Native.Nat.{_*_, _≤_};
 ghost use lib.ListN.{length};
 ghost use Rattle.model.specs.Answer.{result};
 ghost use Rattle.model.specs.Chart.{Chart};
-ghost use Rattle.model.specs.Live.{testedSets, liveSets, liveRounds};
+ghost use Rattle.model.specs.Live.{testedSets};
+ghost use Rattle.model.specs.Spare.{reachedPart};
+ghost use Rattle.model.specs.Places.{ReachedIfAsked};
 ghost use Rattle.chart_lists.specs.Limits.{mostLocations};
 ghost use Rattle.chart_lists.specs.Header.{headerOf};
 ghost use Rattle.chart_lists.specs.Begins.{Begins};
@@ -17,8 +19,10 @@ ghost use Rattle.numbering.specs.Limits.{LimitJudged};
 ghost use Rattle.numbering.specs.FileNumbers.{fileNumbers, numberedIn, fileNumberedAs, ListsNumbered};
 
 mod floor;
+mod whole;
 
 use crate::floor::find_floor;
+use crate::whole::number_lists;
 use chart_lists::Header;
 use chart_lists::MOST_LOCATIONS;
 use chart_lists::MOST_TESTS;
@@ -52,33 +56,8 @@ pub enum FileNumbered {
     Refused(Refusal),
 }
 
-// The live set of each location over the front of `live`. How many rounds found them.
-fn live_chart<'a>(
-    header: Header,
-    sources: &'a [u16],
-    targets: &'a [u16],
-    starts: &'a [u64],
-    tested: &'a [u64],
-    live: &mut [u64],
-) -> u32
-    requires { ⌜ ((c : Chart) × (header ≡ headerOf c) × Holds c (edgesOf c (now sources) (now targets) (now starts))
-        × Begins (testedSets c) (now tested)) × (header .locations ≤ length (now live)) ⌝ }
-    ensures { λ r. ⌜ ((c : Chart) → header ≡ headerOf c → Holds c (edgesOf c (now (sources .entry)) (now (targets .entry)) (now (starts .entry)))
-        → Begins (testedSets c) (now (tested .entry)) → Begins (liveSets c) (now (live .exit)) × (r ≡ liveRounds c)) ⌝ }
-{
-    let m = header.locations as usize;
-    let n = header.transitions as usize;
-    let from = &sources[..n];
-    let to = &targets[..n];
-    let started = &starts[..n];
-    let own = [0u64; MOST_LOCATIONS];
-    flow::settle(from, to, started, &tested[..n], &own[..m], &mut live[..m])
-}
-
-// The live set of each location over the front of `live`, the same with twins counted as one over the front of `merged`, the board number of each
-// live timer j at 64 q + j over the front of `cells`, and over the front of `families_at` of each location which of the first 20 families contain it.
-// How many numbers are used, how many families there are, and how many rounds found the live sets.
-pub fn number_chart<'a>(
+// The numbers of the part of a chart that counts (as `number_lists`): the lists of the transitions that leave a reached location are made here.
+fn number_part<'a>(
     header: Header,
     sources: &'a [u16],
     targets: &'a [u16],
@@ -94,25 +73,88 @@ pub fn number_chart<'a>(
         × (64 * header .locations ≤ length (now cells)) × (header .locations ≤ length (now «families_at»)) ⌝ }
     ensures { λ r. ⌜ ((c : Chart) → header ≡ headerOf c → Holds c (edgesOf c (now (sources .entry)) (now (targets .entry)) (now (starts .entry)))
         → Begins (testedSets c) (now (tested .entry))
-        → ChartNumbered c (now (live .exit)) (now (merged .exit)) (now (cells .exit)) (now («families_at» .exit)) r) ⌝ }
+        → ChartNumbered (reachedPart c) (now (live .exit)) (now (merged .exit)) (now (cells .exit)) (now («families_at» .exit)) r) ⌝ }
 {
-    let rounds = live_chart(header, sources, targets, starts, tested, live);
-    let m = header.locations as usize;
-    let n = header.transitions as usize;
-    let allocated = twins::live::number_live(
-        &sources[..n],
-        &targets[..n],
-        &starts[..n],
-        &live[..m],
-        header.timers,
-        &mut merged[..m],
-        &mut cells[..64 * m],
-        &mut families_at[..m],
+    let mut part_sources = [0u16; MOST_TRANSITIONS];
+    let mut part_targets = [0u16; MOST_TRANSITIONS];
+    let mut part_starts = [0u64; MOST_TRANSITIONS];
+    let mut part_tested = [0u64; MOST_TRANSITIONS];
+    let transitions = spare::reached_part(
+        header,
+        sources,
+        targets,
+        starts,
+        tested,
+        &mut part_sources,
+        &mut part_targets,
+        &mut part_starts,
+        &mut part_tested,
     );
-    Numbered {
-        used: allocated.used,
-        families: allocated.families,
-        rounds,
+    let part = Header {
+        version: header.version,
+        locations: header.locations,
+        initial: header.initial,
+        timers: header.timers,
+        accepting: header.accepting,
+        transitions,
+    };
+    number_lists(
+        part,
+        &part_sources,
+        &part_targets,
+        &part_starts,
+        &part_tested,
+        live,
+        merged,
+        cells,
+        families_at,
+    )
+}
+
+// The numbers of a chart that was judged, over the fronts of the lists: where its version allows no spare location, all of it counts.
+pub fn number_chart<'a>(
+    header: Header,
+    sources: &'a [u16],
+    targets: &'a [u16],
+    starts: &'a [u64],
+    tested: &'a [u64],
+    live: &mut [u64],
+    merged: &mut [u64],
+    cells: &mut [u16],
+    families_at: &mut [u64],
+) -> Numbered
+    requires { ⌜ ((c : Chart) × (header ≡ headerOf c) × Holds c (edgesOf c (now sources) (now targets) (now starts))
+        × Begins (testedSets c) (now tested) × ReachedIfAsked c) × (header .locations ≤ length (now live))
+        × (header .locations ≤ length (now merged)) × (64 * header .locations ≤ length (now cells))
+        × (header .locations ≤ length (now «families_at»)) ⌝ }
+    ensures { λ r. ⌜ ((c : Chart) → header ≡ headerOf c → Holds c (edgesOf c (now (sources .entry)) (now (targets .entry)) (now (starts .entry)))
+        → Begins (testedSets c) (now (tested .entry)) → ReachedIfAsked c
+        → ChartNumbered (reachedPart c) (now (live .exit)) (now (merged .exit)) (now (cells .exit)) (now («families_at» .exit)) r) ⌝ }
+{
+    if file_format::allows_spare(header.version) {
+        number_part(
+            header,
+            sources,
+            targets,
+            starts,
+            tested,
+            live,
+            merged,
+            cells,
+            families_at,
+        )
+    } else {
+        number_lists(
+            header,
+            sources,
+            targets,
+            starts,
+            tested,
+            live,
+            merged,
+            cells,
+            families_at,
+        )
     }
 }
 
@@ -140,9 +182,10 @@ fn number_judged<'a>(
     cells: &mut [u16],
 ) -> FileNumbered
     requires { ⌜ ((c : Chart) × (header ≡ headerOf c) × Holds c (edgesOf c (now sources) (now targets) (now starts))
-        × Begins (testedSets c) (now tested)) × (header .locations ≤ length (now live)) × (64 * header .locations ≤ length (now cells)) ⌝ }
+        × Begins (testedSets c) (now tested) × ReachedIfAsked c) × (header .locations ≤ length (now live))
+        × (64 * header .locations ≤ length (now cells)) ⌝ }
     ensures { λ r. ⌜ ((c : Chart) → header ≡ headerOf c → Holds c (edgesOf c (now (sources .entry)) (now (targets .entry)) (now (starts .entry)))
-        → Begins (testedSets c) (now (tested .entry))
+        → Begins (testedSets c) (now (tested .entry)) → ReachedIfAsked c
         → (fileNumberedAs r ≡ result (fileNumbers c)) × ListsNumbered c (now (live .exit)) (now (cells .exit))) ⌝ }
 {
     let mut merged = [0u64; MOST_LOCATIONS];

@@ -1,13 +1,14 @@
 -- Which refusals the player gives on a file, 1 to 10 exactly as the judgement of the file, and what 9 and 10 say of its chart. Hard: that a number
 -- up to 10 comes from the judgement, since all later ones are at least 12. Assumes nothing.
 use mathlib.Core.Path.{_≡_, refl, sym, ap₂, subst, _∙_}
-use mathlib.Core.Logic.{_⊎_, inl, inr, _↔_}
+use mathlib.Core.Logic.{_⊎_, inl, inr, _↔_, Iff·trans}
 use mathlib.Core.Bool.{Bool, true, false, _&&_}
+use mathlib.Core.Option.{some}
 use mathlib.Core.List.{List, [], _∷_}
 use Prim.Native.Nat.{ℕ, _≤_, _<_}
 use native.Mathlib.Omega.{arith}
 use lib.Dec.{leb, eqb}
-use lib.ListN.{length, getD}
+use lib.ListN.{length, getD, getElem?}
 use borrow.Author.Tests.{leb-false, le-leb}
 use Rattle.lists.specs.Lists.{memb, anyOf, lowest}
 use Rattle.file_format.specs.Parse.{Bytes}
@@ -19,10 +20,11 @@ use Rattle.model.specs.Run.{playerTime}
 use Rattle.model.specs.Player.{Arrival, answerOf, tooLarge, countsJudged, stepsOf, playedOn}
 use Rattle.model.proofs.Answers.{refused-same, number-is}
 use Rattle.model.proofs.PlayerNumbers.{after-numbers}
-use Rattle.model.specs.Places.{LowestUnreached, LowestUnstarted}
+use Rattle.model.specs.Places.{LowestUnreached, LowestUnstarted, HasUnreached}
 use Rattle.judgement.specs.Judging.{judgedIn}
 use Rattle.judgement.specs.Charts.{HoldsChart}
 use Rattle.judgement.proofs.Corollaries.{judged-numbers, judged-9, judged-10, judged-result, refusals-of-judgedIn}
+use Rattle.judgement.proofs.Corollaries.{somewhere, unreached-in, never-unreached}
 use Rattle.file_format.proofs.File.{reads-valid}
 use Rattle.player.specs.Playing.{playAnswer}
 use Rattle.player.specs.Refusals.{RefusalOfPlay}
@@ -47,12 +49,19 @@ module _ (bs counts is ts : List ℕ) where
           q ∙ ap₂ refused (y .0) (y .1)
 
   module _ (bytes : Bytes bs) where
-    -- 9 at the lowest location that no path reaches, 10 at the lowest transition with an unstarted test
+    -- 9, below version 3, at the lowest location that no path reaches, 10 at the lowest transition with an unstarted test
     pub play-9 : (q : ℕ) → (playAnswer bs counts is ts ≡ refused 9 q) ↔ HoldsChart bs (λ c. LowestUnreached c q)
     play-9 q = let a = play-judged 9 q (omega arith) in let b = judged-9 bs bytes q in ((λ e. b .0 (a .0 e)), (λ h. a .1 (b .1 h)))
 
     pub play-10 : (i : ℕ) → (playAnswer bs counts is ts ≡ refused 10 i) ↔ HoldsChart bs (λ c. LowestUnstarted c i)
     play-10 i = let a = play-judged 10 i (omega arith) in let b = judged-10 bs bytes i in ((λ e. b .0 (a .0 e)), (λ h. a .1 (b .1 h)))
+
+    -- 9 wherever the version is below 3 and some location is not reached, and in no file of version 3
+    pub play-9-when : ((q : ℕ) × (playAnswer bs counts is ts ≡ refused 9 q)) ↔ HoldsChart bs HasUnreached
+    play-9-when = Iff·trans (somewhere play-9) (unreached-in bs bytes)
+
+    pub play-never-9 : getElem? bs 0 ≡ some 3 → (q : ℕ) → playAnswer bs counts is ts ≡ refused 9 q → ⊥
+    play-never-9 v q e = never-unreached bs bytes v (play-9-when .0 (q, e))
 
   -- ---- every refusal, with its place
 

@@ -17,7 +17,7 @@ pub const WRONG_LENGTH: Refusal = Refusal {
     place: NOWHERE,
 };
 
-// A version other than 1 and 2.
+// A version other than 1 to 3.
 pub const WRONG_VERSION: Refusal = Refusal {
     number: 2,
     place: NOWHERE,

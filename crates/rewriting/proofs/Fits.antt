@@ -8,8 +8,11 @@ use lib.ListN.{length}
 use Rattle.model.specs.Answer.{result, nowhere}
 use Rattle.model.specs.Version.{widthOf}
 use Rattle.model.specs.Valid.{Storable}
-use Rattle.model.specs.Rewrite.{boardNumbering}
+use Rattle.model.specs.Spare.{reachedPart, spareCleared}
+use Rattle.model.specs.Rewrite.{boardNumbering, rewritten}
 use Rattle.model.specs.Judge.{Rewriting, rewriting}
+use Rattle.model.proofs.SameReached.{plan-there}
+use Rattle.model.proofs.SpareCleared.{cleared-same}
 use Rattle.model.proofs.RewrittenValid.{names-below}
 use Rattle.model.proofs.RewritingAlike.{rewriting-is}
 use Rattle.model.proofs.EqualAnswers.{judged-plan, equal-behaviour}
@@ -33,13 +36,15 @@ module _ {K : ℕ} {bs : List ℕ} (bytes : Bytes bs) {x : Rewriting} (o : Rewri
   storable-chart = reads-storable bs (o .chart) bytes (o .reads)
 
   rewriting-fits : FitsBoard K x
+  unfolding rewritten
   rewriting-fits =
       let c = o .chart in
       let b = equal-behaviour (widthOf (c .version)) K c (storable-chart .valid) x (o .made) in
       let plan = judged-plan (storable-chart .valid) (rewriting-is K c x (o .made) .accepted) in
       let s = b .storable storable-chart in
       record {
-        names-below = rw (b .chart, b .used) (names-below c (boardNumbering c) plan);
+        names-below = rw (b .chart, b .used)
+            (names-below (spareCleared c) (boardNumbering (reachedPart c)) (plan-there (cleared-same (storable-chart .valid)) plan));
         fits = b .fits;
         limit = b .limit;
         storable = s;

@@ -10,6 +10,7 @@ use borrow.Author.Tests.{le-leb, lt-leb}
 use Rattle.lists.proofs.Bools.{lt-or-le}
 use Rattle.model.specs.Answer.{Answer, result, refused, nowhere}
 use Rattle.model.specs.Chart.{Chart}
+use Rattle.model.specs.Spare.{reachedPart}
 use Rattle.model.specs.FirstFit.{used}
 use Rattle.model.specs.Rewrite.{rewritten}
 use Rattle.model.specs.Judge.{Rewriting}
@@ -35,8 +36,8 @@ numberOf at-room = 21
 -- each where those before it are not
 abbrev pub Stops : (K room : ℕ) → Stop → Chart → Type 0
 Stops K room at-limit c = 64 < K
-Stops K room at-used c = (K ≤ 64) × (K < used c)
-Stops K room at-room c = (K ≤ 64) × (used c ≤ K) × (room < length (fileOf (rewritten c)))
+Stops K room at-used c = (K ≤ 64) × (K < used (reachedPart c))
+Stops K room at-room c = (K ≤ 64) × (used (reachedPart c) ≤ K) × (room < length (fileOf (rewritten c)))
 
 -- the numbers tell them apart
 stopOf : ℕ → Stop
@@ -55,13 +56,13 @@ same-stop s t e = sym (stop-is s) ∙ ap stopOf e ∙ stop-is t
 
 module _ (K room : ℕ) (c : Chart) where
   pub stopped : (s : Stop) → Stops K room s c → fittedInto K room c ≡ refused (numberOf s) nowhere
-  stopped at-limit h = fitted-into K room c (too-large K (used c) h .answer c refl)
-  stopped at-used h = fitted-into K room c (too-small K (used c) (h .0) (h .1) .answer c refl)
+  stopped at-limit h = fitted-into K room c (too-large K (used (reachedPart c)) h .answer c refl)
+  stopped at-used h = fitted-into K room c (too-small K (used (reachedPart c)) (h .0) (h .1) .answer c refl)
   stopped at-room h =
-      fitted-into K room c (enough K (used c) (h .0) (h .1) .answer c refl) ∙ rw (lt-leb (length (fileOf (rewritten c))) room (h .2))
+      fitted-into K room c (enough K (used (reachedPart c)) (h .0) (h .1) .answer c refl) ∙ rw (lt-leb (length (fileOf (rewritten c))) room (h .2))
 
-  returned : K ≤ 64 → used c ≤ K → length (fileOf (rewritten c)) ≤ room → fittedInto K room c ≡ result (made c)
-  returned h l r = fitted-into K room c (enough K (used c) h l .answer c refl) ∙ rw (le-leb (length (fileOf (rewritten c))) room r)
+  returned : K ≤ 64 → used (reachedPart c) ≤ K → length (fileOf (rewritten c)) ≤ room → fittedInto K room c ≡ result (made c)
+  returned h l r = fitted-into K room c (enough K (used (reachedPart c)) h l .answer c refl) ∙ rw (le-leb (length (fileOf (rewritten c))) room r)
 
 -- ---- of a file
 
@@ -81,7 +82,7 @@ module _ (K room : ℕ) (bs : List ℕ) where
       stop : (c : Chart) (s : Stop) → judgedIn bs ≡ result c → Stops K room s c → Outcome K room bs
       stop c s e h = is-stopped c s e h (into-stopped c s e h)
 
-      of : (c : Chart) → judgedIn bs ≡ result c → (64 < K) ⊎ (K ≤ 64) → (K < used c) ⊎ (used c ≤ K)
+      of : (c : Chart) → judgedIn bs ≡ result c → (64 < K) ⊎ (K ≤ 64) → (K < used (reachedPart c)) ⊎ (used (reachedPart c) ≤ K)
           → (room < length (fileOf (rewritten c))) ⊎ (length (fileOf (rewritten c)) ≤ room) → Outcome K room bs
       of c e (inl h) l r = stop c at-limit e h
       of c e (inr h) (inl l) r = stop c at-used e (h, l)
@@ -89,5 +90,5 @@ module _ (K room : ℕ) (bs : List ℕ) where
       of c e (inr h) (inr l) (inr r) = is-returned (made c) (into-accepted K room bs e ∙ returned K room c h l r)
 
       go : (y : Answer Chart) → judgedIn bs ≡ y → Outcome K room bs
-      go (result c) e = of c e (lt-or-le 64 K) (lt-or-le K (used c)) (lt-or-le room (length (fileOf (rewritten c))))
+      go (result c) e = of c e (lt-or-le 64 K) (lt-or-le K (used (reachedPart c))) (lt-or-le room (length (fileOf (rewritten c))))
       go (refused n p) e = is-refused n p e (into-refused K room bs e)

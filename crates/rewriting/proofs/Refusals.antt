@@ -1,17 +1,19 @@
--- Which refusals the rewriting answers, and exactly where: 1 to 8 of the file; 9 at the lowest location that no path reaches; 10 at the lowest
--- transition with an unstarted test; 11 for K over 64; 20 where more than K timers are used; 21 where the buffer is too short. Nothing is hard: the
--- outcomes are gone through. Assumes nothing.
+-- Which refusals the rewriting answers, and exactly where: 1 to 8 of the file; 9, below version 3, at the lowest location that no path reaches; 10 at
+-- the lowest transition with an unstarted test; 11 for K over 64; 20 where more than K timers are used; 21 where the buffer is too short. Nothing is
+-- hard: the outcomes are gone through. Assumes nothing.
 use mathlib.Core.Path.{_≡_, sym, ap, ap₂, _∙_, subst}
-use mathlib.Core.Logic.{_↔_}
+use mathlib.Core.Logic.{_↔_, Iff·trans}
+use mathlib.Core.Option.{some}
 use mathlib.Core.List.{List}
 use Prim.Native.Nat.{ℕ, _≤_, _<_}
 use native.Mathlib.Omega.{arith}
-use lib.ListN.{length}
+use lib.ListN.{length, getElem?}
 use Rattle.model.specs.Answer.{Answer, result, refused, then, nowhere}
+use Rattle.model.specs.Spare.{reachedPart}
 use Rattle.model.specs.FirstFit.{used}
 use Rattle.model.specs.Rewrite.{rewritten}
 use Rattle.model.specs.Judge.{Rewriting}
-use Rattle.model.specs.Places.{LowestUnreached, LowestUnstarted}
+use Rattle.model.specs.Places.{LowestUnreached, LowestUnstarted, HasUnreached}
 use Rattle.model.proofs.Answers.{refused-same}
 use Rattle.file_format.specs.Parse.{Bytes}
 use Rattle.file_format.specs.File.{chartIn, fileOf}
@@ -19,6 +21,7 @@ use Rattle.file_format.proofs.Answers.{result-refused}
 use Rattle.judgement.specs.Judging.{judgedIn}
 use Rattle.judgement.specs.Charts.{HoldsChart}
 use Rattle.judgement.proofs.Corollaries.{judged-numbers, judged-9, judged-10, judged-result, judged-1-to-8, refusals-of-judgedIn}
+use Rattle.judgement.proofs.Corollaries.{somewhere, unreached-in, never-unreached}
 use Rattle.list_judging.proofs.Answers.{kept-refused}
 use Rattle.rewriting.specs.Rewriting.{valuesOf, rewriteInto, rewriteAnswer}
 use Rattle.rewriting.specs.Refusals.{RefusalOfRewriting, HoldsAccepted}
@@ -79,6 +82,13 @@ module _ (K room : ℕ) (bs : List ℕ) where
     pub refused-9 : (q : ℕ) → (rewriteAnswer K room bs ≡ refused 9 q) ↔ HoldsChart bs (λ c. LowestUnreached c q)
     refused-9 q = let a = of-judged 9 q (omega arith) in let b = judged-9 bs bytes q in (λ e. b .0 (a .0 e), λ e. a .1 (b .1 e))
 
+    -- 9 wherever the version is below 3 and some location is not reached, and in no file of version 3
+    pub refused-9-when : ((q : ℕ) × (rewriteAnswer K room bs ≡ refused 9 q)) ↔ HoldsChart bs HasUnreached
+    refused-9-when = Iff·trans (somewhere refused-9) (unreached-in bs bytes)
+
+    pub never-9 : getElem? bs 0 ≡ some 3 → (q : ℕ) → rewriteAnswer K room bs ≡ refused 9 q → ⊥
+    never-9 v q e = never-unreached bs bytes v (refused-9-when .0 (q, e))
+
     pub refused-10 : (i : ℕ) → (rewriteAnswer K room bs ≡ refused 10 i) ↔ HoldsChart bs (λ c. LowestUnstarted c i)
     refused-10 i = let a = of-judged 10 i (omega arith) in let b = judged-10 bs bytes i in (λ e. b .0 (a .0 e), λ e. a .1 (b .1 e))
 
@@ -102,10 +112,10 @@ module _ (K room : ℕ) (bs : List ℕ) where
     refused-11 = exactly at-limit
 
     -- 20 exactly where 1 to 11 do not apply and more than K timers are used
-    pub refused-20 : (rewriteAnswer K room bs ≡ refused 20 nowhere) ↔ HoldsAccepted bs (λ c. (K ≤ 64) × (K < used c))
+    pub refused-20 : (rewriteAnswer K room bs ≡ refused 20 nowhere) ↔ HoldsAccepted bs (λ c. (K ≤ 64) × (K < used (reachedPart c)))
     refused-20 = exactly at-used
 
     -- 21 exactly where 1 to 20 do not apply and the rewritten file is longer than the buffer
     pub refused-21 : (rewriteAnswer K room bs ≡ refused 21 nowhere)
-        ↔ HoldsAccepted bs (λ c. (K ≤ 64) × (used c ≤ K) × (room < length (fileOf (rewritten c))))
+        ↔ HoldsAccepted bs (λ c. (K ≤ 64) × (used (reachedPart c) ≤ K) × (room < length (fileOf (rewritten c))))
     refused-21 = exactly at-room

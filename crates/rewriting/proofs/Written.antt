@@ -9,6 +9,7 @@ use lib.ListN.{length}
 use Rattle.model.specs.Answer.{Answer, result, then, unless, nowhere}
 use Rattle.model.specs.Chart.{Transition, Chart, Nth}
 use Rattle.model.specs.Valid.{Storable}
+use Rattle.model.specs.Spare.{reachedPart, spareCleared}
 use Rattle.model.specs.FirstFit.{used}
 use Rattle.model.specs.Rewrite.{Numbering, rewrittenBy, rewritten, boardNumbering}
 use Rattle.model.specs.Plan.{Numbered}
@@ -51,25 +52,26 @@ module _ (N : Numbering) (c : Chart) (numbered : (i : ℕ) (r : Transition) → 
 
 -- the rewritten chart, with the timers that it uses
 abbrev pub made : Chart → Rewriting
-made c = record { used = used c; chart = rewritten c }
+made c = record { used = used (reachedPart c); chart = rewritten c }
 
 module _ (K room : ℕ) (c : Chart) (e : result (made c) ≡ fitted K c) where
   -- the timers used beside the length
-  pub values-written : {w : Answer ℕ} {count : ℕ} → count ≡ used c
-      → w ≡ then (intoRoom room (rewrittenBy (boardNumbering c) c)) (λ d. result (length (fileOf d)))
+  pub values-written : {w : Answer ℕ} {count : ℕ} → count ≡ used (reachedPart c)
+      → w ≡ then (intoRoom room (rewrittenBy (boardNumbering (reachedPart c)) (spareCleared c))) (λ d. result (length (fileOf d)))
       → then w (λ n. result (record { used = count; length = n })) ≡ then (fittedInto K room c) (λ y. result (valuesOf y))
   unfolding valuesOf intoRoom rewritten
   values-written u f = rw (u, f, fitted-into K room c e) (go (leb (length (fileOf (rewritten c))) room))
     where
       go : (b : Bool)
           → then (then (unless b 21 nowhere (result (rewritten c))) (λ (d : Chart). result (length (fileOf d))))
-          (λ (n : ℕ). result (record { used = used c; length = n }))
+          (λ (n : ℕ). result (record { used = used (reachedPart c); length = n }))
           ≡ then (unless b 21 nowhere (result (made c))) (λ (y : Rewriting). result (valuesOf y))
       go true = refl
       go false = refl
 
   pub buffer-written : (out : List ℕ)
-      → overwritten fileOf (intoRoom room (rewrittenBy (boardNumbering c) c)) out ≡ overwritten newFile (fittedInto K room c) out
+      → overwritten fileOf (intoRoom room (rewrittenBy (boardNumbering (reachedPart c)) (spareCleared c))) out
+      ≡ overwritten newFile (fittedInto K room c) out
   unfolding intoRoom rewritten
   buffer-written out = rw (fitted-into K room c e) (go (leb (length (fileOf (rewritten c))) room))
     where

@@ -15,7 +15,7 @@ pub data RefusalOfRewriting (n p : ℕ) : Type 0 where
   of-used : n ≡ 20 → p ≡ nowhere → RefusalOfRewriting n p
   of-room : n ≡ 21 → p ≡ nowhere → RefusalOfRewriting n p
 
--- the file holds a chart with a property, in which every location is reached and no test is unstarted
+-- the file holds a chart with a property, which neither 9 nor 10 refuses
 pub record HoldsAccepted (bs : List ℕ) (P : Chart → Type 0) : Type 0 where
   pub chart : Chart
   pub accepts : Accepts bs chart

@@ -1,6 +1,6 @@
--- A chart has the families, and with them the results, that it had before twins counted as one timer exactly if no live timer has a lower twin.
--- Nothing is hard: each live timer then stands for itself, so the merged sets are the live sets, and what is formed of them is equal.
--- Assumes nothing.
+-- A chart has the families, and with them the numbers and the floor, that it had before twins counted as one timer exactly if no live timer has a
+-- lower twin; and if its part that counts is such a chart, the rewriting answers as before. Nothing is hard: each live timer then stands for itself,
+-- so the merged sets are the live sets, and what is formed of them is equal. Assumes nothing.
 use mathlib.Core.Path.{_≡_, refl, sym, ap, _∙_, subst}
 use mathlib.Core.Bool.{true, false, not}
 use mathlib.Core.Option.{Option, none, some}
@@ -19,18 +19,20 @@ use Rattle.model.specs.Chart.{Chart}
 use Rattle.model.specs.Valid.{Valid}
 use Rattle.model.specs.Path.{Live}
 use Rattle.model.specs.Live.{liveSets, live, fullest}
+use Rattle.model.specs.Spare.{reachedPart, spareCleared}
 use Rattle.model.specs.Twins.{lowestTwin, mergedSets}
 use Rattle.model.specs.Family.{Pairs, pairsWith, families, livePairs}
 use Rattle.model.specs.FirstFit.{Placed, firstFit, usedBy, numberAt, blocked, board}
 use Rattle.model.specs.SmallestPlan.{fewest}
 use Rattle.model.specs.Floor.{mostSearched, searched, floor}
-use Rattle.model.specs.Rewrite.{Numbering, numbering, rewrittenBy, boardNumbering}
+use Rattle.model.specs.Rewrite.{Numbering, numbering, rewrittenBy, boardNumbering, rewritten}
 use Rattle.model.specs.Judge.{fitted}
 use Rattle.twin_laws.specs.Before.{pairsBefore, boardBefore, searchedBefore, floorBefore, fittedBefore, SameAsBefore, NoTwins, NoLowerTwin}
 use Rattle.model.proofs.Paths.{live-inside}
 use Rattle.model.proofs.LivePaths.{live-iff}
 use Rattle.model.proofs.Twins.{twins-refl, live-lowest, lowest-of-twins, live-word, merged-at, pair-lowest, pair-own}
 use Rattle.model.proofs.PairNumbers.{number-pair}
+use Rattle.model.proofs.ReachedPart.{part-valid}
 use Rattle.model.proofs.BoardPlan.{live-pairs-formed, numbering-used, number-iff, live-number}
 
 -- two that have the same number, if any, are equal
@@ -87,16 +89,12 @@ module _ {W : ℕ} {c : Chart} (valid : Valid W c) where
     same-searched = ap (λ (p : Pairs). leb (length (families p)) mostSearched) same-pairs
 
     pub same-as-before : SameAsBefore c
-    unfolding floor floorBefore fitted fittedBefore
+    unfolding floor floorBefore
     same-as-before = record {
       same-board = same-board;
       same-numbering = same-numbering;
       same-searched = same-searched;
       same-floor = λ i. elim (same-searched i) [ true ↦ fewest (families (same-pairs i)) | false ↦ fullest (same-sets i) ];
-      same-fitted = λ K i.
-          unless (leb K 64) 11 nowhere (
-          unless (not (blocked K (same-board i))) 20 nowhere (
-          result (record { used = usedBy (same-board i); chart = rewrittenBy (same-numbering i) c })));
     }
 
   -- and only then
@@ -108,3 +106,13 @@ module _ {W : ℕ} {c : Chart} (valid : Valid W c) where
       let number = ap (λ (ps : List Placed). numberAt ps q j) (same .same-board) ∙ as-before in
       let own = pair-own valid q j (number-pair (live-pairs-formed valid) q j (x .0) number .pair) in
       omega (arith, own, lowest-of-twins c j k t)
+
+-- what the rewriting answers, by the numbers of the part that counts
+pub fitted-as-before : {W : ℕ} {c : Chart} → Valid W c → NoLowerTwin (reachedPart c) → (K : ℕ) → fitted K c ≡ fittedBefore K c
+unfolding fitted fittedBefore rewritten
+fitted-as-before {c = c} valid own K =
+    let same = same-as-before (part-valid valid) own in
+    λ i.
+    unless (leb K 64) 11 nowhere (
+    unless (not (blocked K (same .same-board i))) 20 nowhere (
+    result (record { used = usedBy (same .same-board i); chart = rewrittenBy (same .same-numbering i) (spareCleared c) })))

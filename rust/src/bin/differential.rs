@@ -3,8 +3,8 @@
 //!
 //! usage: differential [TRIALS] [SEED] [--without-program]
 //!
-//! Exit status 0 if all agree and every refusal number, every kind of floor, of twins, of number of rounds, of version and
-//! constant, of step on the counter board and of what a controller meets came; 1 at the first difference, or where a
+//! Exit status 0 if all agree and every refusal number, every kind of floor, of twins, of spare locations, of number of
+//! rounds, of version and constant, of step on the counter board and of what a controller meets came; 1 at the first difference, or where a
 //! controller or the counter board breaks a promise or gives a refusal that its call does not have, with the input in
 //! hex; 2 if one that should come never did, or the program is missing. What no call can answer, such as a transition
 //! that is taken with no event served, ends it by a panic. A thousand trials bring all.
@@ -20,13 +20,14 @@ use timing_chart::counter::{self, CounterPlaying};
 use timing_chart::drawing::*;
 use timing_chart::generator::*;
 use timing_chart::limits::{
-    COUNTER_LARGEST_CONSTANT, COUNTER_LARGEST_COUNT, COUNTER_READINGS, LARGEST_CONSTANT_VERSION_1, MOST_INPUT,
-    MOST_LOCATIONS, MOST_SEARCHED, MOST_STARTS, MOST_TESTS, MOST_TICKS, MOST_TIMERS, MOST_TRANSITIONS, NOWHERE, TIMERS,
+    COUNTER_LARGEST_CONSTANT, COUNTER_LARGEST_COUNT, COUNTER_READINGS, LARGEST_CONSTANT_VERSION_1, LOCATIONS,
+    MOST_INPUT, MOST_LOCATIONS, MOST_SEARCHED, MOST_STARTS, MOST_TESTS, MOST_TICKS, MOST_TIMERS, MOST_TRANSITIONS,
+    NOWHERE, TIMERS,
 };
 use timing_chart::listing::listing;
 use timing_chart::player::{self, Playing};
 use timing_chart::rewriting::{self, Rewriting};
-use timing_chart::sets::TimerSet;
+use timing_chart::sets::{LocationSet, TimerSet};
 use timing_chart::tally::{number_of, ByNumber};
 use timing_chart::trials::{Calls, Trials};
 use timing_chart::twins::Twins;
@@ -60,6 +61,7 @@ struct Tally {
     listings: ByNumber,
     floors: Floors,
     twins: TwinKinds,
+    spare: SpareKinds,
     live_rounds: LiveRounds,
     versions: Versions,
     counter_kinds: CounterKinds,
@@ -134,12 +136,13 @@ struct TwinKinds {
 impl TwinKinds {
     /// Counts a chart that is accepted.
     fn count(&mut self, chart: &Chart) {
-        let twins = Twins::of(chart);
+        let graph = analysis::judge(chart).expect("the chart is accepted");
+        let twins = Twins::of(chart, graph.reached());
         if twins == Twins::NONE {
             self.none += 1;
             return;
         }
-        let liveness = Liveness::of(chart, analysis::judge(chart).expect("the chart is accepted"));
+        let liveness = Liveness::of(chart, graph);
         let sets = liveness.sets();
         let live = sets.iter().fold(TimerSet::EMPTY, |all, &set| all.joined(set));
         // The timers that are live somewhere, by their lowest twins.
@@ -206,6 +209,179 @@ impl Display for TwinKinds {
     }
 }
 
+/// What must come with spare locations: charts, and what was done with them.
+const SPARE: [&str; 18] = [
+    "version 3 without any",
+    "version 3 with some",
+    "version 1 refused 9",
+    "version 2 refused 9",
+    "version 3 without any refused 10",
+    "version 3 with some refused 10",
+    "a cycle of them",
+    "one that accepts",
+    "one next to the initial location by number",
+    "a transition into a reached location that starts a timer which is live there",
+    "one that tests a timer",
+    "one that does not start a timer which is live there",
+    "a transition that would tell twins apart, so that the numbers would be others",
+    "a test of a timer that nothing starts",
+    "more rounds if they counted",
+    "a step refused since its transition leaves one",
+    "a constant on a transition from one that the counter board alone refuses",
+    OF_TEXT,
+];
+
+/// The one of these that the program alone brings.
+const OF_TEXT: &str = "a text of the program";
+
+/// How often each came.
+#[derive(Default)]
+struct SpareKinds([u64; SPARE.len()]);
+
+impl SpareKinds {
+    fn count(&mut self, name: &str, came: bool) {
+        let index = SPARE.iter().position(|&other| other == name);
+        self.0[index.expect("each kind is listed")] += u64::from(came);
+    }
+
+    /// Counts a chart that was refused with this number.
+    fn count_refused(&mut self, chart: &Chart, number: u64) {
+        match (chart.version(), number) {
+            (Version::One, 9) => self.count("version 1 refused 9", true),
+            (Version::Two, 9) => self.count("version 2 refused 9", true),
+            (Version::Three, 10) => {
+                let any = spare_of(chart).is_some();
+                self.count("version 3 without any refused 10", !any);
+                self.count("version 3 with some refused 10", any);
+            }
+            _ => {}
+        }
+    }
+
+    /// Counts a chart that is accepted.
+    fn count_accepted(&mut self, chart: &Chart, rounds: u64) {
+        let spare = spare_of(chart);
+        self.count("version 3 without any", chart.version() == Version::Three && spare.is_none());
+        self.count("version 3 with some", spare.is_some());
+        let Some(spare) = spare else { return };
+        let transitions = || chart.transitions_from(&spare);
+        self.count("a cycle of them", has_cycle(chart, &spare));
+        self.count("one that accepts", spare.meets(chart.accepting()));
+        let initial = chart.initial();
+        let next_to = [initial.checked_sub(1), initial.checked_add(1)];
+        let is_next = next_to.into_iter().flatten().any(|location| spare.has(location));
+        self.count("one next to the initial location by number", is_next);
+
+        let liveness = Liveness::of(chart, analysis::judge(chart).expect("the chart is accepted"));
+        let sets = liveness.sets();
+        // Nothing is live at spare locations: these transitions enter reached ones.
+        let live_after = |transition: &Transition| sets[usize::from(transition.target)];
+        let starts = |transition: &Transition| !transition.starts.common(live_after(transition)).is_empty();
+        let leaves = |transition: &Transition| !live_after(transition).minus(transition.starts).is_empty();
+        let tests = |transition: &Transition| !spare.has(transition.target) && !transition.tested.is_empty();
+        self.count(
+            "a transition into a reached location that starts a timer which is live there",
+            transitions().any(starts),
+        );
+        self.count("one that tests a timer", transitions().any(tests));
+        self.count("one that does not start a timer which is live there", transitions().any(leaves));
+
+        let all = LocationSet::below(chart.locations());
+        let [twins, told_apart] = [liveness.reached(), &all].map(|locations| Twins::of(chart, locations));
+        let numbers = |twins: &Twins| numbers_of(&Families::of(chart, &liveness, twins), sets, twins);
+        let others = twins != told_apart && numbers(&twins) != numbers(&told_apart);
+        self.count("a transition that would tell twins apart, so that the numbers would be others", others);
+
+        let started = chart.transitions().iter().fold(TimerSet::EMPTY, |set, other| set.joined(other.starts));
+        let unstarted = transitions().any(|transition| !transition.tested.minus(started).is_empty());
+        self.count("a test of a timer that nothing starts", unstarted);
+        self.count("more rounds if they counted", rounds_of_all(chart) > rounds);
+    }
+
+    /// Counts a list of steps that was refused since a step's transition does not leave the present location.
+    fn count_step(&mut self, chart: &Chart, transition: u32) {
+        let source = chart.transitions()[transition as usize].source;
+        let is_spare = spare_of(chart).is_some_and(|spare| spare.has(source));
+        self.count("a step refused since its transition leaves one", is_spare);
+    }
+
+    /// Counts a chart that the counter board refused for a constant.
+    fn count_constant(&mut self, chart: &Chart) {
+        let Some(spare) = spare_of(chart) else { return };
+        let is_large = |test: &Test| test.constant > COUNTER_LARGEST_CONSTANT;
+        let of_spare = |transition: &Transition| spare.has(transition.source);
+        let large = |transition: &&Transition| chart.tests(transition).iter().any(is_large);
+        let only = chart.transitions().iter().filter(large).all(of_spare);
+        self.count("a constant on a transition from one that the counter board alone refuses", only);
+    }
+
+    /// What never came.
+    fn missing(&self) -> impl Iterator<Item = &'static str> + '_ {
+        SPARE.into_iter().zip(self.0).filter(|(_, count)| *count == 0).map(|(name, _)| name)
+    }
+}
+
+impl Display for SpareKinds {
+    fn fmt(&self, f: &mut Formatter<'_>) -> std::fmt::Result {
+        write!(f, "spare locations:")?;
+        SPARE.iter().zip(self.0).try_for_each(|(name, count)| write!(f, " {name}: {count};"))
+    }
+}
+
+/// The spare locations of a chart of version 3; none if all are reached.
+fn spare_of(chart: &Chart) -> Option<LocationSet> {
+    if chart.version() != Version::Three {
+        return None;
+    }
+    let mut reached = LocationSet::EMPTY;
+    reached.add(chart.initial());
+    loop {
+        let before = reached;
+        chart.transitions_from(&before).for_each(|transition| reached.add(transition.target));
+        if reached == before {
+            break;
+        }
+    }
+    let mut spare = LocationSet::EMPTY;
+    let all = LocationSet::below(chart.locations());
+    all.iter().filter(|&location| !reached.has(location)).for_each(|location| spare.add(location));
+    (spare != LocationSet::EMPTY).then_some(spare)
+}
+
+/// Whether transitions lead round in a circle within these locations.
+fn has_cycle(chart: &Chart, within: &LocationSet) -> bool {
+    let mut left = *within;
+    loop {
+        // Those that lead on to one that is left.
+        let mut leading = LocationSet::EMPTY;
+        let leads = |transition: &&Transition| left.has(transition.target);
+        chart.transitions_from(&left).filter(leads).for_each(|transition| leading.add(transition.source));
+        if leading == left {
+            return left != LocationSet::EMPTY;
+        }
+        left = leading;
+    }
+}
+
+/// The rounds that the live sets of all locations take if the spare ones count.
+fn rounds_of_all(chart: &Chart) -> u64 {
+    let mut before = [TimerSet::EMPTY; LOCATIONS];
+    let mut rounds = 0;
+    loop {
+        let mut sets = [TimerSet::EMPTY; LOCATIONS];
+        for transition in chart.transitions() {
+            let set = &mut sets[usize::from(transition.source)];
+            let passed = before[usize::from(transition.target)].minus(transition.starts);
+            *set = set.joined(transition.tested).joined(passed);
+        }
+        rounds += 1;
+        if sets == before {
+            return rounds;
+        }
+        before = sets;
+    }
+}
+
 /// How often which numbers of rounds of the live sets came.
 #[derive(Default)]
 struct LiveRounds {
@@ -252,8 +428,10 @@ struct Versions {
     /// Charts that were analysed, and charts that were rewritten, by version.
     analysed: [u64; Version::ALL.len()],
     rewritten: [u64; Version::ALL.len()],
-    /// Good files of one version that are good files of the other too.
+    /// Good files of one version that are good files of another too: where a constant has another width, and between 2
+    /// and 3.
     relabelled: u64,
+    two_or_three: u64,
     /// Steps with tests that [ask for a large constant](asks_for_large): taken, and refused since the count was less.
     large: u64,
     too_short: u64,
@@ -301,16 +479,18 @@ impl Versions {
 
     /// Whether each came.
     fn all_came(&self) -> bool {
-        let others = [self.relabelled, self.large, self.too_short, self.within, self.too_long];
-        self.analysed.iter().chain(&self.rewritten).chain(&others).all(|&count| count > 0)
+        let steps = [self.large, self.too_short, self.within, self.too_long];
+        let others = [self.relabelled, self.two_or_three].into_iter().chain(steps);
+        self.analysed.into_iter().chain(self.rewritten).chain(others).all(|count| count > 0)
     }
 }
 
 impl Display for Versions {
     fn fmt(&self, f: &mut Formatter<'_>) -> std::fmt::Result {
-        let Versions { analysed, rewritten, relabelled, large, too_short, within, too_long } = self;
+        let Versions { analysed, rewritten, relabelled, two_or_three, large, too_short, within, too_long } = self;
         let most = LARGEST_CONSTANT_VERSION_1;
-        write!(f, "by version: analysed {analysed:?}, rewritten {rewritten:?}; good under either: {relabelled}; ")?;
+        write!(f, "by version: analysed {analysed:?}, rewritten {rewritten:?}; good with constants of either width: ")?;
+        write!(f, "{relabelled}, as 2 and as 3: {two_or_three}; ")?;
         write!(f, "steps with tests for a count over {most}, taken: {large}, refused, too short: {too_short}; ")?;
         write!(f, "with tests for no more than a constant over {most}, taken: {within}, refused, too long: {too_long}")
     }
@@ -443,11 +623,15 @@ impl ChartTrials {
             differ("analysis, lent list", file, &before, &proved, &rust);
         }
         self.tally.analyses[number_of(&answer)] += 1;
+        if let (Err(Refusal { number: number @ (9 | 10), .. }), Ok(chart)) = (answer, Chart::read(file)) {
+            self.tally.spare.count_refused(&chart, number);
+        }
         if let (Ok(figures), Ok(chart)) = (answer, Chart::read(file)) {
             let sets = &rust[..usize::from(chart.locations())];
             let fullest = sets.iter().map(|set| u64::from(set.count_ones())).max().unwrap_or(0);
             self.tally.floors.count(figures, fullest);
             self.tally.twins.count(&chart);
+            self.tally.spare.count_accepted(&chart, figures.rounds);
             self.tally.live_rounds.count(figures.rounds);
             self.tally.versions.analysed[place_of(chart.version())] += 1;
         }
@@ -486,6 +670,9 @@ impl ChartTrials {
         self.tally.steps_taken += taken as u64;
         if let Ok(chart) = Chart::read(file) {
             self.tally.versions.count_steps(&chart, steps, taken, number_of(&answer) == 24);
+            if let Err(Refusal { number: 22, place }) = answer {
+                self.tally.spare.count_step(&chart, steps.transitions[place as usize]);
+            }
         }
         answer
     }
@@ -507,6 +694,9 @@ impl ChartTrials {
         if taken > 0 || number == 24 {
             let chart = Chart::read(file).expect("the chart is accepted");
             self.tally.counter_kinds.count_steps(&chart, steps, taken, number == 24);
+        }
+        if number == 18 {
+            self.tally.spare.count_constant(&Chart::read(file).expect("the chart is accepted"));
         }
         answer
     }
@@ -585,6 +775,9 @@ impl ChartTrials {
         self.tally.listings[number.unwrap_or(0)] += 1;
         self.tally.printed_floor += u64::from(expected.contains(" floor "));
         self.tally.printed_seen += u64::from(expected.contains(" seen "));
+        let chart = number.is_none().then(|| Chart::read(&input[1..]).expect("the chart is accepted"));
+        let with_spare = chart.is_some_and(|chart| spare_of(&chart).is_some());
+        self.tally.spare.count(OF_TEXT, with_spare);
     }
 
     /// All calls on one file, with step lists made for `drawing` where the file is that drawing's.
@@ -663,10 +856,15 @@ impl ChartTrials {
         let kind = random.below(100);
         let most_steps = if kind.is_multiple_of(10) { 2_000 } else { 25 };
         let mut drawing = match kind {
-            0..=59 => {
+            0..=58 => {
                 let most = random.pick(&[4, 8, 8, 16, 40]);
                 let shape = Shape::random(random, most);
                 accepted(random, &shape)
+            }
+            59 => {
+                let charts: [fn() -> Drawing; 5] =
+                    [spare_beside_twins, spare_cycle, spare_unstarted, spare_row, spare_first];
+                random.pick(&charts)()
             }
             60..=69 => {
                 let few = random.between(0, 14);
@@ -705,6 +903,7 @@ impl ChartTrials {
                 let version = random.pick(&Version::ALL);
                 longest(random, version)
             }
+            87 if random.chance(1, 8) => largest_spare(random),
             87 => {
                 let starts = random.pick(&[(1, 1), (10, 40), (40, MOST_STARTS)]);
                 accepted(random, &Shape { cycle: true, starting: 90, starts, ..Shape::LARGEST })
@@ -729,6 +928,16 @@ impl ChartTrials {
             2 => add_twins(random, &mut drawing),
             _ => {}
         }
+        if random.chance(1, 5) {
+            // Mostly of version 3, which allows them.
+            drawing.version = if random.chance(1, 6) { drawing.version } else { Version::Three as u8 };
+            add_spare(random, &mut drawing);
+        }
+        let has_room = drawing.timers > 0 && drawing.transitions.len() < usize::from(MOST_TRANSITIONS);
+        if has_room && random.chance(1, 15) {
+            // At the initial location every timer is unstarted.
+            drawing.transitions.push(Arrow::new(drawing.initial, drawing.initial).tests(0, AT_LEAST, 0));
+        }
         if random.chance(1, 4) {
             let whole = random.pick(&[1, 4, 20]);
             store_large(random, &mut drawing, whole);
@@ -740,10 +949,14 @@ impl ChartTrials {
             // One transition is changed: often 9 or 10 then applies, or the families are others.
             let transition = random.below(drawing.transitions.len() as u64) as usize;
             let transition = &mut drawing.transitions[transition];
-            match random.below(4) {
+            match random.below(5) {
                 0 => transition.target = transition.source,
                 1 => std::mem::swap(&mut transition.source, &mut transition.target),
                 2 => transition.starts.clear(),
+                3 if drawing.timers > 0 => {
+                    transition.tests.truncate(usize::from(MOST_TESTS) - 1);
+                    transition.tests.push((random.below(u64::from(drawing.timers)) as u8, AT_LEAST, 0));
+                }
                 _ => transition.starts = (0..drawing.timers).collect(),
             }
         }
@@ -753,7 +966,11 @@ impl ChartTrials {
             0..=5 => self.all_calls(&good, Some(&drawing), most_steps),
             6 => {
                 let file = relabelled(random, &good);
-                self.tally.versions.relabelled += u64::from(Chart::read(&file).is_ok());
+                let count = match (good[0], file[0]) {
+                    (2, 3) | (3, 2) => &mut self.tally.versions.two_or_three,
+                    _ => &mut self.tally.versions.relabelled,
+                };
+                *count += u64::from(Chart::read(&file).is_ok());
                 self.all_calls(&file, None, 0);
             }
             7 | 8 => {
@@ -831,6 +1048,8 @@ impl ChartTrials {
             let longest_file = longest(&mut self.random, version);
             self.print(&with_k(longest_file.file()));
         }
+        let largest_file = largest_spare(&mut self.random);
+        self.print(&with_k(largest_file.file()));
     }
 }
 
@@ -887,6 +1106,7 @@ fn main() {
     println!("steps taken: {}", tally.steps_taken);
     println!("analyses with {}", tally.floors);
     println!("analyses of charts with {}", tally.twins);
+    println!("{}", tally.spare);
     println!("{}", tally.live_rounds);
     println!("{}", tally.versions);
     println!("{}", tally.counter_kinds);
@@ -917,17 +1137,21 @@ fn main() {
     let program = charts.program.is_some().then_some(OF_PROGRAM);
     let missing: Vec<usize> = EXPECTED.into_iter().chain(program).filter(|&number| !tally.came(number)).collect();
     let words_came = charts.program.is_none() || tally.printed_floor > 0 && tally.printed_seen > 0;
-    let Tally { floors, twins, live_rounds, versions, counter_kinds, .. } = tally;
+    let Tally { floors, twins, spare, live_rounds, versions, counter_kinds, .. } = tally;
     let figures_came = floors.all_came() && twins.all_came() && live_rounds.all_came();
     let kinds_came = figures_came && versions.all_came() && counter_kinds.all_came();
     let of_counter: Vec<usize> =
         OF_COUNTER_BOARD.into_iter().chain([0]).filter(|&number| counter_playings[number] == 0).collect();
     let of_controllers = controllers.tally.missing();
-    let all_came = missing.is_empty() && of_counter.is_empty() && of_controllers.is_empty() && kinds_came && words_came;
-    if !all_came {
+    // Without the program no text of it comes.
+    let spare_missing: Vec<&str> =
+        spare.missing().filter(|name| charts.program.is_some() || *name != OF_TEXT).collect();
+    let numbers_came = missing.is_empty() && of_counter.is_empty() && of_controllers.is_empty();
+    if !(numbers_came && spare_missing.is_empty() && kinds_came && words_came) {
         println!("never came with a controller: {of_controllers:?}; with the counter board: {of_counter:?}");
         print!("never came: {missing:?}, or one of: {floors}; or one of: {twins}; or one of: {live_rounds}; ");
         println!("or one of: {versions}; or one of: {counter_kinds}; or a word of the program");
+        println!("never came with spare locations: {spare_missing:?}");
         exit(2);
     }
     let calls: u64 = columns.iter().map(|(_, numbers)| numbers.total()).sum();

@@ -1,6 +1,7 @@
 //! Measures the proved library beside this crate: analysis, rewriting, player and counter board on small, typical and
-//! largest charts, the larger ones as version 2 too, and the largest with all timers twins; the analysis where there are
-//! most numbers or rounds or the floor is hard to find, growth by transitions, the player's and the counter board's time
+//! largest charts, the larger ones as version 2 too, the largest as version 3 without spare locations and with half of its
+//! locations spare, and the largest with all timers twins; the analysis where there are most numbers or rounds or the floor
+//! is hard to find, growth by transitions, the player's and the counter board's time
 //! for a step, and the controller's calls with one and with eight heads.
 //!
 //! usage: measure [REPETITIONS]
@@ -182,6 +183,19 @@ fn largest(transitions: u16) -> Drawing {
     fitting(&Shape { locations: transitions / 2, transitions, cycle: true, lenient: true, ..Shape::LARGEST })
 }
 
+/// A chart of version 3 whose locations are half spare: a chart and the same again, which nothing reaches; every second
+/// transition there leads to a reached location.
+fn half_spare(mut drawing: Drawing) -> Drawing {
+    let locations = drawing.locations;
+    let again = drawing.transitions.clone().into_iter().enumerate().map(|(index, mut transition)| {
+        transition.source += locations;
+        transition.target += if index % 2 == 0 { locations } else { 0 };
+        transition
+    });
+    drawing.transitions.extend(again);
+    Drawing { locations: 2 * locations, ..drawing }.version(3)
+}
+
 fn analyses(repetitions: usize, file: &[u8]) -> (f64, f64) {
     let mut live = [0; LOCATIONS];
     medians(repetitions, |calls| {
@@ -344,6 +358,9 @@ fn main() {
         ("typical, version 2", typical().version(2)),
         ("largest, version 2", largest(MOST_TRANSITIONS).version(2)),
         ("longest file, version 2", longest(&mut Random::new(1), Version::Two)),
+        // Version 3, without spare locations and with as many as there are reached ones.
+        ("largest, version 3", largest(MOST_TRANSITIONS).version(3)),
+        ("largest, half spare", half_spare(largest(MOST_TRANSITIONS / 2))),
         ("largest, all twins", all_twins(largest(MOST_TRANSITIONS))),
     ];
     for (name, drawing) in &charts {

@@ -1,13 +1,15 @@
 -- `analyse`: a refusal of the judgement stands; else 21 where the list is short, and the live sets are copied over its front. What is hard is only
 -- that they are the front of a longer list. Assumes nothing.
-use mathlib.Core.Path.{sym, ap, _∙_}
+use mathlib.Core.Path.{_≡_, sym, ap, _∙_}
 use mathlib.Core.List.{List}
 use Prim.Native.Nat.{ℕ, _≤_, _<_}
 use native.Mathlib.Omega.{arith}
 use lib.ListN.{length}
+use Rattle.model.specs.Chart.{Chart}
+use Rattle.model.specs.Spare.{reachedPart}
 use Rattle.chart_lists.proofs.Fronts.{locations-are}
 use Rattle.numbering.specs.FileNumbers.{fileNumberedAs, ListsNumbered}
-use Rattle.numbering.proofs.FileNumbers.{FileChart, file-chart, file-refused, live-front, live-part, live-room}
+use Rattle.numbering.proofs.FileNumbers.{FileChart, file-chart, file-refused, part-are, live-front, live-part, live-room}
 use Rattle.analysis.proofs.Entry.{refused-answer, refused-list, short-answer, short-list, found-answer, found-list}
 use borrow.Author.Needs.{needs}
 use Rattle.analysis.proofs.analyse.Statement.{statement}
@@ -31,6 +33,13 @@ numbered c = file-chart _ (sym (ap fileNumberedAs (c .a2 .given .1)) ∙ called 
 
 lists : (c : tie.After-a2) → ListsNumbered (numbered c .chart) (sets c) (called c .number-file .last .1 .1 .0)
 lists c = called c .number-file .ensures .1 (numbered c .chart) (numbered c .judged)
+
+-- the part of it that counts, of which the live sets are
+abbrev part : tie.After-a2 → Chart
+part c = reachedPart (numbered c .chart)
+
+part-is : (c : tie.After-a2) → c .a2 .given .0 .0 .locations ≡ part c .locations
+part-is c = part-are (numbered c .chart) (numbered c .header-is)
 
 slice-aggregate-number-file : tie.Need-slice-aggregate-number-file
 slice-aggregate-number-file c = search needs
@@ -61,17 +70,17 @@ returns c =
 array-share-prefix-sets : tie.Need-array-share-prefix-sets
 array-share-prefix-sets c =
     let x = c .before .before .before in
-    live-room (numbered x .chart) (numbered x .header-is) (lists x .live-are)
+    live-room (part x) (part-is x) (lists x .live-are)
 
 slice-aggregate-copy : tie.Need-slice-aggregate-copy
 slice-aggregate-copy c =
     let x = c .before .before .before .before in
-    sym (live-part (numbered x .chart) (numbered x .header-is) (lists x .live-are))
+    sym (live-part (part x) (part-is x) (lists x .live-are))
 
 copy-requires : tie.Need-copy-requires
 copy-requires c κs =
     let x = c .before .before .before .before .before in
-    rw (live-part (numbered x .chart) (numbered x .header-is) (lists x .live-are)) (c .before .before .if1 .left)
+    rw (live-part (part x) (part-is x) (lists x .live-are)) (c .before .before .if1 .left)
 
 returns-2 : tie.Need-returns-2
 returns-2 c =
@@ -90,7 +99,7 @@ returns-3 c =
     let n = numbered x in
     let h : n .chart .locations ≤ length (a .live .now) =
     omega (arith, locations-are (n .chart) (n .header-is), c .before .before .before .before .before .if1 .left) in
-    let l = live-front (n .chart) (n .header-is) (lists x .live-are) in (
+    let l = live-front (part x) (part-is x) (lists x .live-are) in (
       found-answer (a .file .now) (a .live .now) (n .judged) h (n .used-is) (n .floor-is) (n .searched-is) (n .rounds-is),
       found-list (a .file .now) (a .live .now) (n .judged) h l (c .before .before .copy .ensures),
     )

@@ -6,8 +6,8 @@ use lib.ListN.{length}
 use borrow.Author.Needs.{needs}
 use Rattle.lists.specs.Lists.{lowest}
 use Rattle.judgement.specs.Tested.{testsAt}
-use Rattle.judgement.specs.Places.{unreachedIn}
-use Rattle.judgement.proofs.Lent.{none-cut, few-locations, lent-length, lent-safe, lent-empty, made-room, seen-length, seen-sets, sources-seen}
+use Rattle.judgement.specs.Places.{refusedIn}
+use Rattle.forward.proofs.Lent.{none-cut, few-locations, lent-length, lent-safe, lent-empty, made-room, seen-length, seen-sets, sources-seen}
 use Rattle.judgement.proofs.Judging.{unstartedIn, answer-9, answer-10, answer-chart}
 use Rattle.judgement.proofs.judge_lists.Statement.{statement}
 use Rattle.judgement.proofs.judge_lists.Tie as tie
@@ -25,13 +25,13 @@ abbrev sets : tie.After-settle-forward → List ℕ
 sets f = let a = start f .args in unstartedIn (a .header) (a .sources .now) (a .targets .now) (a .starts .now) (a .tested .now)
 
 -- the place of 9, if there is one
-unreached-are : (c : tie.After-first-unreached) → let f = c .before .before .before in let a = start f .args in
-    c .first-unreached .result ≡ unreachedIn (a .header .timers) (a .header .initial) (a .sources .now) (a .targets .now) (sets f)
+unreached-are : (c : tie.After-first-refused) → let f = c .before .before .before in let a = start f .args in
+    c .first-refused .result ≡ refusedIn (a .header .version) (a .header .timers) (a .header .initial) (a .sources .now) (a .targets .now) (sets f)
 unreached-are c =
     let f = c .before .before .before in
     let a = start f .args in
     let s = seen-sets (start f .pre .0) (f .settle-forward .ensures) _ in
-    c .first-unreached .ensures ∙ ap (unreachedIn (a .header .timers) (a .header .initial) (a .sources .now) (a .targets .now)) s
+    c .first-refused .ensures ∙ ap (refusedIn (a .header .version) (a .header .timers) (a .header .initial) (a .sources .now) (a .targets .now)) s
 
 -- the place of 10, if there is one
 unstarted-are : (c : tie.After-first-testing) → let f = c .before .before .before .before .before .before in let a = start f .args in
@@ -59,11 +59,11 @@ settle-forward-requires c κs = let p = first (c .before) .pre .0 in (lent-safe 
 array-share-prefix-sets : tie.Need-array-share-prefix-sets
 array-share-prefix-sets c = let f = c .before in made-room (start f .pre .0) (f .settle-forward .ensures) _
 
-slice-aggregate-first-unreached : tie.Need-slice-aggregate-first-unreached
-slice-aggregate-first-unreached c = let f = c .before .before in sym (seen-length (start f .pre .0) (f .settle-forward .ensures) _)
+slice-aggregate-first-refused : tie.Need-slice-aggregate-first-refused
+slice-aggregate-first-refused c = let f = c .before .before in sym (seen-length (start f .pre .0) (f .settle-forward .ensures) _)
 
-first-unreached-requires : tie.Need-first-unreached-requires
-first-unreached-requires c κs =
+first-refused-requires : tie.Need-first-refused-requires
+first-refused-requires c κs =
     let f = c .before .before in
     let p = start f .pre .0 in
     rw (seen-length p (f .settle-forward .ensures) _) (none-cut p)
@@ -105,8 +105,8 @@ judge-lists-spec =
     slice-aggregate-settle-forward
     settle-forward-requires
     array-share-prefix-sets
-    slice-aggregate-first-unreached
-    first-unreached-requires
+    slice-aggregate-first-refused
+    first-refused-requires
     returns
     array-share-prefix-sets-2
     slice-aggregate-first-testing

@@ -6,6 +6,7 @@ use Prim.Native.Nat.{ℕ, _≤_}
 use native.Mathlib.Omega.{arith}
 use lib.ListN.{length}
 use denote.Ref.{now}
+use Rattle.model.specs.Spare.{reachedPart}
 use Rattle.model.specs.FirstFit.{used}
 use Rattle.numbering.specs.FileNumbers.{fileNumberedAs, ListsNumbered}
 use Rattle.numbering.specs.Limits.{LimitJudged}
@@ -47,7 +48,7 @@ judged : (c : tie.After-judge-limit) {l : Limit} → c .judge-limit .result ≡ 
     → LimitJudged (start (called (chart c)) .args .limit) (chart c .a2 .given .0 .1 .0) l
 judged c e = subst (LimitJudged _ _) e (c .judge-limit .ensures)
 
-few : (c : tie.After-judge-limit) → c .judge-limit .result ≡ limit.Enough → used (numbered (chart c) .chart) ≤ 64
+few : (c : tie.After-judge-limit) → c .judge-limit .result ≡ limit.Enough → used (reachedPart (numbered (chart c) .chart)) ≤ 64
 few c e =
     let f = judged c e .fits refl in
     omega (arith, numbered (chart c) .used-is, f .0, f .1)

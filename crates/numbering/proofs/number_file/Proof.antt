@@ -4,6 +4,8 @@ use mathlib.Core.List.{List}
 use Prim.Native.Nat.{ℕ}
 use native.Mathlib.Omega.{arith}
 use Rattle.model.specs.Live.{testedSets}
+use Rattle.model.specs.Places.{ReachedIfAsked}
+use Rattle.model.proofs.Judgement.{accepted as not-refused}
 use Rattle.chart_lists.specs.Lists.{Lists, lists}
 use Rattle.chart_lists.specs.Read.{readAs}
 use Rattle.chart_lists.specs.Begins.{Begins}
@@ -48,6 +50,9 @@ held c = judged c .judge .ensures .1 .0 (accepted c .chart) (accepted c .reads)
 
 sets : (c : tie.After-a2) → Begins (testedSets (accepted c .chart)) (tested (judged c))
 sets c = judged c .judge .ensures .1 .1 (accepted c .chart) (accepted c .reads)
+
+reached : (c : tie.After-a2) → ReachedIfAsked (accepted c .chart)
+reached c = not-refused (held c .valid) .0 (accepted c .accepted) .reached
 
 slice-aggregate-judge : tie.Need-slice-aggregate-judge
 slice-aggregate-judge c = search needs
@@ -107,7 +112,7 @@ number-judged-requires c κs =
     let p = start (judged x) .pre in
     let few = held x .valid .few-locations in
     let m = locations-are (a .chart) (a .header-is) in
-    ((a .chart, a .header-is, holds-edges (held x), sets x), omega (arith, p .0, few, m), omega (arith, p .1, few, m))
+    ((a .chart, a .header-is, holds-edges (held x), sets x, reached x), omega (arith, p .0, few, m), omega (arith, p .1, few, m))
 
 returns : tie.Need-returns
 returns c =
@@ -127,7 +132,7 @@ returns-2 c =
     let n = c .before .before .before .before in
     let x = n .before .before .before .before .before .before .before .before in
     let a = accepted x in
-    let r = n .number-judged .ensures (a .chart) (a .header-is) (holds-edges (held x)) (sets x) in
+    let r = n .number-judged .ensures (a .chart) (a .header-is) (holds-edges (held x)) (sets x) (reached x) in
     let e = accepted-in a in
     (judged-answer (file (judged x)) e (r .0), judged-lists (file (judged x)) e (r .1))
 

@@ -2,8 +2,10 @@
 use mathlib.Core.Path.{sym, ap}
 use lib.Seq.{length-take-le}
 use Rattle.model.specs.Answer.{result}
+use Rattle.model.specs.Spare.{reachedPart}
+use Rattle.model.proofs.ReachedPart.{part-valid}
 use Rattle.numbering.proofs.Settling.{few}
-use Rattle.numbering.proofs.FileNumbers.{merged-part, chart-numbers}
+use Rattle.numbering.proofs.FileNumbers.{merged-part, part-are, chart-numbers}
 use Rattle.numbering.proofs.FloorFound.{floor-asked}
 use borrow.Author.Needs.{needs}
 use Rattle.numbering.proofs.number_judged.Statement.{statement}
@@ -41,7 +43,7 @@ slice-aggregate-find-floor : tie.Need-slice-aggregate-find-floor
 slice-aggregate-find-floor c =
     let n = numbered (c .before) in
     let p = start n .pre .0 in
-    sym (merged-part (p .0) (p .1) (n .number-chart .ensures (p .0) (p .1) (p .2) (p .3) .merged-are))
+    sym (merged-part (reachedPart (p .0)) (part-are (p .0) (p .1)) (n .number-chart .ensures (p .0) (p .1) (p .2) (p .3) (p .4) .merged-are))
 
 array-share-prefix-families-at : tie.Need-array-share-prefix-families-at
 array-share-prefix-families-at c =
@@ -59,8 +61,11 @@ find-floor-requires : tie.Need-find-floor-requires
 find-floor-requires c κs =
     let n = numbered (c .before .before) in
     let p = start n .pre .0 in
-    let room = few (p .0) (p .1) (p .2) (p .3) in
-    (p .0, floor-asked (p .0) (p .1) (p .2 .valid) (n .number-chart .ensures (p .0) (p .1) (p .2) (p .3)) (search (needs, room)))
+    let room = few (p .0) (p .1) (p .2) (p .3) in (
+      reachedPart (p .0),
+      floor-asked (reachedPart (p .0)) (part-are (p .0) (p .1)) (part-valid (p .2 .valid))
+          (n .number-chart .ensures (p .0) (p .1) (p .2) (p .3) (p .4)) (search (needs, room)),
+    )
 
 same-length : tie.Need-same-length
 same-length c = search needs
@@ -69,13 +74,13 @@ same-length-2 : tie.Need-same-length-2
 same-length-2 c = search needs
 
 returns : tie.Need-returns
-returns c d e h b =
+returns c d e h b reached =
     let n = numbered (c .before .before .before) in
-    let m = n .number-chart .ensures d e h b in
+    let m = n .number-chart .ensures d e h b reached in
     let room = few d e h b in
-    let f = c .find-floor .ensures d (floor-asked d e (h .valid) m (search (needs, room))) in (
-      ap result (chart-numbers d e (m .live-are) (m .used-is) (f .0) (f .1) (m .rounds-is)),
-      record { width = h .width; valid = h .valid; live-are = m .live-are; cells-are = m .cells-are },
+    let f = c .find-floor .ensures (reachedPart d) (floor-asked (reachedPart d) (part-are d e) (part-valid (h .valid)) m (search (needs, room))) in (
+      ap result (chart-numbers d e (m .used-is) (f .0) (f .1) (m .rounds-is)),
+      record { width = h .width; valid = h .valid; live-are = m .live-are; cells-are = unfold reachedPart in (m .cells-are) },
     )
 
 pub number-judged-spec : {M : Type 1} → statement M

@@ -9,8 +9,11 @@ use Rattle.model.specs.Answer.{result, then}
 use Rattle.model.specs.Chart.{Chart}
 use Rattle.model.specs.Valid.{Storable}
 use Rattle.model.specs.Live.{testedSets}
+use Rattle.model.specs.Spare.{reachedPart}
+use Rattle.model.specs.Places.{ReachedIfAsked}
 use Rattle.model.specs.Rewrite.{boardNumbering}
 use Rattle.model.specs.Judge.{judged, fitted}
+use Rattle.model.proofs.Judgement.{accepted}
 use Rattle.chart_lists.specs.Header.{headerOf}
 use Rattle.chart_lists.specs.Lists.{overwritten}
 use Rattle.chart_lists.specs.Begins.{Begins}
@@ -35,7 +38,7 @@ use Rattle.rewriting.proofs.fit.Tie as tie
 
 -- the way back to the start
 abbrev start : tie.After-families-at → tie.Start
-start c = c .before .before .before .before .before .before .before .before .before
+start c = c .before .before .before .before .before .before .before .before .before .before
 
 abbrev numbered : tie.After-judge-limit → tie.After-number-chart
 numbered c = c .before .before .before .before .before
@@ -50,11 +53,15 @@ Given s d = let a = s .args in
     × Holds d (passed (a .accepting) (a .sources) (a .targets) (a .events) (a .starts) (a .test-counts) (a .timers) (a .codes) (a .constants))
     × Begins (testedSets d) (now (a .tested))
 
+-- every location is reached that 9 asks for
+reached : {d : Chart} → Storable d → judged d ≡ result d → ReachedIfAsked d
+reached s e = accepted (s .valid) .0 e .reached
+
 -- what numbering leaves
 left : (c : tie.After-judge-limit) (d : Chart) → Given (entry c) d → let n = numbered c .number-chart in
-    ChartNumbered d (n .last .1 .1 .1 .1 .1 .0) (n .last .1 .1 .1 .1 .1 .1 .0) (n .last .1 .1 .1 .1 .1 .1 .1 .0)
+    ChartNumbered (reachedPart d) (n .last .1 .1 .1 .1 .1 .0) (n .last .1 .1 .1 .1 .1 .1 .0) (n .last .1 .1 .1 .1 .1 .1 .1 .0)
     (n .last .1 .1 .1 .1 .1 .1 .1 .1 .0) (n .result)
-left c d g = numbered c .number-chart .ensures d (g .0) (holds-edges (g .3)) (g .4)
+left c d g = numbered c .number-chart .ensures d (g .0) (holds-edges (g .3)) (g .4) (reached (g .2) (g .1))
 
 -- what the judgement of the limit says
 limited : (c : tie.After-judge-limit) (d : Chart) → Given (entry c) d → {l : Limit} → c .judge-limit .result ≡ l
@@ -78,7 +85,7 @@ number-chart-requires c κs =
     let p = start c .pre in
     let most : start c .args .header .locations ≤ mostLocations = omega (arith, locations-are (p .0) (p .1), p .3 .valid .few-locations) in
     let cells : 64 * start c .args .header .locations ≤ mostCells = omega (arith, most) in
-    ((p .0, p .1, holds-edges (p .4), p .5), most, most, cells, most)
+    ((p .0, p .1, holds-edges (p .4), p .5, reached (p .3) (p .2)), most, most, cells, most)
 
 judge-limit-requires : tie.Need-judge-limit-requires
 judge-limit-requires c κs = search needs
@@ -105,15 +112,18 @@ judged-so c = c .before .before
 few : (c : tie.After-enum-told) → numbered (judged-so c) .number-chart .result .used ≤ 64
 few c = let f = judged-so c .judge-limit .ensures .fits (c .enum-told .given .1) in omega (arith, f .0, f .1)
 
-cast-write-renamed : tie.Need-cast-write-renamed
-cast-write-renamed c = omega (arith, few c)
+abbrev told : tie.After-write-cleared-arg5 → tie.After-enum-told
+told c = c .before .before .before .before .before
 
-write-renamed-requires : tie.Need-write-renamed-requires
-write-renamed-requires c κs =
-    let t = c .before .before in
+cast-write-cleared : tie.Need-cast-write-cleared
+cast-write-cleared c = omega (arith, few (told c))
+
+write-cleared-requires : tie.Need-write-cleared-requires
+write-cleared-requires c κs =
+    let t = told (c .before .before) in
     let p = entry (judged-so t) .pre in
     let x = left (judged-so t) (p .0) (p .1, p .2, p .3, p .4, p .5) in
-    (p .0, boardNumbering (p .0), p .1, p .4, board-cells (p .3) (p .2) x (few t))
+    (p .0, boardNumbering (reachedPart (p .0)), p .1, reached (p .3) (p .2), p .4, board-cells (p .3) (p .2) x (few t))
 
 enum-known-written : tie.Need-enum-known-written
 enum-known-written c = search needs
@@ -122,37 +132,36 @@ enum-known-written-2 : tie.Need-enum-known-written-2
 enum-known-written-2 c = search needs
 
 -- after the file is written
-abbrev told : tie.After-write-renamed → tie.After-enum-told
-told c = c .before .before .before
+abbrev fitted-so : tie.After-write-cleared → tie.After-enum-told
+fitted-so c = told (c .before .before .before)
 
-abbrev first : tie.After-write-renamed → tie.Start
-first c = entry (judged-so (told c))
+abbrev first : tie.After-write-cleared → tie.Start
+first c = entry (judged-so (fitted-so c))
 
-enough : (c : tie.After-write-renamed) (d : Chart) → Given (first c) d → result (made d) ≡ fitted (first c .args .k) d
-enough c d g = limited (judged-so (told c)) d g (told c .enum-told .given .1)
+enough : (c : tie.After-write-cleared) (d : Chart) → Given (first c) d → result (made d) ≡ fitted (first c .args .k) d
+enough c d g = limited (judged-so (fitted-so c)) d g (fitted-so c .enum-told .given .1)
 
-buffer : (c : tie.After-write-renamed) (d : Chart) → Given (first c) d → let a = first c .args in
-    c .write-renamed .last .1 .1 .1 .1 .1 .1 .1 .1 .1 .1 .1 .1 .0
+buffer : (c : tie.After-write-cleared) (d : Chart) → Given (first c) d → let a = first c .args in
+    c .write-cleared .last .1 .1 .1 .1 .1 .1 .1 .1 .1 .1 .1 .1 .0
     ≡ overwritten newFile (fittedInto (a .k) (length (now (a .out))) d) (now (a .out))
 buffer c d g =
     let a = first c .args in
-    let x = left (judged-so (told c)) d g in
-    let u = few (told c) in
-    let cells = board-cells (g .2) (g .1) x u in
-    c .write-renamed .ensures .1 d (boardNumbering d) (g .0) (g .3) cells (board-storable (g .2) (g .1) x u) (board-used (g .2) (g .1) x)
+    let x = left (judged-so (fitted-so c)) d g in
+    let u = few (fitted-so c) in
+    c .write-cleared .ensures .1 d (boardNumbering (reachedPart d)) (g .0) (reached (g .2) (g .1)) (g .3) (board-cells (g .2) (g .1) x u)
+    (board-storable (g .2) (g .1) x u) (board-used (g .2) (g .1) x)
     ∙ buffer-written (a .k) (length (now (a .out))) d (enough c d g) (now (a .out))
 
 -- the writer's answer, with the timers used
-values : (c : tie.After-write-renamed) {w : Written} → c .write-renamed .result ≡ w → (d : Chart) → Given (first c) d → let a = first c .args in
-    then (writtenAs w) (λ n. result (record { used = numbered (judged-so (told c)) .number-chart .result .used; length = n }))
+values : (c : tie.After-write-cleared) {w : Written} → c .write-cleared .result ≡ w → (d : Chart) → Given (first c) d → let a = first c .args in
+    then (writtenAs w) (λ n. result (record { used = numbered (judged-so (fitted-so c)) .number-chart .result .used; length = n }))
     ≡ then (fittedInto (a .k) (length (now (a .out))) d) (λ y. result (valuesOf y))
 values c e d g =
     let a = first c .args in
-    let x = left (judged-so (told c)) d g in
-    let u = few (told c) in
-    let cells = board-cells (g .2) (g .1) x u in
-    let r = c .write-renamed .ensures .0 d (boardNumbering d) (g .0) (g .3) cells (board-storable (g .2) (g .1) x u)
-    (board-used (g .2) (g .1) x) in
+    let x = left (judged-so (fitted-so c)) d g in
+    let u = few (fitted-so c) in
+    let r = c .write-cleared .ensures .0 d (boardNumbering (reachedPart d)) (g .0) (reached (g .2) (g .1)) (g .3) (board-cells (g .2) (g .1) x u)
+    (board-storable (g .2) (g .1) x u) (board-used (g .2) (g .1) x) in
     values-written (a .k) (length (now (a .out))) d (enough c d g) (x .used-is) (sym (ap writtenAs e) ∙ r)
 
 same-length : tie.Need-same-length
@@ -184,8 +193,8 @@ fit-spec =
     enum-known-limit
     returns
     enum-told
-    cast-write-renamed
-    write-renamed-requires
+    cast-write-cleared
+    write-cleared-requires
     enum-known-written
     enum-known-written-2
     same-length

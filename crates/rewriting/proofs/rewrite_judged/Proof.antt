@@ -8,8 +8,8 @@ use Rattle.rewriting.proofs.Entry.{answer-refused, lent-refused, accept
 use Rattle.rewriting.proofs.rewrite_judged.Statement.{statement}
 use Rattle.rewriting.proofs.rewrite_judged.Tie as tie
 
-abbrev start : tie.After-fit-arg → tie.Start
-start c = c .before .before .before .before .before
+abbrev start : tie.After-fit-arg6 → tie.Start
+start c = c .before .before .before .before .before .before .before .before .before .before
 
 enum-known-answer : tie.Need-enum-known-answer
 enum-known-answer c = search needs
@@ -19,7 +19,7 @@ enum-known-answer-2 c = search needs
 
 fit-requires : tie.Need-fit-requires
 fit-requires c κs =
-    let x = accepted-into (start c .pre .1) (c .before .before .answer2 .given .1) in
+    let x = accepted-into (start c .pre .1) (c .before .before .before .before .before .before .before .answer2 .given .1) in
     let d = x .0 in
     (d .chart, d .header-is, d .accepted, x .1, x .2, x .3)
 
@@ -39,9 +39,9 @@ returns-2 c =
     let a = start (f .before) .args in
     let room = length (now (a .out)) in
     let e = f .fit .ensures in (
-      λ bs j. let x = accepted-into j (f .before .before .before .answer2 .given .1) in let d = x .0 in
+      λ bs j. let x = accepted-into j (f .before .before .before .before .before .before .before .before .answer2 .given .1) in let d = x .0 in
           answer-accepted (a .k) room bs d (e .0 (d .chart) (d .header-is) (d .accepted) (x .1) (x .2) (x .3)),
-      λ bs j. let x = accepted-into j (f .before .before .before .answer2 .given .1) in let d = x .0 in
+      λ bs j. let x = accepted-into j (f .before .before .before .before .before .before .before .before .answer2 .given .1) in let d = x .0 in
           lent-accepted (a .k) room bs d (now (a .out)) (e .1 (d .chart) (d .header-is) (d .accepted) (x .1) (x .2) (x .3)),
     )
 

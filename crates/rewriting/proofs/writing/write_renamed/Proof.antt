@@ -13,8 +13,8 @@ use Rattle.chart_lists.proofs.Fronts.{transitions-are}
 use Rattle.chart_lists.proofs.Tests.{all-tests}
 use Rattle.chart_lists.proofs.Partly.{holds-starts, holds-tests}
 use Rattle.rewriting.proofs.Written.{write-into, write-answer}
-use Rattle.rewriting.proofs.write_renamed.Statement.{statement}
-use Rattle.rewriting.proofs.write_renamed.Tie as tie
+use Rattle.rewriting.proofs.writing.write_renamed.Statement.{statement}
+use Rattle.rewriting.proofs.writing.write_renamed.Tie as tie
 
 -- the way back from the writer's answer
 abbrev start : tie.After-new-starts → tie.Start

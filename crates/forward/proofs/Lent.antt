@@ -53,7 +53,7 @@ module _ {initial locations : ℕ} {sources targets cut : List ℕ} (d : SafeFor
   lent-empty = rw lent-length (take-zeros locations mostLocations few-locations)
 
   module _ {sets : List ℕ} (e : sets ≡ forwardSets initial (length lent) sources targets cut) (rest : List ℕ) where
-    made-sets : sets ≡ forwardSets initial locations sources targets cut
+    pub made-sets : sets ≡ forwardSets initial locations sources targets cut
     made-sets = rw lent-length at e
 
     made-length : length sets ≡ locations

@@ -7,8 +7,8 @@ use Rattle.chart_lists.proofs.Holds.{sources-each, targets-each, starts-each}
 use Rattle.chart_lists.proofs.Fronts.{each-part}
 use Rattle.flow.proofs.ChartFlows.{tested-each}
 use Rattle.numbering.proofs.Settling.{few, own-length, settle-safe, live-found}
-use Rattle.numbering.proofs.live_chart.Statement.{statement}
-use Rattle.numbering.proofs.live_chart.Tie as tie
+use Rattle.numbering.proofs.whole.live_chart.Statement.{statement}
+use Rattle.numbering.proofs.whole.live_chart.Tie as tie
 
 -- the call that a place is of
 abbrev start : tie.After-from → tie.Start
