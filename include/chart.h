@@ -1,4 +1,5 @@
-/* Timing charts: analysis, rewriting for a board of K timers, player, controller of several heads, player for a board with a counter and no timers.
+/* Timing charts: analysis, rewriting for a board of K timers, player, controller of several heads, player for a board with a counter and no timers,
+ * reading of a file into lists and writing from them.
  * Link libexports.a (`rt staticlib exports`).
  *
  * A slice is a pointer and the number of its entries. Slices of one call must not overlap one that the call writes to, and nothing else may read or
@@ -70,7 +71,7 @@ typedef enum chart_refusal {
     CHART_REFUSED_NO_SUCH_TRANSITION = 14, /* a step names no transition */
     CHART_REFUSED_TIME_TOO_LARGE = 15,     /* a step's or an event's time is over CHART_MOST_TICKS */
     CHART_REFUSED_INPUT_TOO_LONG = 16,     /* by the program `allocate` alone: its input is over 65536 bytes */
-    CHART_REFUSED_CONSTANT_TOO_LARGE = 17, /* by no call below: a constant over 65535 that is to be written as version 1 */
+    CHART_REFUSED_CONSTANT_TOO_LARGE = 17, /* by chart_write alone: a constant over 65535 that is to be written as version 1 */
     CHART_REFUSED_NOT_FOR_COUNTER = 18,    /* a constant over CHART_COUNTER_LARGEST_CONSTANT, by the counter board alone */
 
     /* turned down because of the state */
@@ -128,6 +129,26 @@ typedef struct chart_counter_playing {
     uint64_t location;
     uint64_t accepting;
 } chart_counter_playing;
+
+/* The header of a chart: the version of its file, how many locations it has, its initial location, and how many timers, accepting locations and
+ * transitions it has. */
+typedef struct chart_reading {
+    uint64_t number;
+    uint64_t place;
+    uint64_t version;
+    uint64_t locations;
+    uint64_t initial;
+    uint64_t timers;
+    uint64_t accepting;
+    uint64_t transitions;
+} chart_reading;
+
+/* length: the bytes of the file. */
+typedef struct chart_writing {
+    uint64_t number;
+    uint64_t place;
+    uint64_t length;
+} chart_writing;
 
 /* Where a head stands and at what time. waiting is 0 where no event waits at it, and event and waiting_time then say nothing; else the event of that
  * time waits. A received event is written with waiting 1, and once it is served all three are 0. An event over 255 is no transition's. */
@@ -217,6 +238,19 @@ CHART_FIELD(chart_counter_playing, place, 8);
 CHART_FIELD(chart_counter_playing, location, 16);
 CHART_FIELD(chart_counter_playing, accepting, 24);
 CHART_ASSERT(sizeof(chart_counter_playing) == 32, "chart_counter_playing");
+CHART_FIELD(chart_reading, number, 0);
+CHART_FIELD(chart_reading, place, 8);
+CHART_FIELD(chart_reading, version, 16);
+CHART_FIELD(chart_reading, locations, 24);
+CHART_FIELD(chart_reading, initial, 32);
+CHART_FIELD(chart_reading, timers, 40);
+CHART_FIELD(chart_reading, accepting, 48);
+CHART_FIELD(chart_reading, transitions, 56);
+CHART_ASSERT(sizeof(chart_reading) == 64, "chart_reading");
+CHART_FIELD(chart_writing, number, 0);
+CHART_FIELD(chart_writing, place, 8);
+CHART_FIELD(chart_writing, length, 16);
+CHART_ASSERT(sizeof(chart_writing) == 24, "chart_writing");
 CHART_FIELD(chart_head, location, 0);
 CHART_FIELD(chart_head, time, 8);
 CHART_FIELD(chart_head, waiting, 16);
@@ -282,6 +316,46 @@ chart_counter_playing chart_play_counter(
     const uint32_t *transitions, size_t transitions_length,
     uint16_t first,
     const uint16_t *readings, size_t readings_length);
+
+/* Reads a chart file into nine lists (docs/LISTS.md): the accepting locations, rising; of each transition its source, its target, its event, the set
+ * of the timers that it starts, timer j at bit j, and the number of its tests; of each test its timer, its comparison code and its constant, the
+ * tests of transition 0 first, then those of transition 1, and so on. The answer has the chart's header. Whether locations are reached and timers
+ * are started before they are tested is not judged.
+ * accepting needs one entry for each accepting location, CHART_MOST_LOCATIONS are always enough; sources, targets, events, starts and test_counts
+ * need one for each transition, CHART_MOST_TRANSITIONS are always enough; timers, codes and constants need one for each test of all transitions,
+ * CHART_MOST_TRANSITIONS * CHART_MOST_TESTS are always enough. Entries beyond these are untouched.
+ * Refusals: 1 to 8, 21. */
+chart_reading chart_read(
+    const uint8_t *file, size_t file_length,
+    uint16_t *accepting, size_t accepting_length,
+    uint16_t *sources, size_t sources_length,
+    uint16_t *targets, size_t targets_length,
+    uint8_t *events, size_t events_length,
+    uint64_t *starts, size_t starts_length,
+    uint8_t *test_counts, size_t test_counts_length,
+    uint8_t *timers, size_t timers_length,
+    uint8_t *codes, size_t codes_length,
+    uint32_t *constants, size_t constants_length);
+
+/* Writes the chart file of the header and the nine lists that chart_read gives: the header's numbers are version, locations, initial and how many
+ * timers, accepting locations and transitions the chart has. Entries beyond those that accepting_count, transition_count and the test counts call
+ * for are not looked at; a list that ends before an entry that is due is refused with 3. Whether locations are reached and timers are started before
+ * they are tested is not judged.
+ * out needs the file's length, CHART_LARGEST_FILE bytes are always enough; bytes beyond it are untouched.
+ * Refusals, in this order: 2; 3 to 8 in the order of the file's fields, place is the transition where a transition's 4 to 8 is refused; 17; 21. */
+chart_writing chart_write(
+    uint8_t version, uint16_t locations, uint16_t initial,
+    uint8_t timer_count, uint16_t accepting_count, uint16_t transition_count,
+    const uint16_t *accepting, size_t accepting_length,
+    const uint16_t *sources, size_t sources_length,
+    const uint16_t *targets, size_t targets_length,
+    const uint8_t *events, size_t events_length,
+    const uint64_t *starts, size_t starts_length,
+    const uint8_t *test_counts, size_t test_counts_length,
+    const uint8_t *timers, size_t timers_length,
+    const uint8_t *codes, size_t codes_length,
+    const uint32_t *constants, size_t constants_length,
+    uint8_t *out, size_t out_length);
 
 /* Sets a controller up on a board of k timers: it is head 0's turn, and each head stands at its chart's initial location at tick 0, nothing waiting,
  * its timers at its starting counts; all else in the state is 0.

@@ -8,46 +8,24 @@ a run.
   a refusal   refused N P changed C                          (C: lent entries or bytes that are not as they were; 0 where nothing is lent)
 Lent memory is filled with bytes 170 (hex aa) before each call.
 """
+from encoder import ABOVE, AT_LEAST, AT_MOST, BELOW, EQUAL, arrows_of, chart, drawn, file_of
 
-AT_MOST, BELOW, AT_LEAST, ABOVE, EQUAL = range(5)
-WIDTH_OF_CONSTANTS = {1: 2, 2: 4, 3: 4}
 ANALYSE, REWRITE, PLAY = [], [], []
 
-
-def chart(locations, timers, arrows, initial=0, accepting=None, version=1):
-    """A file. An arrow: source, target, started timers, tests (timer, code, constant), event if not 0. The last location accepts unless said."""
-    accepting = [locations - 1] if accepting is None else accepting
-    n = lambda v, w: v.to_bytes(w, 'big')
-    body = n(locations, 2) + n(initial, 2) + n(timers, 1) + n(len(accepting), 2) + b''.join(n(q, 2) for q in accepting) + n(len(arrows), 2)
-    for source, target, starts, tests, *event in arrows:
-        record = n(source, 2) + n(target, 2) + n(sum(event), 1) + n(len(starts), 1) + bytes(starts) + n(len(tests), 1)
-        record += b''.join(n(j, 1) + n(code, 1) + n(k, WIDTH_OF_CONSTANTS[version]) for j, code, k in tests)
-        body += n(len(record), 2) + record
-    return n(version, 1) + n(len(body), 4) + body
-
-
 # ---- the charts of document 01
-ARROWS_OF_A = [(0, 1, [0], []), (1, 2, [1], []), (2, 3, [2], [(0, AT_LEAST, 3)]), (2, 4, [2], [(1, AT_MOST, 7)]),
-               (3, 5, [], [(1, BELOW, 9)]), (4, 5, [], [(0, EQUAL, 4)]), (5, 6, [], [(2, ABOVE, 2)])]
-A = chart(7, 3, ARROWS_OF_A)
-B = chart(4, 2, [(0, 1, [0], []), (1, 2, [1], [(0, AT_MOST, 2)]), (2, 3, [], [(1, AT_LEAST, 1)])])
+ARROWS_OF_A, ARROWS_OF_B, ARROWS_OF_C = (arrows_of(drawn(name)) for name in 'abc')
+A, B, C, SELF_LOOP, NEVER_STARTED, SMALL = (file_of(drawn(name)) for name in ('a', 'b', 'c', 'self_loop', 'never_started', 'one_location'))
+B_2, SMALL_2 = file_of(drawn('b'), 2), file_of(drawn('one_location'), 2)
 B_BOARD = chart(4, 1, [(0, 1, [0], []), (1, 2, [0], [(0, AT_MOST, 2)]), (2, 3, [], [(0, AT_LEAST, 1)])])
-B_2 = bytes.fromhex('02 00000034 0004 0000 02 0001 0003 0003 0008 0000 0001 00 01 00 00'
-                    '000e 0001 0002 00 01 01 01 00 00 00000002 000d 0002 0003 00 00 01 01 02 00000001')
 B_2_BOARD = bytes.fromhex('02 00000034 0004 0000 01 0001 0003 0003 0008 0000 0001 00 01 00 00'
                           '000e 0001 0002 00 01 00 01 00 00 00000002 000d 0002 0003 00 00 01 00 02 00000001')
 B_3, B_3_BOARD = b'\x03' + B_2[1:], b'\x03' + B_2_BOARD[1:]
 # B as version 1 but for the version byte
 B_RELABELLED = b'\x02' + B[1:]
-ARROWS_OF_C = [(0, 1, [1], []), (1, 2, [0], []), (2, 3, [], [(0, AT_LEAST, 1)]), (3, 4, [0], [(1, AT_MOST, 9)]), (4, 5, [], [(0, AT_LEAST, 2)])]
 ARROWS_OF_C_BOARD = [(0, 1, [0], []), (1, 2, [1], []), (2, 3, [], [(1, AT_LEAST, 1)]), (3, 4, [0], [(0, AT_MOST, 9)]),
                      (4, 5, [], [(0, AT_LEAST, 2)])]
-C, C_BOARD = chart(6, 2, ARROWS_OF_C), chart(6, 2, ARROWS_OF_C_BOARD)
-SELF_LOOP = chart(1, 1, [(0, 0, [0], [])])
+C_BOARD = chart(6, 2, ARROWS_OF_C_BOARD)
 SELF_LOOP_BOARD = chart(1, 0, [(0, 0, [], [])])
-NEVER_STARTED = chart(2, 1, [(0, 0, [0], []), (0, 1, [], [(0, AT_LEAST, 0)])])
-SMALL = bytes.fromhex('0100000009000100000000000000')
-SMALL_2 = bytes.fromhex('0200000009000100000000000000')
 # Fig. 1 of paper 003 as its text determines it: r1 to r7 are transitions 0 to 6, l0 to l6 locations 0 to 6
 FIG_1 = chart(7, 3, [(0, 1, [0], []), (1, 2, [1], [(0, AT_LEAST, 1)]), (2, 3, [2], []), (2, 4, [2], []),
                      (3, 5, [], [(1, AT_MOST, 9)]), (4, 5, [], [(0, AT_MOST, 9)]), (5, 6, [], [(2, AT_MOST, 9)])])
@@ -101,10 +79,12 @@ def lone(q, n):
 
 
 def a_and_lone(n, third=(2,)):
-    """A, then so many families more. The timers of `third` stand in the place of timer 2."""
-    return chart(7 + n, 2 + len(third), [(0, 1, [0], []), (1, 2, [1], []), (2, 3, third, [(0, AT_LEAST, 3)]), (2, 4, third, [(1, AT_MOST, 7)]),
-                                         (3, 5, [], [(1, BELOW, 9)]), (4, 5, [], [(0, EQUAL, 4)]),
-                                         (5, 6, [0], [(j, ABOVE, 2) for j in third])] + lone(6, n))
+    """A, whose last transition starts timer 0, then so many families more. The timers of `third` stand in the place of timer 2."""
+    in_place = lambda timers: [j for timer in timers for j in (third if timer == 2 else [timer])]
+    arrows = [(source, target, in_place(starts), [(j, code, k) for timer, code, k in tests for j in in_place([timer])])
+              for source, target, starts, tests, _ in ARROWS_OF_A]
+    source, target, _, tests = arrows.pop()
+    return chart(7 + n, 2 + len(third), arrows + [(source, target, [0], tests)] + lone(6, n))
 
 
 # 15 families of timer 5 that meet none, each at a location of its own; then timers 0 to 4, one family each: alone at a location, and with each other
@@ -245,7 +225,7 @@ SPARE = [
      [(6, 2, [], []), (6, 4, [], [])] + ARROWS_OF_C_BOARD, {}, 6, 2, 4, '0 2 3 2 1 0 0'),
     # Timer 0 lives at location 1, timer 1 at location 2, and both would at location 4
     ('B and a spare location where two families would meet', 'k', 5, 2,
-     [(4, 1, [], []), (4, 2, [], []), (0, 1, [0], []), (1, 2, [1], [(0, AT_MOST, 2)]), (2, 3, [], [(1, AT_LEAST, 1)])],
+     [(4, 1, [], []), (4, 2, [], [])] + ARROWS_OF_B,
      [(4, 1, [], []), (4, 2, [], []), (0, 1, [0], []), (1, 2, [0], [(0, AT_MOST, 2)]), (2, 3, [], [(0, AT_LEAST, 1)])],
      {'accepting': [3, 4]}, 4, 1, 2, '0 1 2 0 0'),
     # Timers 0 and 2 are twins, so that timer 2 has 0; for itself it would have 1

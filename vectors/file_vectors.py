@@ -12,6 +12,7 @@ What the program prints:
               written LEN HEX next HH                   the same chart written again: the bytes (the last 8 if over 64), and the byte after them
 Lent lists and buffers are filled with bytes 170 (hex aa) before each call.
 """
+from call_vectors import B, B_2
 
 
 def h(text):
@@ -186,15 +187,11 @@ read('no list is needed', SMALL,
      ['version 1 locations 1 initial 0 timers 0 accepting 0 transitions 0 beyond 0', 'written 14 0100000009000100000000000000 next aa'], [0] * 9)
 
 # ---- version 2: constants of four bytes, records of 7 + s + 6g bytes
-B_2 = h('02 00000034 0004 0000 02 0001 0003 0003 0008 0000 0001 00 01 00 00 000e 0001 0002 00 01 01 01 00 00 00000002'
-        '000d 0002 0003 00 00 01 01 02 00000001')
 read('chart B as version 2', B_2,
      ['version 2 locations 4 initial 0 timers 2 accepting 1 3 transitions 3 beyond 0', '0>1 event 0 starts 1 tests 0',
       '1>2 event 0 starts 2 tests 1 0:0:2', '2>3 event 0 starts 0 tests 1 1:2:1', written(B_2)])
 read('chart B as version 2, first byte 1', framed(B_2[5:], 1), 'refused 3 65535 changed 0')
-read('chart B as version 1, first byte 2',
-     h('02 00000030 0004 0000 02 0001 0003 0003 0008 0000 0001 00 01 00 00 000c 0001 0002 00 01 01 01 00 00 0002 000b 0002 0003 00 00 01 01 02 0001'),
-     'refused 3 65535 changed 0')
+read('chart B as version 1, first byte 2', framed(B[5:], 2), 'refused 3 65535 changed 0')
 EVENTS_2 = framed(EVENTS[5:], 2)
 read('a version 1 file without tests, first byte 2', EVENTS_2,
      ['version 2 locations 2 initial 0 timers 0 accepting 1 1 transitions 4 beyond 0'] + EVENT_LINES + [written(EVENTS_2)])
@@ -236,9 +233,7 @@ B_3 = framed(B_2[5:], 3)
 read('chart B as version 3', B_3,
      ['version 3 locations 4 initial 0 timers 2 accepting 1 3 transitions 3 beyond 0', '0>1 event 0 starts 1 tests 0',
       '1>2 event 0 starts 2 tests 1 0:0:2', '2>3 event 0 starts 0 tests 1 1:2:1', written(B_3)])
-read('chart B as version 1, first byte 3',
-     h('03 00000030 0004 0000 02 0001 0003 0003 0008 0000 0001 00 01 00 00 000c 0001 0002 00 01 01 01 00 00 0002 000b 0002 0003 00 00 01 01 02 0001'),
-     'refused 3 65535 changed 0')
+read('chart B as version 1, first byte 3', framed(B[5:], 3), 'refused 3 65535 changed 0')
 read('chart B as version 2, first byte 4', framed(B_2[5:], 4), 'refused 2 65535 changed 0')
 read('version 3: cut after three bytes of the constant', framed(HEAD + RECORD_2[:15], 3), 'refused 3 65535 changed 0')
 read('version 3: a byte remains', framed(HEAD + RECORD_2 + h('00'), 3), 'refused 3 65535 changed 0')

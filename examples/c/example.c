@@ -1,32 +1,15 @@
 /* Analyses charts A and B of document 01 and two with many families, rewrites B for 16 timers and plays it, does the same with a chart of version 2
- * that has a long dwell time, plays B on the counter board, analyses, rewrites and plays a chart with twins, and prints the answers. */
+ * that has a long dwell time, plays B on the counter board, analyses, rewrites and plays a chart with twins, reads B into lists and writes it again,
+ * and prints the answers. It is called with the folder of the chart files. */
 #include <inttypes.h>
 #include <stdio.h>
+#include <string.h>
 
 #include "chart.h"
+#include "chart_file.h"
 
-/* A, 7 locations, 3 timers: 0→1 starts 0; 1→2 starts 1; 2→3 tests 0 at least 3, starts 2; 2→4 tests 1 at most 7, starts 2; 3→5 tests 1 below 9;
- * 4→5 tests 0 equal 4; 5→6 tests 2 above 2. The bytes of charts/a.chart. */
-static const uint8_t A[] = {
-    1, 0, 0, 0, 98,                                 /* version, length of the rest */
-    0, 7, 0, 0, 3, 0, 1, 0, 6, 0, 7,                /* locations, initial, timers, accepting: 6; transitions */
-    0, 8, 0, 0, 0, 1, 0, 1, 0, 0,                   /* 0→1 */
-    0, 8, 0, 1, 0, 2, 0, 1, 1, 0,                   /* 1→2 */
-    0, 12, 0, 2, 0, 3, 0, 1, 2, 1, 0, 2, 0, 3,      /* 2→3 */
-    0, 12, 0, 2, 0, 4, 0, 1, 2, 1, 1, 0, 0, 7,      /* 2→4 */
-    0, 11, 0, 3, 0, 5, 0, 0, 1, 1, 1, 0, 9,         /* 3→5 */
-    0, 11, 0, 4, 0, 5, 0, 0, 1, 0, 4, 0, 4,         /* 4→5 */
-    0, 11, 0, 5, 0, 6, 0, 0, 1, 2, 3, 0, 2,         /* 5→6 */
-};
-
-/* B, 4 locations, 2 timers: 0→1 starts 0; 1→2 tests 0 at most 2, starts 1; 2→3 tests 1 at least 1. The bytes of charts/b.chart. */
-static const uint8_t B[] = {
-    1, 0, 0, 0, 48,                                 /* version, length of the rest */
-    0, 4, 0, 0, 2, 0, 1, 0, 3, 0, 3,                /* locations, initial, timers, accepting: 3; transitions */
-    0, 8, 0, 0, 0, 1, 0, 1, 0, 0,                   /* 0→1 */
-    0, 12, 0, 1, 0, 2, 0, 1, 1, 1, 0, 0, 0, 2,      /* 1→2 */
-    0, 11, 0, 2, 0, 3, 0, 0, 1, 1, 2, 0, 1,         /* 2→3 */
-};
+/* Charts A and B of document 01, read from charts/a.chart and charts/b.chart; charts/a.txt and charts/b.txt draw them. */
+static uint8_t A[103], B[53];
 
 /* B as version 2, with constants of four bytes, and with a long dwell time: 1→2 tests 0 at least 65537, starts 1. */
 static const uint8_t DWELL[] = {
@@ -124,7 +107,44 @@ static void play_counter(const uint8_t *file, size_t length, const uint32_t *cou
         printf("location %" PRIu64 " accepting %" PRIu64 "\n", p.location, p.accepting);
 }
 
-int main(void) {
+/* The most tests of a chart that `lists` reads. */
+enum { TESTS = 4 };
+
+/* Reads a chart file into lists, of which the constants have this room, and writes the chart of these lists again, in that version. */
+static void lists(const uint8_t *file, size_t length, size_t room, uint8_t version) {
+    uint16_t accepting[2], sources[4], targets[4];
+    uint8_t events[4], test_counts[4], timers[TESTS], codes[TESTS], out[64];
+    uint64_t starts[4];
+    uint32_t constants[TESTS] = {UNTOUCHED, UNTOUCHED, UNTOUCHED, UNTOUCHED};
+    chart_reading r = chart_read(file, length, accepting, LENGTH(accepting), sources, LENGTH(sources), targets, LENGTH(targets), events,
+                                 LENGTH(events), starts, LENGTH(starts), test_counts, LENGTH(test_counts), timers, TESTS, codes, TESTS, constants,
+                                 room);
+    if (r.number != CHART_NO_REFUSAL)
+        printf("refused %" PRIu64 " %" PRIu64 "\n", r.number, r.place);
+    else
+        printf("version %" PRIu64 " locations %" PRIu64 " initial %" PRIu64 " timers %" PRIu64 " accepting %" PRIu64 " transitions %" PRIu64 "\n",
+               r.version, r.locations, r.initial, r.timers, r.accepting, r.transitions);
+    printf("constants");
+    for (size_t i = 0; i < TESTS; i++)
+        printf(" %" PRIu32, constants[i]);
+    printf("\n");
+    if (r.number != CHART_NO_REFUSAL)
+        return;
+    chart_writing w = chart_write(version, (uint16_t)r.locations, (uint16_t)r.initial, (uint8_t)r.timers, (uint16_t)r.accepting,
+                                  (uint16_t)r.transitions, accepting, LENGTH(accepting), sources, LENGTH(sources), targets, LENGTH(targets), events,
+                                  LENGTH(events), starts, LENGTH(starts), test_counts, LENGTH(test_counts), timers, TESTS, codes, TESTS, constants,
+                                  TESTS, out, sizeof out);
+    if (w.number != CHART_NO_REFUSAL)
+        printf("refused %" PRIu64 " %" PRIu64 "\n", w.number, w.place);
+    else
+        printf("length %" PRIu64 " %s\n", w.length, w.length == length && memcmp(out, file, length) == 0 ? "the same file" : "another file");
+}
+
+int main(int argc, char **argv) {
+    const char *folder = folder_of_charts(argc, argv);
+    read_chart(folder, "a.chart", A, sizeof A);
+    read_chart(folder, "b.chart", B, sizeof B);
+
     analyse(A, sizeof A, 8);
     analyse(B, sizeof B, 8);
     analyse(B, sizeof B, 3);
@@ -186,5 +206,13 @@ int main(void) {
     play(TWINS, sizeof TWINS, counts, 2, transitions, second_late, LENGTH(second_late));
     play(board, length, counts, 1, transitions, both, LENGTH(both));
     play(board, length, counts, 1, transitions, second_late, LENGTH(second_late));
+
+    /* B with too little room, B as it is, B as version 2, the long dwell as it is, and as version 1, which has no such constant */
+    printf("lists\n");
+    lists(B, sizeof B, 1, 1);
+    lists(B, sizeof B, TESTS, 1);
+    lists(B, sizeof B, TESTS, 2);
+    lists(DWELL, sizeof DWELL, TESTS, 2);
+    lists(DWELL, sizeof DWELL, TESTS, 1);
     return 0;
 }

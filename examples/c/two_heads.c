@@ -1,21 +1,15 @@
 /* Drives two heads with chart B of document 01 on a board of four timers, two for each, and prints each answer and, where the call is not refused,
- * the state that it leaves. A program in C and in C++ alike. */
+ * the state that it leaves. It is called with the folder of the chart files. A program in C and in C++ alike. */
 #include <inttypes.h>
 #include <stdio.h>
 #include <string.h>
 
 #include "chart.h"
+#include "chart_file.h"
 
-/* B, 4 locations, 2 timers: 0→1 starts 0; 1→2 tests 0 at most 2, starts 1; 2→3 tests 1 at least 1; all at event 0. The bytes of charts/b.chart,
- * once for each head. */
-#define B \
-    1, 0, 0, 0, 48,                            /* version, length of the rest */ \
-    0, 4, 0, 0, 2, 0, 1, 0, 3, 0, 3,           /* locations, initial, timers, accepting: 3; transitions */ \
-    0, 8, 0, 0, 0, 1, 0, 1, 0, 0,              /* 0→1 */ \
-    0, 12, 0, 1, 0, 2, 0, 1, 1, 1, 0, 0, 0, 2, /* 1→2 */ \
-    0, 11, 0, 2, 0, 3, 0, 0, 1, 1, 2, 0, 1     /* 2→3 */
-static const uint8_t FILES[] = {B, B};
-enum { LENGTH = sizeof FILES / 2 };
+/* Chart B of document 01, whose transitions are all at event 0, once for each head; read from charts/b.chart, which charts/b.txt draws. */
+enum { LENGTH = 53 };
+static uint8_t FILES[2 * LENGTH];
 
 /* The starting counts of head 0 and of head 1. */
 static const uint32_t COUNTS[] = {7, 7, 0, 0};
@@ -83,7 +77,11 @@ static void turn(chart_controller *state, chart_heads heads) {
     show(state);
 }
 
-int main(void) {
+int main(int argc, char **argv) {
+    const char *folder = folder_of_charts(argc, argv);
+    read_chart(folder, "b.chart", FILES, LENGTH);
+    memcpy(FILES + LENGTH, FILES, LENGTH);
+
     chart_controller state;
     memset(&state, 170, sizeof state);
 

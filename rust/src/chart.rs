@@ -40,6 +40,17 @@ impl Comparison {
         }
     }
 
+    /// The comparison in document 01's words.
+    pub const fn words(self) -> &'static str {
+        match self {
+            Comparison::AtMost => "at most",
+            Comparison::Below => "below",
+            Comparison::AtLeast => "at least",
+            Comparison::Above => "above",
+            Comparison::Equal => "equal",
+        }
+    }
+
     /// Whether `count` compares so with `constant`.
     #[inline]
     pub fn met(self, count: u32, constant: u32) -> bool {

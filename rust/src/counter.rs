@@ -27,9 +27,9 @@ pub fn play_counter(
     judge_counts(&chart, counts)?;
     judge_lengths(transitions, readings)?;
     judge_constants(&chart)?;
-    let mut board = CounterBoard { position: Position::new(&chart, counts), last: first };
+    let mut board = CounterBoard::new(&chart, counts, first);
     each_step(transitions, readings, |transition, reading| board.step(transition, reading))?;
-    Ok(CounterPlaying { location: board.position.location(), accepting: board.position.accepts() })
+    Ok(board.playing())
 }
 
 /// Judges the constants of all tests (18): none over [`COUNTER_LARGEST_CONSTANT`].
@@ -42,22 +42,38 @@ fn judge_constants(chart: &Chart) -> Answer<()> {
 }
 
 /// A chart being played by the counter board.
-struct CounterBoard<'a> {
+pub(crate) struct CounterBoard<'a> {
     /// Its counts go on beyond [`COUNTER_LARGEST_COUNT`], which no test can tell: there is no constant that large. They
     /// are cut to it where the ticks have come to more than [`MOST_TICKS`], which are then counted from 0 again; so
     /// neither ever exceeds 32 bits.
-    position: Position<'a>,
+    pub(crate) position: Position<'a>,
     /// The reading at the last step, before the first step that at tick 0.
     last: u16,
 }
 
-impl CounterBoard<'_> {
+impl<'a> CounterBoard<'a> {
+    /// The initial location at the reading `first`, with one starting count for each timer.
+    pub(crate) fn new(chart: &'a Chart, counts: &[u32], first: u16) -> Self {
+        CounterBoard { position: Position::new(chart, counts), last: first }
+    }
+
+    /// The ticks from the last step to a reading.
+    #[inline]
+    pub(crate) fn passed(&self, reading: u16) -> u16 {
+        reading.wrapping_sub(self.last)
+    }
+
+    /// What the counter board answers if the step list ends here.
+    pub(crate) fn playing(&self) -> CounterPlaying {
+        CounterPlaying { location: self.position.location(), accepting: self.position.accepts() }
+    }
+
     /// Takes one step, or returns the number of its refusal and changes nothing.
     #[inline]
-    fn step(&mut self, transition: u32, reading: u16) -> Result<(), u64> {
+    pub(crate) fn step(&mut self, transition: u32, reading: u16) -> Result<(), u64> {
         let transition = self.position.named(transition)?;
         self.position.judge_source(transition)?;
-        let passed = reading.wrapping_sub(self.last);
+        let passed = self.passed(reading);
         self.position.take(transition, self.position.tick + u32::from(passed))?;
         if self.position.tick > MOST_TICKS {
             self.position.count_from_0(COUNTER_LARGEST_COUNT);

@@ -1,5 +1,7 @@
 //! Drawings: charts as plain data, put into files without being judged, so that files which must be refused can be made
-//! too. For tests and measurements.
+//! too. For tests and measurements, and for charts that the command hands to the writer.
+
+use crate::chart::{Chart, Test, Transition};
 
 /// A chart as drawn. Nothing is known of its numbers.
 #[derive(Clone, Debug, PartialEq, Eq)]
@@ -145,6 +147,27 @@ impl Drawing {
     }
 }
 
+impl From<&Chart> for Drawing {
+    fn from(chart: &Chart) -> Self {
+        let numbers = |test: &Test| (test.timer, test.comparison as u8, test.constant);
+        let arrow = |transition: &Transition| Arrow {
+            source: transition.source.into(),
+            target: transition.target.into(),
+            event: transition.event,
+            starts: transition.starts.into_iter().collect(),
+            tests: chart.tests(transition).iter().map(numbers).collect(),
+        };
+        Drawing {
+            version: chart.version() as u8,
+            locations: chart.locations(),
+            initial: chart.initial().into(),
+            timers: chart.timers(),
+            accepting: chart.accepting().iter().map(u16::from).collect(),
+            transitions: chart.transitions().iter().map(arrow).collect(),
+        }
+    }
+}
+
 /// A file of that version with this body.
 pub fn enclosed(version: u8, body: &[u8]) -> Vec<u8> {
     let mut file = vec![version];
@@ -153,49 +176,39 @@ pub fn enclosed(version: u8, body: &[u8]) -> Vec<u8> {
     file
 }
 
+/// The drawing of a chart file of the repository, which the reader must accept.
+fn drawn(file: &[u8]) -> Drawing {
+    Drawing::from(&Chart::read(file).expect("a chart file of charts/ is read"))
+}
+
 /// Chart A of document 01: used 3, floor 3 (document 02, P1), at most 2 timers live at once.
 pub fn chart_a() -> Drawing {
-    Drawing::new(
-        7,
-        3,
-        vec![
-            Arrow::new(0, 1).starts(&[0]),
-            Arrow::new(1, 2).starts(&[1]),
-            Arrow::new(2, 3).tests(0, AT_LEAST, 3).starts(&[2]),
-            Arrow::new(2, 4).tests(1, AT_MOST, 7).starts(&[2]),
-            Arrow::new(3, 5).tests(1, BELOW, 9),
-            Arrow::new(4, 5).tests(0, EQUAL, 4),
-            Arrow::new(5, 6).tests(2, ABOVE, 2),
-        ],
-    )
+    drawn(include_bytes!("../../charts/a.chart"))
 }
 
 /// Chart B of document 01: its second transition tests board timer 0 and starts it.
 pub fn chart_b() -> Drawing {
-    Drawing::new(
-        4,
-        2,
-        vec![
-            Arrow::new(0, 1).starts(&[0]),
-            Arrow::new(1, 2).tests(0, AT_MOST, 2).starts(&[1]),
-            Arrow::new(2, 3).tests(1, AT_LEAST, 1),
-        ],
-    )
+    drawn(include_bytes!("../../charts/b.chart"))
 }
 
 /// Chart C of document 01: drawn timer 0 gets two board numbers.
 pub fn chart_c() -> Drawing {
-    Drawing::new(
-        6,
-        2,
-        vec![
-            Arrow::new(0, 1).starts(&[1]),
-            Arrow::new(1, 2).starts(&[0]),
-            Arrow::new(2, 3).tests(0, AT_LEAST, 1),
-            Arrow::new(3, 4).tests(1, AT_MOST, 9).starts(&[0]),
-            Arrow::new(4, 5).tests(0, AT_LEAST, 2),
-        ],
-    )
+    drawn(include_bytes!("../../charts/c.chart"))
+}
+
+/// The chart of one location and nothing else, 14 bytes; no location accepts.
+pub fn one_location() -> Drawing {
+    drawn(include_bytes!("../../charts/one_location.chart"))
+}
+
+/// One location with a transition to itself that starts timer 0, no tests: used 0.
+pub fn self_loop() -> Drawing {
+    drawn(include_bytes!("../../charts/self_loop.chart"))
+}
+
+/// Two locations, 0→0 starts 0; 0→1 tests 0 at least 0: refused 10, place 1.
+pub fn never_started() -> Drawing {
+    drawn(include_bytes!("../../charts/never_started.chart"))
 }
 
 /// Three locations, version 2: 0→1 starts 0; 1→2 tests 0, by that code and constant.
@@ -282,21 +295,6 @@ pub fn looped_chain(locations: u16) -> Drawing {
     let mut transitions = row(locations);
     transitions.push(Arrow::new(locations - 1, locations - 1).tests(0, AT_LEAST, 1));
     Drawing::new(locations, 1, transitions)
-}
-
-/// The chart of one location and nothing else, 14 bytes; no location accepts.
-pub fn one_location() -> Drawing {
-    Drawing { locations: 1, ..Drawing::default() }
-}
-
-/// One location with a transition to itself that starts timer 0, no tests: used 0.
-pub fn self_loop() -> Drawing {
-    Drawing::new(1, 1, vec![Arrow::new(0, 0).starts(&[0])])
-}
-
-/// Two locations, 0→0 starts 0; 0→1 tests 0 at least 0: refused 10, place 1.
-pub fn never_started() -> Drawing {
-    Drawing::new(2, 1, vec![Arrow::new(0, 0).starts(&[0]), Arrow::new(0, 1).tests(0, AT_LEAST, 0)])
 }
 
 /// Of the traps of document 01: timer 0 tested and started anew on 1→2, so that families 64 and 128 are apart.

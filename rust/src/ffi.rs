@@ -45,6 +45,27 @@ pub struct ChartCounterPlaying {
 
 #[repr(C)]
 #[derive(Clone, Copy, Debug)]
+pub struct ChartReading {
+    pub number: u64,
+    pub place: u64,
+    pub version: u64,
+    pub locations: u64,
+    pub initial: u64,
+    pub timers: u64,
+    pub accepting: u64,
+    pub transitions: u64,
+}
+
+#[repr(C)]
+#[derive(Clone, Copy, Debug)]
+pub struct ChartWriting {
+    pub number: u64,
+    pub place: u64,
+    pub length: u64,
+}
+
+#[repr(C)]
+#[derive(Clone, Copy, Debug)]
 pub struct ChartCalled {
     pub number: u64,
     pub place: u64,
@@ -95,6 +116,58 @@ unsafe extern "C" {
         readings: *const u16,
         readings_length: usize,
     ) -> ChartCounterPlaying;
+
+    pub fn chart_read(
+        file: *const u8,
+        file_length: usize,
+        accepting: *mut u16,
+        accepting_length: usize,
+        sources: *mut u16,
+        sources_length: usize,
+        targets: *mut u16,
+        targets_length: usize,
+        events: *mut u8,
+        events_length: usize,
+        starts: *mut u64,
+        starts_length: usize,
+        test_counts: *mut u8,
+        test_counts_length: usize,
+        timers: *mut u8,
+        timers_length: usize,
+        codes: *mut u8,
+        codes_length: usize,
+        constants: *mut u32,
+        constants_length: usize,
+    ) -> ChartReading;
+
+    pub fn chart_write(
+        version: u8,
+        locations: u16,
+        initial: u16,
+        timer_count: u8,
+        accepting_count: u16,
+        transition_count: u16,
+        accepting: *const u16,
+        accepting_length: usize,
+        sources: *const u16,
+        sources_length: usize,
+        targets: *const u16,
+        targets_length: usize,
+        events: *const u8,
+        events_length: usize,
+        starts: *const u64,
+        starts_length: usize,
+        test_counts: *const u8,
+        test_counts_length: usize,
+        timers: *const u8,
+        timers_length: usize,
+        codes: *const u8,
+        codes_length: usize,
+        constants: *const u32,
+        constants_length: usize,
+        out: *mut u8,
+        out_length: usize,
+    ) -> ChartWriting;
 
     pub fn chart_controller_set_up(
         state: *mut State,

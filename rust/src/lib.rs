@@ -11,6 +11,7 @@
 //! - [`twins`]: timers that are always started together, which count as one before families are formed;
 //! - [`floor`]: the fewest timers of any plan, or the fullest live set with twins counted once;
 //! - [`rewriting`]: the chart's file for a board of K timers;
+//! - [`derivation`]: why the live timers, the families and the board numbers are what they are;
 //! - [`player`]: a step list, played on a file;
 //! - [`counter`]: the same on readings of a counter, for a board without timers;
 //! - [`controller`]: one to eight heads, driven by events and turns;
@@ -19,9 +20,17 @@
 //!
 //! Every entry point takes bytes and answers with a result or one [`Refusal`]; on a refusal lent memory is untouched.
 //!
-//! With the feature `library`, `library` calls the proved library with the same signatures. [`drawing`],
-//! [`generator`] and [`heads`] make files and controllers for tests and measurements; [`trials`] and [`tally`] compare
-//! implementations and count what came.
+//! Beside the answers there is what explains them:
+//!
+//! - [`reasons`]: why a call is refused, in one sentence with the numbers in it;
+//! - [`diagnosis`]: which field of a file fails, for these sentences;
+//! - [`traces`]: the player and the counter board step by step, with all counts, and what is wrong with a refused step;
+//! - [`paths`]: shortest paths of transitions, and which locations paths reach.
+//!
+//! With the feature `library`, `library` calls the proved library with the same signatures, and `answers` answers the
+//! command's requests by both, compared. [`drawing`], [`generator`], [`kinds`] and [`heads`] make files and controllers
+//! for tests and measurements; [`trials`], [`list_trials`] and [`tally`] compare implementations and count what came;
+//! [`json`] reads and writes the lines of cases and of the command.
 
 #![deny(unsafe_code)]
 
@@ -29,22 +38,32 @@ pub mod analysis;
 pub mod chart;
 pub mod controller;
 pub mod counter;
+pub mod derivation;
+pub mod diagnosis;
 pub mod drawing;
 pub mod floor;
 pub mod generator;
 pub mod heads;
+pub mod json;
+pub mod kinds;
 pub mod limits;
+pub mod list_trials;
 pub mod listing;
 pub mod lists;
+pub mod paths;
 pub mod player;
+pub mod reasons;
 mod refusal;
 pub mod rewriting;
 pub mod sets;
 pub mod tally;
+pub mod traces;
 pub mod trials;
 pub mod twins;
 pub mod version;
 
+#[cfg(feature = "library")]
+pub mod answers;
 #[cfg(feature = "library")]
 mod ffi;
 #[cfg(feature = "library")]

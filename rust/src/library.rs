@@ -9,6 +9,7 @@ use crate::analysis::Analysis;
 use crate::controller::{Board, Parts, Report, SetUp, Start, State, Turn};
 use crate::counter::CounterPlaying;
 use crate::ffi;
+use crate::lists::{Header, LentLists, Lists};
 use crate::player::Playing;
 use crate::refusal::{Answer, Refusal};
 use crate::rewriting::Rewriting;
@@ -80,6 +81,87 @@ pub fn play_counter(
     };
     let ffi::ChartCounterPlaying { number, place, location, accepting } = answered;
     answer(number, place, CounterPlaying { location, accepting: accepting != 0 })
+}
+
+/// [`crate::lists::read`] by the proved library.
+pub fn read(file: &[u8], lent: &mut LentLists) -> Answer<Header> {
+    // SAFETY: all slices are valid for their lengths during the call, and the lists are lent to it alone.
+    let answered = unsafe {
+        ffi::chart_read(
+            file.as_ptr(),
+            file.len(),
+            lent.accepting.as_mut_ptr(),
+            lent.accepting.len(),
+            lent.sources.as_mut_ptr(),
+            lent.sources.len(),
+            lent.targets.as_mut_ptr(),
+            lent.targets.len(),
+            lent.events.as_mut_ptr(),
+            lent.events.len(),
+            lent.starts.as_mut_ptr(),
+            lent.starts.len(),
+            lent.test_counts.as_mut_ptr(),
+            lent.test_counts.len(),
+            lent.timers.as_mut_ptr(),
+            lent.timers.len(),
+            lent.codes.as_mut_ptr(),
+            lent.codes.len(),
+            lent.constants.as_mut_ptr(),
+            lent.constants.len(),
+        )
+    };
+    let ffi::ChartReading { number, place, version, locations, initial, timers, accepting, transitions } = answered;
+    let header = Header {
+        version: fitting(version),
+        locations: fitting(locations),
+        initial: fitting(initial),
+        timers: fitting(timers),
+        accepting: fitting(accepting),
+        transitions: fitting(transitions),
+    };
+    answer(number, place, header)
+}
+
+/// A number of a chart's header or the length of its file, in the type that it fits.
+fn fitting<T: TryFrom<u64>>(number: u64) -> T {
+    T::try_from(number).unwrap_or_else(|_| panic!("no chart has this: {number}"))
+}
+
+/// [`crate::lists::write`] by the proved library.
+pub fn write(header: &Header, lists: &Lists, out: &mut [u8]) -> Answer<usize> {
+    // SAFETY: all slices are valid for their lengths during the call, and `out` is lent to it alone.
+    let answered = unsafe {
+        ffi::chart_write(
+            header.version,
+            header.locations,
+            header.initial,
+            header.timers,
+            header.accepting,
+            header.transitions,
+            lists.accepting.as_ptr(),
+            lists.accepting.len(),
+            lists.sources.as_ptr(),
+            lists.sources.len(),
+            lists.targets.as_ptr(),
+            lists.targets.len(),
+            lists.events.as_ptr(),
+            lists.events.len(),
+            lists.starts.as_ptr(),
+            lists.starts.len(),
+            lists.test_counts.as_ptr(),
+            lists.test_counts.len(),
+            lists.timers.as_ptr(),
+            lists.timers.len(),
+            lists.codes.as_ptr(),
+            lists.codes.len(),
+            lists.constants.as_ptr(),
+            lists.constants.len(),
+            out.as_mut_ptr(),
+            out.len(),
+        )
+    };
+    let ffi::ChartWriting { number, place, length } = answered;
+    answer(number, place, fitting(length))
 }
 
 /// [`crate::controller::set_up`] by the proved library.
@@ -198,6 +280,79 @@ mod tests {
         assert_eq!(play(65_530, &[65_535, 2]), [24, 1, 0, 0]);
         assert_eq!(play(65_530, &[65_535]), [13, 65_535, 0, 0]);
         assert_eq!(play(65_530, &[65_535, 1]), [0, 0, 2, 0]);
+    }
+
+    #[test]
+    fn the_figures_of_a_refused_reading_or_writing_are_0() {
+        use std::ptr::{null, null_mut};
+        let file = chart_a().file();
+        for (length, refused) in [(file.len(), 21), (4, 1)] {
+            // SAFETY: the file is valid for its length during the call, and the lent lists have no entries.
+            let answered = unsafe {
+                ffi::chart_read(
+                    file.as_ptr(),
+                    length,
+                    null_mut(),
+                    0,
+                    null_mut(),
+                    0,
+                    null_mut(),
+                    0,
+                    null_mut(),
+                    0,
+                    null_mut(),
+                    0,
+                    null_mut(),
+                    0,
+                    null_mut(),
+                    0,
+                    null_mut(),
+                    0,
+                    null_mut(),
+                    0,
+                )
+            };
+            let ffi::ChartReading { number, place, version, locations, initial, timers, accepting, transitions } =
+                answered;
+            assert_eq!([number, place], [refused, 65_535]);
+            assert_eq!([version, locations, initial, timers, accepting, transitions], [0; 6]);
+        }
+        // One location, and the lists of its accepting locations, its transitions and the buffer are empty.
+        for (version, accepting, refused) in [(0, 0, 2), (1, 1, 3), (1, 0, 21)] {
+            // SAFETY: the lists and the buffer have no entries.
+            let answered = unsafe {
+                ffi::chart_write(
+                    version,
+                    1,
+                    0,
+                    0,
+                    accepting,
+                    0,
+                    null(),
+                    0,
+                    null(),
+                    0,
+                    null(),
+                    0,
+                    null(),
+                    0,
+                    null(),
+                    0,
+                    null(),
+                    0,
+                    null(),
+                    0,
+                    null(),
+                    0,
+                    null(),
+                    0,
+                    null_mut(),
+                    0,
+                )
+            };
+            let ffi::ChartWriting { number, place, length } = answered;
+            assert_eq!([number, place, length], [refused, 65_535, 0]);
+        }
     }
 
     #[test]

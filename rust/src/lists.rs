@@ -1,7 +1,7 @@
 //! The reader and the writer over lent lists, in the layout of docs/LISTS.md: a header and nine lists.
 
 use crate::chart::{limited, location, locations, timer, Chart, Comparison, Output};
-use crate::limits::{MOST_TESTS, MOST_TIMERS, MOST_TRANSITIONS, NOWHERE};
+use crate::limits::{LOCATIONS, MOST_TESTS, MOST_TIMERS, MOST_TRANSITIONS, NOWHERE, TRANSITIONS};
 use crate::refusal::{Answer, Refusal};
 use crate::sets::TimerSet;
 use crate::version::Version;
@@ -48,6 +48,68 @@ pub struct LentLists<'a> {
     pub timers: &'a mut [u8],
     pub codes: &'a mut [u8],
     pub constants: &'a mut [u32],
+}
+
+/// The nine lists of a chart, with memory of their own.
+#[derive(Clone, Debug, Default, PartialEq, Eq)]
+pub struct OwnedLists {
+    pub accepting: Vec<u16>,
+    pub sources: Vec<u16>,
+    pub targets: Vec<u16>,
+    pub events: Vec<u8>,
+    pub starts: Vec<u64>,
+    pub test_counts: Vec<u8>,
+    pub timers: Vec<u8>,
+    pub codes: Vec<u8>,
+    pub constants: Vec<u32>,
+}
+
+impl OwnedLists {
+    /// Lists with room for every chart, all entries this number.
+    pub fn room(entry: u8) -> OwnedLists {
+        let tests = usize::from(MOST_TESTS) * TRANSITIONS;
+        OwnedLists {
+            accepting: vec![entry.into(); LOCATIONS],
+            sources: vec![entry.into(); TRANSITIONS],
+            targets: vec![entry.into(); TRANSITIONS],
+            events: vec![entry; TRANSITIONS],
+            starts: vec![entry.into(); TRANSITIONS],
+            test_counts: vec![entry; TRANSITIONS],
+            timers: vec![entry; tests],
+            codes: vec![entry; tests],
+            constants: vec![entry.into(); tests],
+        }
+    }
+
+    /// The lists, lent to a reader.
+    pub fn lent(&mut self) -> LentLists<'_> {
+        LentLists {
+            accepting: &mut self.accepting,
+            sources: &mut self.sources,
+            targets: &mut self.targets,
+            events: &mut self.events,
+            starts: &mut self.starts,
+            test_counts: &mut self.test_counts,
+            timers: &mut self.timers,
+            codes: &mut self.codes,
+            constants: &mut self.constants,
+        }
+    }
+
+    /// The lists, for a writer.
+    pub fn lists(&self) -> Lists<'_> {
+        Lists {
+            accepting: &self.accepting,
+            sources: &self.sources,
+            targets: &self.targets,
+            events: &self.events,
+            starts: &self.starts,
+            test_counts: &self.test_counts,
+            timers: &self.timers,
+            codes: &self.codes,
+            constants: &self.constants,
+        }
+    }
 }
 
 /// Reads a chart file into lent lists. Judges 1 to 8, then 21.

@@ -21,12 +21,12 @@ pub fn play(file: &[u8], counts: &[u32], transitions: &[u32], times: &[u64]) -> 
     judge_lengths(transitions, times)?;
     let mut position = Position::new(&chart, counts);
     each_step(transitions, times, |transition, time| step(&mut position, transition, time))?;
-    Ok(Playing { location: position.location(), time: u64::from(position.tick), accepting: position.accepts() })
+    Ok(position.playing())
 }
 
 /// Takes one step, or returns the number of its refusal and changes nothing.
 #[inline]
-fn step(position: &mut Position, transition: u32, time: u64) -> Result<(), u64> {
+pub(crate) fn step(position: &mut Position, transition: u32, time: u64) -> Result<(), u64> {
     let transition = position.named(transition)?;
     if time > u64::from(MOST_TICKS) {
         return Err(15);
@@ -135,6 +135,17 @@ impl<'a> Position<'a> {
             *zero = count.wrapping_neg();
         }
         self.tick = 0;
+    }
+
+    /// The counts of the chart's timers at a tick that is not before the present one.
+    pub(crate) fn counts_at(&self, tick: u32) -> Vec<u32> {
+        let zero = &self.zero[..usize::from(self.chart.timers())];
+        zero.iter().map(|&zero| tick.wrapping_sub(zero)).collect()
+    }
+
+    /// What the player answers if the step list ends here.
+    pub(crate) fn playing(&self) -> Playing {
+        Playing { location: self.location(), time: u64::from(self.tick), accepting: self.accepts() }
     }
 
     pub(crate) fn location(&self) -> u64 {

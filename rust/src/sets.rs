@@ -161,6 +161,11 @@ impl LocationSet {
         self.0.iter().zip(&other.0).any(|(word, other)| word & other != 0)
     }
 
+    /// The locations that are in both sets.
+    pub fn common(&self, other: &LocationSet) -> LocationSet {
+        LocationSet(std::array::from_fn(|word| self.0[word] & other.0[word]))
+    }
+
     /// The lowest location that is in the set and not in `other`.
     pub fn lowest_beyond(&self, other: &LocationSet) -> Option<u8> {
         (0..WORDS).find_map(|word| {
@@ -218,6 +223,7 @@ mod tests {
         assert_eq!(LocationSet::below(256).count(), 256);
         assert_eq!(LocationSet::below(65).iter().last(), Some(64));
         assert!(set.meets(&LocationSet::below(1)) && !set.meets(&LocationSet::EMPTY));
+        assert_eq!(set.common(&LocationSet::below(64)).iter().collect::<Vec<_>>(), [0, 63]);
         assert_eq!(LocationSet::below(256).lowest_beyond(&set), Some(1));
         assert_eq!(set.lowest_beyond(&LocationSet::below(256)), None);
         assert_eq!([set.take_lowest(), set.take_lowest()], [Some(0), Some(63)]);

@@ -5,13 +5,12 @@
 //! No case is void: every number of a case fits the type of the call that it is handed to. A block has 64 bits here, and
 //! no case has a longer one.
 
-use std::collections::BTreeMap;
-
 use timing_chart::analysis::{self, Analysis};
 use timing_chart::chart::Chart;
 use timing_chart::controller::{self, Board, Head, Parts, Report, SetUp, Start, State, Turn};
 use timing_chart::counter::{self, CounterPlaying};
 use timing_chart::drawing::{Arrow, Drawing};
+use timing_chart::json::Json;
 use timing_chart::limits::{LARGEST_FILE, LOCATIONS};
 use timing_chart::listing::listing;
 use timing_chart::lists::{self, Header, Lists};
@@ -76,7 +75,7 @@ impl Superseded {
                 // The file as tests draw it, which is not done by the writer.
                 let file = drawing_of(case).file();
                 assert_eq!(file.len(), length);
-                case.clone().without("refused").with("answer", hex(&file))
+                case.clone().without("refused").with("answer", Json::of_bytes(&file))
             }
             Now::NoRoom => {
                 was_wrong_version(case);
@@ -119,17 +118,12 @@ fn with_figures(case: &Json, used: u64, floor: u64, searched: bool) -> Json {
             let answer = rewriting::rewrite(&case.bytes("file"), case.number("k") as u32, &mut out);
             let length = answer.expect("the chart fits the board").length as usize;
             let answer = case.get("answer").expect("a result").clone();
-            answer.with("used", Json::Number(used)).with("file", hex(&out[..length]))
+            answer.with("used", Json::Number(used)).with("file", Json::of_bytes(&out[..length]))
         }
         call => panic!("no figures of {call}"),
     };
     assert_ne!(Some(&now), case.get("answer"));
     case.clone().with("answer", now)
-}
-
-/// Bytes as a case gives them.
-fn hex(bytes: &[u8]) -> Json {
-    Json::Text(bytes.iter().map(|byte| format!("{byte:02x}")).collect())
 }
 
 /// The locations of the program's text with the timers that are listed there, without their board numbers.
@@ -138,141 +132,16 @@ fn listed(text: &str) -> Vec<Vec<&str>> {
     text.lines().skip(1).map(|line| line.split(' ').map(timer).collect()).collect()
 }
 
-/// JSON as the cases have it: whole numbers, and texts with no escape but `\n`.
-#[derive(Clone, Debug, PartialEq)]
-enum Json {
-    Null,
-    Bool(bool),
-    Number(u64),
-    Text(String),
-    List(Vec<Json>),
-    Object(BTreeMap<String, Json>),
-}
-
-/// What is left to be read of a line without blanks between its parts.
-struct Reader<'a>(&'a str);
-
-impl Reader<'_> {
-    /// Whether the rest begins so; then that is read.
-    fn takes(&mut self, text: &str) -> bool {
-        let rest = self.0.strip_prefix(text);
-        self.0 = rest.unwrap_or(self.0);
-        rest.is_some()
-    }
-
-    fn value(&mut self) -> Json {
-        if self.takes("{") {
-            let mut entries = BTreeMap::new();
-            self.list("}", |reader| {
-                let Json::Text(name) = reader.value() else { panic!("no name before {}", reader.0) };
-                assert!(reader.takes(":"), "no value before {}", reader.0);
-                entries.insert(name, reader.value());
-            });
-            Json::Object(entries)
-        } else if self.takes("[") {
-            let mut entries = Vec::new();
-            self.list("]", |reader| entries.push(reader.value()));
-            Json::List(entries)
-        } else if self.takes("\"") {
-            let (text, rest) = self.0.split_once('"').expect("a text ends");
-            self.0 = rest;
-            Json::Text(text.replace("\\n", "\n"))
-        } else if self.takes("null") {
-            Json::Null
-        } else if self.takes("true") {
-            Json::Bool(true)
-        } else if self.takes("false") {
-            Json::Bool(false)
-        } else {
-            let digits = self.0.find(|c: char| !c.is_ascii_digit()).unwrap_or(self.0.len());
-            let (number, rest) = self.0.split_at(digits);
-            self.0 = rest;
-            Json::Number(number.parse().unwrap_or_else(|_| panic!("no value before {rest}")))
-        }
-    }
-
-    /// Reads entries with commas between them, up to the end mark.
-    fn list(&mut self, end: &str, mut entry: impl FnMut(&mut Self)) {
-        while !self.takes(end) {
-            entry(self);
-            assert!(self.takes(",") || self.0.starts_with(end), "no end before {}", self.0);
-        }
-    }
-}
-
-impl Json {
-    fn read(line: &str) -> Json {
-        let mut reader = Reader(line);
-        let value = reader.value();
-        assert_eq!(reader.0, "");
-        value
-    }
-
-    fn get(&self, name: &str) -> Option<&Json> {
-        let Json::Object(entries) = self else { panic!("no object: {self:?}") };
-        entries.get(name)
-    }
-
-    fn number(&self, name: &str) -> u64 {
-        let Some(Json::Number(number)) = self.get(name) else { panic!("no number {name}") };
-        *number
-    }
-
-    fn is(&self, name: &str) -> bool {
-        let Some(Json::Bool(value)) = self.get(name) else { panic!("no truth value {name}") };
-        *value
-    }
-
-    fn text(&self, name: &str) -> &str {
-        let Some(Json::Text(text)) = self.get(name) else { panic!("no text {name}") };
-        text
-    }
-
-    fn bytes(&self, name: &str) -> Vec<u8> {
-        self.get(name).expect(name).as_bytes()
-    }
-
-    /// The bytes that a text gives in hex.
-    fn as_bytes(&self) -> Vec<u8> {
-        let Json::Text(hex) = self else { panic!("no text: {self:?}") };
-        let byte = |at: usize| u8::from_str_radix(&hex[at..at + 2], 16).expect("a byte in hex");
-        (0..hex.len()).step_by(2).map(byte).collect()
-    }
-
-    fn list(&self, name: &str) -> &[Json] {
-        let Some(Json::List(entries)) = self.get(name) else { panic!("no list {name}") };
-        entries
-    }
-
-    fn numbers<T: TryFrom<u64>>(&self, name: &str) -> Vec<T> {
-        self.get(name).expect(name).as_numbers()
-    }
-
-    /// The entries of a list of numbers.
-    fn as_numbers<T: TryFrom<u64>>(&self) -> Vec<T> {
-        let Json::List(entries) = self else { panic!("no list: {self:?}") };
-        let number = |entry: &Json| match entry {
-            Json::Number(number) => T::try_from(*number).ok(),
-            _ => None,
-        };
-        entries.iter().map(|entry| number(entry).expect("a number of the call's type")).collect()
-    }
-
-    /// The object with another value under a name.
-    fn with(mut self, name: &str, value: Json) -> Json {
-        let Json::Object(entries) = &mut self else { panic!("no object: {self:?}") };
-        entries.insert(name.to_string(), value);
-        self
-    }
-
-    /// The object with no value under a name.
-    fn without(mut self, name: &str) -> Json {
-        let Json::Object(entries) = &mut self else { panic!("no object: {self:?}") };
-        entries.remove(name);
-        self
-    }
-
+/// What a case expects.
+trait Case {
     /// The number of rounds that a case of the analysis expects; none in the cases from before it was asked for.
+    fn rounds(&self) -> Option<u64>;
+
+    /// The answer that a case expects: a refusal, or what is made of its answer.
+    fn expected<T>(&self, answer: impl FnOnce(&Json) -> T) -> Answer<T>;
+}
+
+impl Case for Json {
     fn rounds(&self) -> Option<u64> {
         match self.get("answer") {
             Some(answer @ Json::Object(entries)) if entries.contains_key("rounds") => Some(answer.number("rounds")),
@@ -280,7 +149,6 @@ impl Json {
         }
     }
 
-    /// The answer that a case expects: a refusal, or what is made of its answer.
     fn expected<T>(&self, answer: impl FnOnce(&Json) -> T) -> Answer<T> {
         match self.get("refused") {
             Some(_) => {
@@ -310,9 +178,7 @@ struct Calls {
     event: Receive,
     turn: TakeTurn,
     print: fn(&[u8]) -> String,
-    /// The proved library offers no writer to its callers; the crate `vectors` of the repository runs these cases on the
-    /// proved writer.
-    write: Option<Write>,
+    write: Write,
 }
 
 impl Calls {
@@ -327,11 +193,7 @@ impl Calls {
             "turn" => {
                 self.check_turn(case, case, state_of(case, case.get("state").expect("a state")));
             }
-            "write" => {
-                if let Some(write) = self.write {
-                    check_write(write, case);
-                }
-            }
+            "write" => check_write(self.write, case),
             call => panic!("no such call: {call}"),
         }
     }
@@ -581,14 +443,14 @@ fn this_crate_answers_so() {
     let (analyse, rewrite, play, write) = (analysis::analyse, rewriting::rewrite, player::play, lists::write);
     let play_counter = counter::play_counter;
     let (set_up, event, turn) = (controller::set_up, controller::event, controller::turn);
-    Calls { analyse, rewrite, play, play_counter, set_up, event, turn, print: listing, write: Some(write) }.check_all();
+    Calls { analyse, rewrite, play, play_counter, set_up, event, turn, print: listing, write }.check_all();
 }
 
 #[cfg(feature = "library")]
 #[test]
 fn the_proved_library_and_the_program_answer_so() {
-    use timing_chart::library::{analyse, event, play, play_counter, rewrite, set_up, turn};
-    let (print, write) = (print_by_program, None);
+    use timing_chart::library::{analyse, event, play, play_counter, rewrite, set_up, turn, write};
+    let print = print_by_program;
     Calls { analyse, rewrite, play, play_counter, set_up, event, turn, print, write }.check_all();
 }
 

@@ -12,11 +12,10 @@ use timing_chart::drawing::{
 };
 use timing_chart::generator::*;
 use timing_chart::limits::{
-    LARGEST_CONSTANT_VERSION_1, LARGEST_FILE, LOCATIONS, MOST_LOCATIONS, MOST_SEARCHED, MOST_TESTS, MOST_TICKS,
-    TRANSITIONS,
+    LARGEST_CONSTANT_VERSION_1, LARGEST_FILE, LOCATIONS, MOST_LOCATIONS, MOST_SEARCHED, MOST_TICKS,
 };
 use timing_chart::listing::listing;
-use timing_chart::lists::{self, Header, LentLists, Lists};
+use timing_chart::lists::{self, Header, LentLists, Lists, OwnedLists};
 use timing_chart::player::{play, Playing};
 use timing_chart::rewriting::{rewrite, Rewriting};
 use timing_chart::tally::{number_of, ByNumber};
@@ -1097,73 +1096,13 @@ fn files_survive_reading_and_writing() {
     assert!(relabelled_too > 50, "{relabelled_too}");
 }
 
-/// The most tests of all transitions together.
-const TESTS: usize = TRANSITIONS * MOST_TESTS as usize;
-
-/// Nine lists of full length.
-struct Owned {
-    accepting: Vec<u16>,
-    sources: Vec<u16>,
-    targets: Vec<u16>,
-    events: Vec<u8>,
-    starts: Vec<u64>,
-    test_counts: Vec<u8>,
-    timers: Vec<u8>,
-    codes: Vec<u8>,
-    constants: Vec<u32>,
-}
-
-impl Owned {
-    fn new() -> Self {
-        Owned {
-            accepting: vec![9; LOCATIONS],
-            sources: vec![9; TRANSITIONS],
-            targets: vec![9; TRANSITIONS],
-            events: vec![9; TRANSITIONS],
-            starts: vec![9; TRANSITIONS],
-            test_counts: vec![9; TRANSITIONS],
-            timers: vec![9; TESTS],
-            codes: vec![9; TESTS],
-            constants: vec![9; TESTS],
-        }
-    }
-
-    fn lent(&mut self) -> LentLists<'_> {
-        LentLists {
-            accepting: &mut self.accepting,
-            sources: &mut self.sources,
-            targets: &mut self.targets,
-            events: &mut self.events,
-            starts: &mut self.starts,
-            test_counts: &mut self.test_counts,
-            timers: &mut self.timers,
-            codes: &mut self.codes,
-            constants: &mut self.constants,
-        }
-    }
-
-    fn lists(&self) -> Lists<'_> {
-        Lists {
-            accepting: &self.accepting,
-            sources: &self.sources,
-            targets: &self.targets,
-            events: &self.events,
-            starts: &self.starts,
-            test_counts: &self.test_counts,
-            timers: &self.timers,
-            codes: &self.codes,
-            constants: &self.constants,
-        }
-    }
-}
-
 #[test]
 fn charts_survive_lists() {
     let mut random = Random::new(5);
     for _ in 0..500 {
         let shape = Shape::random(&mut random, 40);
         let file = accepted(&mut random, &shape).file();
-        let mut owned = Owned::new();
+        let mut owned = OwnedLists::room(9);
         let header = lists::read(&file, &mut owned.lent()).unwrap();
         let mut out = vec![7; file.len() + 1];
         assert_eq!(lists::write(&header, &owned.lists(), &mut out[1..]), Ok(file.len()));
@@ -1178,7 +1117,7 @@ fn charts_survive_lists() {
 
 /// The file as the writer writes it in a version, from the lists that the reader filled.
 fn stored(file: &[u8], version: u8) -> Answer<Vec<u8>> {
-    let mut owned = Owned::new();
+    let mut owned = OwnedLists::room(9);
     let header = lists::read(file, &mut owned.lent()).unwrap();
     assert_eq!(header.version, file[0]);
     let mut out = vec![7; LARGEST_FILE];
@@ -1250,7 +1189,7 @@ fn all_versions_of_a_chart_answer_alike() {
 #[test]
 fn lists_are_judged_in_the_order_of_the_fields() {
     let file = chart_b().file();
-    let mut owned = Owned::new();
+    let mut owned = OwnedLists::room(9);
     let header = lists::read(&file, &mut owned.lent()).unwrap();
     assert_eq!(header, Header { version: 1, locations: 4, initial: 0, timers: 2, accepting: 1, transitions: 3 });
     assert_eq!(owned.test_counts[..4], [0, 1, 1, 9]);
@@ -1308,7 +1247,7 @@ fn lists_are_judged_in_the_order_of_the_fields() {
 #[test]
 fn lent_lists_too_short_are_21_and_stay_as_they_were() {
     let file = chart_b().file();
-    let mut owned = Owned::new();
+    let mut owned = OwnedLists::room(9);
     type Shorten = fn(&mut LentLists);
     let shortened: [Shorten; 9] = [
         |lent| lent.accepting = &mut [],

@@ -793,18 +793,19 @@ fn long_dwell_times_are_played() {
     assert_eq!(played(AT_LEAST, 16_777_216, [0, 16_777_216]), refused(15, 1));
 }
 
+/// What is drawn of a chart file of the repository is the whole chart: it makes the same file again.
 #[test]
 fn the_chart_files_of_the_repository() {
-    for (name, drawing) in [
-        ("a", chart_a()),
-        ("b", chart_b()),
-        ("c", chart_c()),
-        ("one_location", one_location()),
-        ("self_loop", self_loop()),
-        ("never_started", never_started()),
-    ] {
-        let path = format!("{}/../charts/{name}.chart", env!("CARGO_MANIFEST_DIR"));
-        assert_eq!(std::fs::read(&path).unwrap(), drawing.file(), "{path}");
+    let files: [(&[u8], Drawing); 6] = [
+        (include_bytes!("../../charts/a.chart"), chart_a()),
+        (include_bytes!("../../charts/b.chart"), chart_b()),
+        (include_bytes!("../../charts/c.chart"), chart_c()),
+        (include_bytes!("../../charts/one_location.chart"), one_location()),
+        (include_bytes!("../../charts/self_loop.chart"), self_loop()),
+        (include_bytes!("../../charts/never_started.chart"), never_started()),
+    ];
+    for (file, drawing) in files {
+        assert_eq!(drawing.file(), file, "{drawing:?}");
     }
 }
 

@@ -87,10 +87,10 @@ fn between(text: &str, first: &str, second: &str) -> Vec<String> {
     text.split(first).skip(1).map(|rest| rest.split(second).next().unwrap().trim().to_string()).collect()
 }
 
-/// All white space as one space, none after an opening bracket; no comma before a closing one.
+/// All white space as one space, none after an opening bracket; no comma before a closing one; no lifetimes.
 fn plain(text: &str) -> String {
     let words: Vec<&str> = text.split_whitespace().collect();
-    words.join(" ").replace("( ", "(").replace(", )", ")")
+    words.join(" ").replace("( ", "(").replace(", )", ")").replace("<'a>", "").replace("'a ", "")
 }
 
 /// A field or parameter of the library, `NAME: TYPE`, in C and in Rust: a slice is a pointer and a length.

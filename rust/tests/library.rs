@@ -10,7 +10,8 @@ use timing_chart::drawing::{
     chain, chart_a, chart_a_continued, chart_b, dwell, looped_chain, lowest_untested, never_started, over_floor,
     self_loop, spare_beside_twins, spare_unstarted, two_twins, Arrow, Drawing, AT_LEAST, AT_MOST,
 };
-use timing_chart::library::{analyse, play, play_counter, rewrite, Controller};
+use timing_chart::library::{analyse, play, play_counter, read, rewrite, write, Controller};
+use timing_chart::lists::{Header, LentLists, Lists};
 use timing_chart::player::Playing;
 use timing_chart::rewriting::Rewriting;
 use timing_chart::{Refusal, NOWHERE};
@@ -187,6 +188,62 @@ fn version_3() {
     assert_eq!(analyse(&version_2, &mut live), Err(Refusal { number: 9, place: 4 }));
     // Tests on no path are not unstarted.
     assert_eq!(rewrite(&spare_unstarted().file(), 0, &mut out), Ok(Rewriting { used: 0, length: 34 }));
+}
+
+#[test]
+fn reader_and_writer() {
+    let file = chart_b().file();
+    let header = Header { version: 1, locations: 4, initial: 0, timers: 2, accepting: 1, transitions: 3 };
+    let no_room = Refusal { number: 21, place: NOWHERE };
+    let (mut accepting, mut sources, mut targets) = ([77; 2], [77; 4], [77; 4]);
+    let (mut events, mut starts, mut test_counts) = ([77; 4], [77; 4], [77; 4]);
+    let (mut timers, mut codes, mut constants) = ([77; 3], [77; 3], [77; 3]);
+    let mut read_with = |file: &[u8], tests: usize| {
+        let mut lent = LentLists {
+            accepting: &mut accepting,
+            sources: &mut sources,
+            targets: &mut targets,
+            events: &mut events,
+            starts: &mut starts,
+            test_counts: &mut test_counts,
+            timers: &mut timers,
+            codes: &mut codes[..tests],
+            constants: &mut constants,
+        };
+        let answer = read(file, &mut lent);
+        (answer, lent.accepting[0], lent.constants[0])
+    };
+    assert_eq!(read_with(&file, 1), (Err(no_room), 77, 77));
+    assert_eq!(read_with(&file[..52], 3), (Err(Refusal { number: 1, place: NOWHERE }), 77, 77));
+    assert_eq!(read_with(&file, 3), (Ok(header), 3, 2));
+    assert_eq!((accepting, sources, targets), ([3, 77], [0, 1, 2, 77], [1, 2, 3, 77]));
+    assert_eq!((events, starts, test_counts), ([0, 0, 0, 77], [1, 2, 0, 77], [0, 1, 1, 77]));
+    assert_eq!((timers, codes, constants), ([0, 1, 77], [0, 2, 77], [2, 1, 77]));
+
+    let mut out = [0xAA; 60];
+    let mut write_with = |header: Header, constants: &[u32], room: usize| {
+        let lists = Lists {
+            accepting: &accepting,
+            sources: &sources,
+            targets: &targets,
+            events: &events,
+            starts: &starts,
+            test_counts: &test_counts,
+            timers: &timers,
+            codes: &codes,
+            constants,
+        };
+        (write(&header, &lists, &mut out[..room]), out)
+    };
+    let refused = |number, place| (Err(Refusal { number, place }), [0xAA; 60]);
+    assert_eq!(write_with(header, &constants, 52), refused(21, NOWHERE));
+    assert_eq!(write_with(header, &[2], 60), refused(3, NOWHERE));
+    assert_eq!(write_with(header, &[65_536, 1], 60), refused(17, NOWHERE));
+    assert_eq!(write_with(Header { version: 4, ..header }, &constants, 60), refused(2, NOWHERE));
+    assert_eq!(write_with(Header { timers: 1, ..header }, &constants, 60), refused(6, 1));
+    assert_eq!(write_with(Header { locations: 3, ..header }, &constants, 60), refused(5, NOWHERE));
+    let (answer, out) = write_with(header, &constants, 60);
+    assert_eq!((answer, &out[..53], &out[53..]), (Ok(53), file.as_slice(), &[0xAA; 7][..]));
 }
 
 #[test]

@@ -18,6 +18,9 @@ ghost use Rattle.controller_model.specs.Controlling.{
 };
 ghost use Rattle.controller_answers.specs.Answered.{calledOf, turnedOf};
 ghost use Rattle.exports.specs.Exported.{analysisOf, rewritingOf, playingOf, counterPlayingOf};
+
+mod files;
+
 use analysis::Analysis;
 use controller_answers::chart_called;
 use controller_answers::chart_turned;

@@ -1,10 +1,10 @@
-//! Compares the proved library and the program `allocate` with this crate, on random files, limits, lent memory, step
-//! lists and controllers from a seed.
+//! Compares the proved library and the program `allocate` with this crate, on random files, limits, lent memory, charts in
+//! lists, step lists and controllers from a seed.
 //!
 //! usage: differential [TRIALS] [SEED] [--without-program]
 //!
 //! Exit status 0 if all agree and every refusal number, every kind of floor, of twins, of spare locations, of number of
-//! rounds, of version and constant, of step on the counter board and of what a controller meets came; 1 at the first difference, or where a
+//! rounds, of version and constant, of step on the counter board, of lists and of what a controller meets came; 1 at the first difference, or where a
 //! controller or the counter board breaks a promise or gives a refusal that its call does not have, with the input in
 //! hex; 2 if one that should come never did, or the program is missing. What no call can answer, such as a transition
 //! that is taken with no event served, ends it by a panic. A thousand trials bring all.
@@ -19,12 +19,14 @@ use timing_chart::chart::{Chart, Comparison, Test, Transition};
 use timing_chart::counter::{self, CounterPlaying};
 use timing_chart::drawing::*;
 use timing_chart::generator::*;
+use timing_chart::kinds::{of_kind, treated, Treatment, KINDS};
 use timing_chart::limits::{
     COUNTER_LARGEST_CONSTANT, COUNTER_LARGEST_COUNT, COUNTER_READINGS, LARGEST_CONSTANT_VERSION_1, LOCATIONS,
-    MOST_INPUT, MOST_LOCATIONS, MOST_SEARCHED, MOST_STARTS, MOST_TESTS, MOST_TICKS, MOST_TIMERS, MOST_TRANSITIONS,
-    NOWHERE, TIMERS,
+    MOST_INPUT, MOST_SEARCHED, MOST_TICKS, MOST_TIMERS, NOWHERE, TIMERS,
 };
+use timing_chart::list_trials;
 use timing_chart::listing::listing;
+use timing_chart::paths::reached;
 use timing_chart::player::{self, Playing};
 use timing_chart::rewriting::{self, Rewriting};
 use timing_chart::sets::{LocationSet, TimerSet};
@@ -34,10 +36,10 @@ use timing_chart::twins::Twins;
 use timing_chart::version::Version;
 use timing_chart::{library, Answer, Refusal};
 
-/// The numbers that calls of the library on one chart bring, each of which must come; [`Trials`] has the controller's.
-/// 17 is not among them: it is the writer's, which may be handed a chart of version 1 with a constant over 65,535. The
-/// library's calls read their chart from a file, and in a file of version 1 a constant has two bytes; so none of them
-/// can meet it.
+/// The numbers that calls of the library on a chart file bring, each of which must come; [`Trials`] has the controller's,
+/// [`list_trials`] those of the reader and the writer.
+/// 17 is not among them: it is the writer's, which may be handed a chart of version 1 with a constant over 65,535. In a
+/// file of version 1 a constant has two bytes, so that no other call can meet it.
 const EXPECTED: [usize; 21] = [1, 2, 3, 4, 5, 6, 7, 8, 9, 10, 11, 12, 13, 14, 15, 18, 20, 21, 22, 23, 24];
 
 /// The refusals of the counter board: all of these must come from it, and no others.
@@ -333,15 +335,7 @@ fn spare_of(chart: &Chart) -> Option<LocationSet> {
     if chart.version() != Version::Three {
         return None;
     }
-    let mut reached = LocationSet::EMPTY;
-    reached.add(chart.initial());
-    loop {
-        let before = reached;
-        chart.transitions_from(&before).for_each(|transition| reached.add(transition.target));
-        if reached == before {
-            break;
-        }
-    }
+    let reached = reached(chart);
     let mut spare = LocationSet::EMPTY;
     let all = LocationSet::below(chart.locations());
     all.iter().filter(|&location| !reached.has(location)).for_each(|location| spare.add(location));
@@ -606,6 +600,7 @@ fn differ(what: &str, file: &[u8], with: &dyn Debug, library: &dyn Debug, rust: 
 struct ChartTrials {
     random: Random,
     tally: Tally,
+    lists: list_trials::Trials,
     program: Option<PathBuf>,
 }
 
@@ -782,6 +777,10 @@ impl ChartTrials {
 
     /// All calls on one file, with step lists made for `drawing` where the file is that drawing's.
     fn all_calls(&mut self, file: &[u8], drawing: Option<&Drawing>, most_steps: usize) {
+        if let Err(wrong) = self.lists.run(file) {
+            println!("difference in {wrong}");
+            exit(1);
+        }
         let chart = Chart::read(file);
         let locations = chart.as_ref().map_or(4, |chart| usize::from(chart.locations()));
         let room = self.random.below(locations as u64) as usize;
@@ -853,119 +852,15 @@ impl ChartTrials {
     /// One trial: a file of some kind, and all calls on it.
     fn run(&mut self, index: u64) {
         let random = &mut self.random;
-        let kind = random.below(100);
+        let kind = random.below(KINDS);
         let most_steps = if kind.is_multiple_of(10) { 2_000 } else { 25 };
-        let mut drawing = match kind {
-            0..=58 => {
-                let most = random.pick(&[4, 8, 8, 16, 40]);
-                let shape = Shape::random(random, most);
-                accepted(random, &shape)
-            }
-            59 => {
-                let charts: [fn() -> Drawing; 5] =
-                    [spare_beside_twins, spare_cycle, spare_unstarted, spare_row, spare_first];
-                random.pick(&charts)()
-            }
-            60..=69 => {
-                let few = random.between(0, 14);
-                let about = random.between(15, 25);
-                let families = random.pick(&[few, about, about, about, 20, 20, 21]) as usize;
-                random_meetings(random, families)
-            }
-            70..=79 => random.pick(&[
-                chart_a as fn() -> Drawing,
-                chart_b,
-                chart_c,
-                one_location,
-                self_loop,
-                never_started,
-                started_anew,
-                over_floor,
-                two_twins,
-                twins_around,
-                lowest_untested,
-                twins_on_two_ways,
-                || chart_a_continued(17),
-                || chart_a_continued(18),
-                || lone_families(20),
-                || lone_families(21),
-                || looped_chain(MOST_LOCATIONS),
-                || looped_chain(MOST_LOCATIONS).last_to_first(),
-                || three_tests(COUNTER_LARGEST_CONSTANT),
-                || three_tests(COUNTER_LARGEST_CONSTANT + 1),
-            ])(),
-            80..=85 => {
-                let shape = Shape::random(random, MOST_LOCATIONS);
-                accepted(random, &shape)
-            }
-            86 => accepted(random, &Shape::LARGEST),
-            87 if random.chance(1, 2) => {
-                let version = random.pick(&Version::ALL);
-                longest(random, version)
-            }
-            87 if random.chance(1, 8) => largest_spare(random),
-            87 => {
-                let starts = random.pick(&[(1, 1), (10, 40), (40, MOST_STARTS)]);
-                accepted(random, &Shape { cycle: true, starting: 90, starts, ..Shape::LARGEST })
-            }
-            88..=91 => {
-                let locations = random.between(12, 40) as u16;
-                let starting = random.between(90, 100);
-                accepted(random, &Shape { locations, starting, ..Shape::SMALL_FAMILIES })
-            }
-            92..=95 => {
-                let levels = random.between(3, 17);
-                let most = (u64::from(MOST_TESTS) * (levels - 2)).min(u64::from(MOST_TIMERS) / 2);
-                many_numbers(levels as u16, random.between(1, most) as u8)
-            }
-            96..=97 => random_chain(random),
-            _ => sixty_five_numbers(random.between(1, u64::from(MOST_TIMERS) - 1) as u8),
-        };
-        match random.below(8) {
-            0 if drawing.transitions.len() + 6 <= usize::from(MOST_TRANSITIONS) => drawing = drawing.told_apart(),
-            // Where loops alone tell timers apart, there are twins without them.
-            1 => drawing.transitions.retain(|transition| transition.source != transition.target),
-            2 => add_twins(random, &mut drawing),
-            _ => {}
-        }
-        if random.chance(1, 5) {
-            // Mostly of version 3, which allows them.
-            drawing.version = if random.chance(1, 6) { drawing.version } else { Version::Three as u8 };
-            add_spare(random, &mut drawing);
-        }
-        let has_room = drawing.timers > 0 && drawing.transitions.len() < usize::from(MOST_TRANSITIONS);
-        if has_room && random.chance(1, 15) {
-            // At the initial location every timer is unstarted.
-            drawing.transitions.push(Arrow::new(drawing.initial, drawing.initial).tests(0, AT_LEAST, 0));
-        }
-        if random.chance(1, 4) {
-            let whole = random.pick(&[1, 4, 20]);
-            store_large(random, &mut drawing, whole);
-        } else if random.chance(1, 4) {
-            let whole = random.pick(&[1, 4, 20]);
-            store_about_counter(random, &mut drawing, whole);
-        }
-        if !drawing.transitions.is_empty() && random.chance(1, 4) {
-            // One transition is changed: often 9 or 10 then applies, or the families are others.
-            let transition = random.below(drawing.transitions.len() as u64) as usize;
-            let transition = &mut drawing.transitions[transition];
-            match random.below(5) {
-                0 => transition.target = transition.source,
-                1 => std::mem::swap(&mut transition.source, &mut transition.target),
-                2 => transition.starts.clear(),
-                3 if drawing.timers > 0 => {
-                    transition.tests.truncate(usize::from(MOST_TESTS) - 1);
-                    transition.tests.push((random.below(u64::from(drawing.timers)) as u8, AT_LEAST, 0));
-                }
-                _ => transition.starts = (0..drawing.timers).collect(),
-            }
-        }
+        let drawing = of_kind(random, kind);
         let good = drawing.file();
         self.tally.largest = self.tally.largest.max(good.len() as u64);
-        match random.below(11) {
-            0..=5 => self.all_calls(&good, Some(&drawing), most_steps),
-            6 => {
-                let file = relabelled(random, &good);
+        let (treatment, file) = treated(random, &drawing);
+        match treatment {
+            Treatment::Whole => self.all_calls(&good, Some(&drawing), most_steps),
+            Treatment::Relabelled => {
                 let count = match (good[0], file[0]) {
                     (2, 3) | (3, 2) => &mut self.tally.versions.two_or_three,
                     _ => &mut self.tally.versions.relabelled,
@@ -973,19 +868,7 @@ impl ChartTrials {
                 *count += u64::from(Chart::read(&file).is_ok());
                 self.all_calls(&file, None, 0);
             }
-            7 | 8 => {
-                let file = spoilt(random, &drawing);
-                self.all_calls(&file, None, 0);
-            }
-            9 => {
-                let file = damaged(random, &good);
-                self.all_calls(&file, None, 0);
-            }
-            _ => {
-                let worse = spoilt(random, &drawing);
-                let file = damaged(random, &worse);
-                self.all_calls(&file, None, 0);
-            }
+            Treatment::Spoilt => self.all_calls(&file, None, 0),
         }
         if index.is_multiple_of(20) {
             let random = &mut self.random;
@@ -1085,7 +968,8 @@ fn main() {
         exit(2);
     }
     let program = (!without).then_some(program);
-    let mut charts = ChartTrials { random: Random::new(seed), tally: Tally::default(), program };
+    let lists = list_trials::Trials::new(seed, [list_trials::Calls::PROVED, list_trials::Calls::RUST]);
+    let mut charts = ChartTrials { random: Random::new(seed), tally: Tally::default(), lists, program };
     let mut controllers = Trials::new(seed, [Calls::PROVED, Calls::RUST]);
     charts.input_lengths();
     for index in 0..trials {
@@ -1110,6 +994,7 @@ fn main() {
     println!("{}", tally.live_rounds);
     println!("{}", tally.versions);
     println!("{}", tally.counter_kinds);
+    println!("{}", charts.lists.tally);
     println!("{}", controllers.tally);
     println!("texts with floor: {}, with seen: {}", tally.printed_floor, tally.printed_seen);
     println!("how often each answer came (0: a result)");
@@ -1120,6 +1005,8 @@ fn main() {
         ("player", playings),
         ("counter", counter_playings),
         ("program", listings),
+        ("reader", &charts.lists.tally.readings),
+        ("writer", &charts.lists.tally.writings),
         ("set-up", &controllers.tally.set_ups),
         ("event", &controllers.tally.events),
         ("turn", &controllers.tally.turns),
@@ -1142,13 +1029,14 @@ fn main() {
     let kinds_came = figures_came && versions.all_came() && counter_kinds.all_came();
     let of_counter: Vec<usize> =
         OF_COUNTER_BOARD.into_iter().chain([0]).filter(|&number| counter_playings[number] == 0).collect();
-    let of_controllers = controllers.tally.missing();
+    let (of_controllers, of_lists) = (controllers.tally.missing(), charts.lists.tally.missing());
     // Without the program no text of it comes.
     let spare_missing: Vec<&str> =
         spare.missing().filter(|name| charts.program.is_some() || *name != OF_TEXT).collect();
-    let numbers_came = missing.is_empty() && of_counter.is_empty() && of_controllers.is_empty();
+    let numbers_came = missing.is_empty() && of_counter.is_empty() && of_controllers.is_empty() && of_lists.is_empty();
     if !(numbers_came && spare_missing.is_empty() && kinds_came && words_came) {
         println!("never came with a controller: {of_controllers:?}; with the counter board: {of_counter:?}");
+        println!("never came with lists: {of_lists:?}");
         print!("never came: {missing:?}, or one of: {floors}; or one of: {twins}; or one of: {live_rounds}; ");
         println!("or one of: {versions}; or one of: {counter_kinds}; or a word of the program");
         println!("never came with spare locations: {spare_missing:?}");
