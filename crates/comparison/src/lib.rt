@@ -1,4 +1,6 @@
 // The five comparisons of a count with a constant, and their codes.
+#![tactic(auto)]
+
 ghost use Rattle.std.specs.Prelude.{◌≡◌};
 ghost use Rattle.comparison.specs.Comparison.{met, comparison_of, code_of};
 ghost use Rattle.comparison.specs.Order.{Order};

@@ -1,4 +1,5 @@
 // A controller of several heads: its state, and what is handed in beside the files. What the calls make of them stands in specs/.
+#![tactic(auto)]
 
 // The most heads that a controller drives.
 pub const MOST_HEADS: usize = 8;

@@ -1,4 +1,5 @@
 // A refusal as every call gives it (document 01, "Turned down .."): its number and its place.
+#![tactic(auto)]
 
 // The place of a refusal that has no other.
 pub const NOWHERE: u64 = 65535;

@@ -11,6 +11,7 @@
 //   'b'  how many steps of transition 0 at the reading at tick 0 come first, that reading; a file, counts, transitions and readings to play
 //   'h'  K, the number of heads, the lengths of eight files, of eight blocks and of eight lists of counts; the files, the counts, calls, a state
 // All lent memory is filled with bytes 170 before a call.
+#![tactic(auto)]
 mod calls;
 mod charts;
 mod heads;
