@@ -31,7 +31,7 @@ const HELD_NUMBERS: u16 = HELD_WORDS * 64;
 const HELD_LENGTH: usize = chart_lists::MOST_LOCATIONS * HELD_WORDS as usize;
 
 // How many numbers are used, and how many families there are.
-#[derive(Drop)]
+#[derive(Clone, Copy)]
 pub struct Allocated {
     pub used: u32,
     pub families: u32,

@@ -9,7 +9,7 @@ use numbering::FileNumbered;
 use refusal::Refusal;
 
 // Used, floor, whether the floor is the smallest number of timers of any plan, and the number of rounds; or a refusal.
-#[derive(Drop)]
+#[derive(Clone, Copy)]
 pub enum Analysis {
     Found {
         used: u32,

@@ -6,7 +6,7 @@ ghost use Rattle.chart_lists.specs.Large.{large_among};
 use refusal::Refusal;
 
 // The version of its file, the numbers of locations, of timers, of accepting locations and of transitions, and the initial location.
-#[derive(Drop)]
+#[derive(Clone, Copy)]
 pub struct Header {
     pub version: u8,
     pub locations: u16,
@@ -17,7 +17,7 @@ pub struct Header {
 }
 
 // What reading a file gives: the chart's header, its lists being filled, or a refusal.
-#[derive(Drop)]
+#[derive(Clone, Copy)]
 pub enum Read {
     Chart(Header),
     Refused(Refusal),

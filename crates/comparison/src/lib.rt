@@ -6,7 +6,7 @@ ghost use Rattle.comparison.specs.Comparison.{met, comparison_of, code_of};
 ghost use Rattle.comparison.specs.Order.{Order};
 ghost use Rattle.comparison.specs.Decoding.{decoded_of};
 
-#[derive(Drop)]
+#[derive(Clone, Copy)]
 pub enum Comparison {
     AtMost,
     Below,
@@ -15,7 +15,7 @@ pub enum Comparison {
     Equal,
 }
 
-#[derive(Drop)]
+#[derive(Clone, Copy)]
 pub enum Decoded {
     Known(Comparison),
     Unknown,

@@ -40,7 +40,7 @@ pub mod start;
 pub mod state;
 
 // What a turn reports of the head whose turn it was: nothing waited; its event was served and no transition taken; or one was; or a refusal.
-#[derive(Drop)]
+#[derive(Clone, Copy)]
 pub enum Report {
     Nothing { head: u64 },
     NoneTaken { head: u64 },
@@ -49,14 +49,14 @@ pub enum Report {
 }
 
 // What set-up or an event comes to: the state that it leaves, and whether it was refused.
-#[derive(Drop)]
+#[derive(Clone, Copy)]
 pub struct Called {
     pub state: Controller,
     pub verdict: Judged,
 }
 
 // What a turn comes to: the state that it leaves, and its report.
-#[derive(Drop)]
+#[derive(Clone, Copy)]
 pub struct Turned {
     pub state: Controller,
     pub report: Report,

@@ -22,7 +22,7 @@ use player::Judged;
 
 // A refusal's number and place, or 0 and 0.
 #[repr(C)]
-#[derive(Drop)]
+#[derive(Clone, Copy)]
 pub struct chart_called {
     pub number: u64,
     pub place: u64,
@@ -31,7 +31,7 @@ pub struct chart_called {
 // A refusal's number and place, or 0 and 0 with the head whose turn it was; served is 1 where an event waited at it, taken 1 where a transition was
 // taken, else each is 0; transition is its number, 0 where none was taken.
 #[repr(C)]
-#[derive(Drop)]
+#[derive(Clone, Copy)]
 pub struct chart_turned {
     pub number: u64,
     pub place: u64,
@@ -42,14 +42,14 @@ pub struct chart_turned {
 }
 
 // What set-up or an event comes to: the state that it leaves, and the answer.
-#[derive(Drop)]
+#[derive(Clone, Copy)]
 pub struct CallOutcome {
     pub state: Controller,
     pub answer: chart_called,
 }
 
 // What a turn comes to: the state that it leaves, and the answer.
-#[derive(Drop)]
+#[derive(Clone, Copy)]
 pub struct TurnOutcome {
     pub state: Controller,
     pub answer: chart_turned,

@@ -6,7 +6,7 @@ pub const MOST_HEADS: usize = 8;
 
 // Where a head stands and at what time. If waiting is 0 no event waits at it; else the event that waits, and its time.
 #[repr(C)]
-#[derive(Drop)]
+#[derive(Clone, Copy)]
 pub struct Head {
     pub location: u64,
     pub time: u64,
@@ -17,7 +17,7 @@ pub struct Head {
 
 // Whose turn it is, the heads, and the counts of all timers of the board.
 #[repr(C)]
-#[derive(Drop)]
+#[derive(Clone, Copy)]
 pub struct Controller {
     pub turn: u64,
     pub heads: [Head; MOST_HEADS],
@@ -26,7 +26,7 @@ pub struct Controller {
 
 // How many heads there are, and of each the length of its file and the length of its block of timers.
 #[repr(C)]
-#[derive(Drop)]
+#[derive(Clone, Copy)]
 pub struct Heads {
     pub number: u64,
     pub lengths: [u64; MOST_HEADS],
@@ -35,7 +35,7 @@ pub struct Heads {
 
 // Of a list that holds a part for each head, one after another: the length of each part.
 #[repr(C)]
-#[derive(Drop)]
+#[derive(Clone, Copy)]
 pub struct Parts {
     pub lengths: [u64; MOST_HEADS],
 }

@@ -24,7 +24,7 @@ pub mod counts;
 pub mod stepping;
 
 // Where the steps end, or a refusal.
-#[derive(Drop)]
+#[derive(Clone, Copy)]
 pub enum CounterPlayed {
     Arrived { location: u16, accepting: bool },
     Refused(Refusal),

@@ -13,7 +13,7 @@ use steps::counts::started;
 use steps::tests::enabled;
 
 // Where the board is: the location, the reading at the last step, and the counts of all 64 timers at that step.
-#[derive(Drop)]
+#[derive(Clone, Copy)]
 pub struct State {
     pub location: u16,
     pub last: u16,
@@ -21,7 +21,7 @@ pub struct State {
 }
 
 // What a step comes to: the state after it, or a refusal and the state as it was.
-#[derive(Drop)]
+#[derive(Clone, Copy)]
 pub struct Stepped {
     pub verdict: Verdict,
     pub state: State,

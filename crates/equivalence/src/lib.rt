@@ -9,14 +9,14 @@ use refusal::Refusal;
 use rewriting::Rewritten;
 
 // What the player answers on the rewritten file, or why there is none.
-#[derive(Drop)]
+#[derive(Clone, Copy)]
 pub enum Board {
     Played(Played),
     NotRewritten(Refusal),
 }
 
 // Both answers.
-#[derive(Drop)]
+#[derive(Clone, Copy)]
 pub struct Both {
     pub drawn: Played,
     pub board: Board,

@@ -14,7 +14,7 @@ use writer::Written;
 // A refusal's number and place, or 0 and 0 with the chart's header: its version, numbers of locations, timers, accepting locations and transitions,
 // and its initial location.
 #[repr(C)]
-#[derive(Drop)]
+#[derive(Clone, Copy)]
 pub struct chart_reading {
     pub number: u64,
     pub place: u64,
@@ -28,7 +28,7 @@ pub struct chart_reading {
 
 // A refusal's number and place, or 0 and 0 with the file's length.
 #[repr(C)]
-#[derive(Drop)]
+#[derive(Clone, Copy)]
 pub struct chart_writing {
     pub number: u64,
     pub place: u64,

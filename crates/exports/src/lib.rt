@@ -31,7 +31,7 @@ use rewriting::Rewritten;
 // A refusal's number and place, or 0 and 0 with used and floor; searched is 1 where floor is the smallest number of timers of any plan, else 0;
 // rounds is how many rounds find the live sets.
 #[repr(C)]
-#[derive(Drop)]
+#[derive(Clone, Copy)]
 pub struct chart_analysis {
     pub number: u64,
     pub place: u64,
@@ -43,7 +43,7 @@ pub struct chart_analysis {
 
 // A refusal's number and place, or 0 and 0 with the timers used and the new file's length.
 #[repr(C)]
-#[derive(Drop)]
+#[derive(Clone, Copy)]
 pub struct chart_rewriting {
     pub number: u64,
     pub place: u64,
@@ -53,7 +53,7 @@ pub struct chart_rewriting {
 
 // A refusal's number and place, or 0 and 0 with where and when the steps end; accepting is 1 or 0.
 #[repr(C)]
-#[derive(Drop)]
+#[derive(Clone, Copy)]
 pub struct chart_playing {
     pub number: u64,
     pub place: u64,
@@ -64,7 +64,7 @@ pub struct chart_playing {
 
 // A refusal's number and place, or 0 and 0 with where the steps end; accepting is 1 or 0.
 #[repr(C)]
-#[derive(Drop)]
+#[derive(Clone, Copy)]
 pub struct chart_counter_playing {
     pub number: u64,
     pub place: u64,

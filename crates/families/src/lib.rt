@@ -93,7 +93,7 @@ fn join_ends(sets: &mut [u64], one: usize, other: usize, linked: u64) -> bool
 }
 
 // What a sweep over all links leaves: whether a set grew, and an end from which on all sets are empty.
-#[derive(Drop)]
+#[derive(Clone, Copy)]
 pub struct SweepResult {
     pub grew: bool,
     pub end: usize,

@@ -11,7 +11,7 @@ ghost use Rattle.fields.specs.Meaning.{field_as, NumberAt, refusal_of};
 use refusal::Refusal;
 
 // A number or a set, as a word, with the place after it.
-#[derive(Drop)]
+#[derive(Clone, Copy)]
 pub enum Field {
     Value(u64, usize),
     Refused(Refusal),

@@ -34,7 +34,7 @@ pub fn starts_at(s: &[u8], at: usize, n: u64, timers: u8, place: u64) -> Field
 }
 
 // The first four fields of a record, length, source, target and event, with the place after them.
-#[derive(Drop)]
+#[derive(Clone, Copy)]
 pub enum EndsField {
     Found(u16, u16, u16, u8, usize),
     Refused(Refusal),
@@ -100,7 +100,7 @@ fn test_count_at(s: &[u8], at: usize, version: u8, length: u16, n: u64, place: u
 }
 
 // A record up to its tests, with their number and the place where they begin.
-#[derive(Drop)]
+#[derive(Clone, Copy)]
 pub enum HeadField {
     Found {
         source: u16,

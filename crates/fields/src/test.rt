@@ -9,7 +9,7 @@ use comparison::{Comparison, Decoded};
 use refusal::Refusal;
 
 // One test, with the place after it.
-#[derive(Drop)]
+#[derive(Clone, Copy)]
 pub enum TestField {
     Found {
         timer: u8,

@@ -11,7 +11,7 @@ use fields::Field;
 use refusal::Refusal;
 
 // The first four numbers of the body, with the place where the accepting locations begin.
-#[derive(Drop)]
+#[derive(Clone, Copy)]
 pub enum LimitsField {
     Found {
         locations: u16,
@@ -106,7 +106,7 @@ fn skip_accepting(s: &[u8], at: usize, n: u16, locations: u16) -> Field
 }
 
 // The header, with the place where the transitions begin.
-#[derive(Drop)]
+#[derive(Clone, Copy)]
 pub enum HeaderField {
     Found(Header, usize),
     Refused(Refusal),

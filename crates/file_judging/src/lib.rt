@@ -35,7 +35,7 @@ pub fn frame(s: &[u8]) -> Field
 }
 
 // The whole file, judged: its chart's header and the number of its tests.
-#[derive(Drop)]
+#[derive(Clone, Copy)]
 pub enum JudgedFile {
     Good(Header, u64),
     Refused(Refusal),

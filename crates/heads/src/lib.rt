@@ -21,7 +21,7 @@ use refusal::Refusal;
 pub mod parts;
 
 // What the heads are judged to be: passed, with their charts' headers, or a refusal.
-#[derive(Drop)]
+#[derive(Clone, Copy)]
 pub struct JudgedHeads {
     pub verdict: Judged,
     pub headers: [Header; MOST_HEADS],

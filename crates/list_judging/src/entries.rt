@@ -6,7 +6,7 @@ ghost use Rattle.list_judging.specs.Meaning.{entry_as, refusal_of};
 use refusal::Refusal;
 
 // A number that was judged, or its refusal.
-#[derive(Drop)]
+#[derive(Clone, Copy)]
 pub enum Entry {
     Value(u64),
     Refused(Refusal),

@@ -17,7 +17,7 @@ use chart_lists::Header;
 use refusal::Refusal;
 
 // A chart that was judged: the length of its file, or the refusal of its first field that fails.
-#[derive(Drop)]
+#[derive(Clone, Copy)]
 pub enum Judged {
     File(usize),
     Refused(Refusal),

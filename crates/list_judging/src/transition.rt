@@ -12,7 +12,7 @@ use refusal::Refusal;
 use timer_set::TimerSet;
 
 // A transition that was judged, or several: how many timers they start and how many tests they have; or the refusal.
-#[derive(Drop)]
+#[derive(Clone, Copy)]
 pub enum JudgedSizes {
     Found { starts: u64, tests: u64 },
     Refused(Refusal),

@@ -10,7 +10,7 @@ use smallest_plan::MOST_SEARCHED;
 use timer_set::TimerSet;
 
 // A floor, and whether it is the fewest timers of any plan.
-#[derive(Drop)]
+#[derive(Clone, Copy)]
 pub struct FloorFound {
     pub floor: u32,
     pub searched: bool,

@@ -26,7 +26,7 @@ use chart_lists::{Header, MOST_LOCATIONS, MOST_TESTS, MOST_TRANSITIONS, Read};
 use refusal::Refusal;
 
 // How many board numbers a chart uses, how many families it has, and how many rounds found its live sets.
-#[derive(Drop)]
+#[derive(Clone, Copy)]
 pub struct Numbered {
     pub used: u32,
     pub families: u32,
@@ -34,7 +34,7 @@ pub struct Numbered {
 }
 
 // Whether a board's timers are enough for a chart, or the refusal.
-#[derive(Drop)]
+#[derive(Clone, Copy)]
 pub enum Limit {
     Enough,
     Refused(Refusal),
@@ -42,7 +42,7 @@ pub enum Limit {
 
 // The chart of a file, how many board numbers it uses, its floor, whether that is the fewest timers of any plan, and how many rounds found its live
 // sets; or a refusal.
-#[derive(Drop)]
+#[derive(Clone, Copy)]
 pub enum FileNumbered {
     Chart {
         header: Header,

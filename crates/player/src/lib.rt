@@ -17,7 +17,7 @@ use refusal::Refusal;
 use steps::{Stepped, Verdict};
 
 // Where the steps end, or a refusal.
-#[derive(Drop)]
+#[derive(Clone, Copy)]
 pub enum Played {
     Arrived {
         location: u16,
@@ -28,7 +28,7 @@ pub enum Played {
 }
 
 // What a judgement comes to that brings nothing but its refusal.
-#[derive(Drop)]
+#[derive(Clone, Copy)]
 pub enum Judged {
     Passed,
     Refused(Refusal),

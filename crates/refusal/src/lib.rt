@@ -5,7 +5,7 @@
 pub const NOWHERE: u64 = 65535;
 
 // A place is 64 bits wide: a step's number is never cut.
-#[derive(Drop)]
+#[derive(Clone, Copy)]
 pub struct Refusal {
     pub number: u16,
     pub place: u64,

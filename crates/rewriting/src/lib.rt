@@ -24,7 +24,7 @@ use writer::Written;
 use writing::write_cleared;
 
 // The timers used and the length of the new file, or a refusal.
-#[derive(Drop)]
+#[derive(Clone, Copy)]
 pub enum Rewritten {
     File { used: u32, length: usize },
     Refused(Refusal),

@@ -18,7 +18,7 @@ use steps::counts::{grown, started};
 use steps::tests::{enabled, find_firsts};
 
 // The transition that was taken, or the number of transitions; whether one was; and where and with which counts the head is left.
-#[derive(Drop)]
+#[derive(Clone, Copy)]
 pub struct Served {
     pub transition: u64,
     pub taken: bool,

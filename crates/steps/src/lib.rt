@@ -20,21 +20,21 @@ pub mod counts;
 pub mod tests;
 
 // Where the player is: the location, the time of the last step, and the counts of all 64 timers at that time.
-#[derive(Drop)]
+#[derive(Clone, Copy)]
 pub struct State {
     pub location: u16,
     pub time: u64,
     pub counts: [u32; 64],
 }
 
-#[derive(Drop)]
+#[derive(Clone, Copy)]
 pub enum Verdict {
     Taken,
     Refused(Refusal),
 }
 
 // What a step comes to: the state after it, or a refusal and the state as it was.
-#[derive(Drop)]
+#[derive(Clone, Copy)]
 pub struct Stepped {
     pub verdict: Verdict,
     pub state: State,

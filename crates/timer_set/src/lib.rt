@@ -4,7 +4,7 @@ ghost use Rattle.std.specs.Prelude.{◌≡◌, ◌<◌, eqb};
 ghost use Rattle.std.specs.Int.Count.{ones};
 ghost use Rattle.timer_set.specs.Members.{member, joined, common, minus, added, removed, all_below, lowest_missing, lowest_member};
 
-#[derive(Drop)]
+#[derive(Clone, Copy)]
 pub struct TimerSet {
     pub bits: u64,
 }

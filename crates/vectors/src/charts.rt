@@ -5,7 +5,7 @@ use crate::show::*;
 use chart_lists::*;
 
 // The nine lists, each as long as the largest chart's.
-#[derive(Drop)]
+#[derive(Clone, Copy)]
 struct Lists {
     accepting: [u16; MOST_LOCATIONS],
     sources: [u16; MOST_TRANSITIONS],

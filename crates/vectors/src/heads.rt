@@ -15,7 +15,7 @@ const COUNTS: usize = 41;
 const END: usize = 105;
 
 // What is handed in at every call.
-#[derive(Drop)]
+#[derive(Clone, Copy)]
 pub struct Setting {
     k: u32,
     heads: Heads,

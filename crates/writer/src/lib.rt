@@ -18,7 +18,7 @@ use list_judging::Judged;
 use refusal::Refusal;
 
 // What writing a chart gives: the length of the file, or a refusal.
-#[derive(Drop)]
+#[derive(Clone, Copy)]
 pub enum Written {
     File(usize),
     Refused(Refusal),
