@@ -1,5 +1,6 @@
 // Reads one byte K and then a chart file from standard input, and prints the board numbers of the chart's live timers, or why it is refused.
 #![tactic(auto)]
+
 use libc::{STDIN_FILENO, STDOUT_FILENO};
 use listing::{LARGEST_INPUT, LARGEST_TEXT};
 

@@ -1,5 +1,6 @@
 // Board numbers by first fit over families, and which of the first 20 families contain each location.
 #![tactic(auto)]
+
 mod free;
 mod place;
 

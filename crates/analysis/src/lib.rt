@@ -1,6 +1,7 @@
 // The analysis of a chart file: the live set of each location and how many rounds find them, used and floor, and whether the floor is the smallest
 // number of timers of any plan.
 #![tactic(auto)]
+
 ghost use Rattle.std.specs.Prelude.{◌≡◌, ◌≤◌, length};
 ghost use Rattle.chart_lists.specs.Lists.{put, overwritten};
 ghost use Rattle.analysis.specs.Analysing.{analysed_in, analysed_sets, analyse_answer, analysis_as};

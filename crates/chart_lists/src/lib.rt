@@ -1,5 +1,6 @@
 // How a chart is handed over in lent lists (docs/LISTS.md): its header in one struct by value, the rest in nine lists.
 #![tactic(auto)]
+
 ghost use Rattle.std.specs.Prelude.{◌≡◌, ◌≤◌, length};
 ghost use Rattle.chart_lists.specs.Large.{large_among};
 

@@ -1,5 +1,6 @@
 // The calls of a controller of several heads on values: set-up, an event, a turn. Each answers with the state that it leaves.
 #![tactic(auto)]
+
 ghost use Rattle.std.specs.Prelude.{◌≡◌, true, List, ℕ, ◌≤◌, length};
 ghost use Rattle.model.specs.Answer.{returned};
 ghost use Rattle.model.specs.Chart.{Chart};

@@ -1,6 +1,7 @@
 // The answers of the controller's calls as C sees them, on values: a struct whose number is 0 where the call is not refused, beside the state that it
 // leaves. The exported calls stand in crate exports.
 #![tactic(auto)]
+
 ghost use Rattle.std.specs.Prelude.{◌≡◌};
 ghost use Rattle.player.specs.Playing.{judged_as};
 ghost use Rattle.controller_model.specs.Controlling.{

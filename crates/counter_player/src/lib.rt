@@ -1,5 +1,6 @@
 // The player of the counter board: what a list of steps comes to on a chart file, by readings of a free-running counter.
 #![tactic(auto)]
+
 ghost use Rattle.std.specs.Prelude.{◌≡◌, ◌≤◌, not, length, slice_index};
 ghost use Rattle.model.specs.Answer.{Answer, unless, nowhere, then};
 ghost use Rattle.model.specs.Chart.{Chart};

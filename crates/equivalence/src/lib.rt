@@ -1,6 +1,7 @@
 // Rewrites a chart file for a board and plays a step list on both files: demand 3 on files. The cases that document 01 marks ★, asked of the entry
 // points' definitions on files, stand in specs/OnFiles.
 #![tactic(auto)]
+
 ghost use Rattle.equivalence.specs.Both.{Claim};
 
 use file_format::LARGEST_FILE;

@@ -1,5 +1,6 @@
 // The calls as C sees them: a slice is a pointer and a length, an answer a struct by value whose number is 0 where there is a result.
 #![tactic(auto)]
+
 ghost use Rattle.std.specs.Prelude.{◌≡◌, length};
 ghost use Rattle.chart_lists.specs.Lists.{overwritten};
 ghost use Rattle.analysis.specs.Analysing.{analysed_sets, analysed_in, analyse_answer};

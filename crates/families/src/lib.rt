@@ -1,5 +1,6 @@
 // The families that begin at a location, all their timers at once: sets of timers propagate along the links.
 #![tactic(auto)]
+
 ghost use Rattle.std.specs.Prelude.{◌≡◌, ℕ, ◌+◌, ◌≤◌, ◌<◌, max, length, get_or, take, set};
 ghost use Rattle.timer_set.specs.Members.{common, minus};
 ghost use Rattle.model.specs.Family.{Pairs, WellFormed};

@@ -1,6 +1,7 @@
 // The fields of a chart file and the parts of a transition's record, each read at a place and answered by its value with the next place, or by
 // its refusal. Nothing is asked of a place: past the end of the file a field is cut, and that is 3.
 #![tactic(auto)]
+
 pub mod record;
 pub mod test;
 

@@ -1,5 +1,6 @@
 // What a chart file is stands in specs/, that reading and writing undo one another in proofs/. Here are its versions and its largest length.
 #![tactic(auto)]
+
 ghost use Rattle.std.specs.Prelude.{◌≡◌};
 ghost use Rattle.model.specs.Version.{known_version, allows_spare, width_of};
 

@@ -1,5 +1,6 @@
 // Judges a chart file, 1 to 8, and keeps nothing of it but its chart's header and the number of its tests.
 #![tactic(auto)]
+
 pub mod header;
 mod records;
 

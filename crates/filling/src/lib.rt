@@ -1,6 +1,7 @@
 // Reads a chart file into lists in one walk: every field is judged, and stored as soon as it is. A refusal ends the walk; what the lists hold then
 // is not said. A caller whose lists must stay as they were judges first (the crate `reader`).
 #![tactic(auto)]
+
 mod records;
 
 ghost use Rattle.std.specs.Prelude.{◌≡◌, ◌⊎◌, List, ℕ, ◌≤◌, length, drop};

@@ -2,6 +2,7 @@
 // ones, to the first round that changes no set. From the second round on, only edges from locations whose sets the round before has changed are gone
 // over: what the others bring, that round has brought.
 #![tactic(auto)]
+
 ghost use Rattle.std.specs.Prelude.{◌≡◌, List, ℕ, ◌+◌, ◌≤◌, ◌<◌, length, get_or, replicate};
 ghost use Rattle.lists.specs.Lists.{sum_of};
 ghost use Rattle.model.specs.Flow.{round, settled, rounds};

@@ -1,6 +1,7 @@
 // Sets of timers that go forwards along transitions, from all timers at the initial location: found by a worklist of the locations whose sets have
 // grown since their transitions were last gone over.
 #![tactic(auto)]
+
 ghost use Rattle.std.specs.Prelude.{◌≡◌, List, ℕ, length, replicate};
 ghost use Rattle.forward.specs.Forward.{SafeForward, forward_sets};
 ghost use Rattle.forward.specs.Working.{BetweenVisits};

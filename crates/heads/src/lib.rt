@@ -1,5 +1,6 @@
 // The judgement of a controller's heads: their number, their files, the board, their starting counts and their blocks of timers.
 #![tactic(auto)]
+
 ghost use Rattle.std.specs.Prelude.{◌≡◌, List, ◌≤◌, ◌<◌, length};
 ghost use Rattle.model.specs.Answer.{returned};
 ghost use Rattle.model.specs.Chart.{Chart};

@@ -1,5 +1,6 @@
 // The judgement that all calls share: reads a file into lists of the largest size and judges 1 to 10.
 #![tactic(auto)]
+
 ghost use Rattle.std.specs.Prelude.{◌≡◌, ℕ, ◌+◌, ◌≤◌, ◌<◌, length, get_or, take, drop, replicate};
 ghost use Rattle.timer_set.specs.Members.{set_of};
 ghost use Rattle.lists.specs.Lists.{lowest};

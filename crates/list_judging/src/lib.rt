@@ -1,5 +1,6 @@
 // Judges a chart that stands in lists (docs/LISTS.md), all of it: the version, then the fields in the file's order, then 17.
 #![tactic(auto)]
+
 ghost use Rattle.std.specs.Prelude.{◌≡◌, ◌&&◌, ◌+◌, ◌*◌, ◌≤◌, ◌<◌, eqb, length};
 ghost use Rattle.model.specs.Version.{width_of};
 ghost use Rattle.chart_lists.specs.Lent.{at_entry};

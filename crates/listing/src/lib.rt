@@ -1,5 +1,6 @@
 // The program's text from its whole input, in a lent buffer.
 #![tactic(auto)]
+
 ghost use Rattle.std.specs.Prelude.{◌≤◌, length};
 ghost use Rattle.listing.specs.Listing.{largest_text, accepted, answer_text, text_of};
 ghost use Rattle.listing.specs.PutBytes.{PutBytes};

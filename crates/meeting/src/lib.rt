@@ -1,5 +1,6 @@
 // Which families meet, from the families at each location, and the fewest timers of any plan that gives meeting families different numbers.
 #![tactic(auto)]
+
 ghost use Rattle.std.specs.Prelude.{◌≡◌, List, ℕ, ◌≤◌, ◌<◌};
 ghost use Rattle.timer_set.specs.Members.{member};
 ghost use Rattle.model.specs.Family.{Family};

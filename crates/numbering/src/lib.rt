@@ -1,5 +1,6 @@
 // The live sets, the board numbers and the floor of a chart, from its lists or its file, and the judgement of a board's limit.
 #![tactic(auto)]
+
 ghost use Rattle.std.specs.Prelude.{◌≡◌, ◌*◌, ◌≤◌, length};
 ghost use Rattle.model.specs.Answer.{returned};
 ghost use Rattle.model.specs.Chart.{Chart};

@@ -1,5 +1,6 @@
 // The player: what a list of steps comes to on a chart file, from given starting counts.
 #![tactic(auto)]
+
 ghost use Rattle.std.specs.Prelude.{◌≡◌, List, length};
 ghost use Rattle.lists.specs.Lists.{memb, lowest};
 ghost use Rattle.model.specs.Chart.{Chart};

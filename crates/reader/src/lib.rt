@@ -1,5 +1,6 @@
 // Reads a chart file into lent lists: judges all of it first, then the room, and only then writes, in a second walk.
 #![tactic(auto)]
+
 ghost use Rattle.std.specs.Prelude.{◌≡◌};
 ghost use Rattle.chart_lists.specs.Lent.{at_entry, at_exit};
 ghost use Rattle.chart_lists.specs.Read.{read_as};

@@ -1,5 +1,6 @@
 // Renames the timers of a chart's lists by the cells of a numbering: the number of timer j at location q stands at 64 q + j.
 #![tactic(auto)]
+
 ghost use Rattle.std.specs.Prelude.{◌≡◌, List, ◌++◌, ℕ, ◌+◌, ◌*◌, ◌≤◌, ◌<◌, length, get_or, take, drop};
 ghost use Rattle.model.specs.Chart.{Chart};
 ghost use Rattle.model.specs.Rewrite.{Numbering, rewritten_by};

@@ -1,5 +1,6 @@
 // Rewrites a chart file for a board of K timers.
 #![tactic(auto)]
+
 ghost use Rattle.std.specs.Prelude.{◌≡◌, List, ℕ, length};
 ghost use Rattle.model.specs.Answer.{returned, then};
 ghost use Rattle.model.specs.Chart.{Chart};

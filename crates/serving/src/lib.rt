@@ -1,5 +1,6 @@
 // A head serves the event that waits at it: the lowest transition that can be taken, by the lists of the head's chart, and what it leaves.
 #![tactic(auto)]
+
 ghost use Rattle.std.specs.Prelude.{◌≡◌, ℕ, ◌-◌, ◌<◌, length};
 ghost use Rattle.model.specs.Answer.{returned};
 ghost use Rattle.model.specs.Chart.{Transition, Chart, Nth};

@@ -1,6 +1,7 @@
 // The smallest number of timers in any plan that gives meeting families different numbers, by search. At most 20 families: a set of them is a
 // TimerSet, family i in the place of timer i, and row i is the set of those that family i meets.
 #![tactic(auto)]
+
 mod clique;
 
 ghost use Rattle.std.specs.Prelude.{◌≡◌, true, ℕ, ◌-◌, ◌^◌, ◌≤◌, ◌<◌, min, max, eqb, get_or};

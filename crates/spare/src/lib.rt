@@ -1,6 +1,7 @@
 // Spare locations, those that no path from the initial one reaches: the lists of the part of a chart that counts, and the lists of the chart in
 // which a transition that leaves a spare location has no tests and no starts.
 #![tactic(auto)]
+
 ghost use Rattle.std.specs.Prelude.{◌≡◌, not, ◌+◌, ◌≤◌, ◌<◌, length, get_or, set};
 ghost use Rattle.model.specs.Chart.{Chart};
 ghost use Rattle.model.specs.Live.{tested_sets, reached_sets, is_empty};

@@ -1,5 +1,6 @@
 // One step of the player on values, and a list of steps. What happens to the counts stands in `counts`, the condition of a step in `tests`.
 #![tactic(auto)]
+
 ghost use Rattle.std.specs.Prelude.{◌≡◌, length, get_or};
 ghost use Rattle.model.specs.Chart.{Chart};
 ghost use Rattle.model.specs.Run.{State as Run-as-State, attempt, steps, outcome, player_time};

@@ -1,5 +1,6 @@
 // A set of timers as one word: timer j is in the set where the binary digit at place j is 1.
 #![tactic(auto)]
+
 ghost use Rattle.std.specs.Prelude.{◌≡◌, ◌<◌, eqb};
 ghost use Rattle.std.specs.Int.Count.{ones};
 ghost use Rattle.timer_set.specs.Members.{member, joined, common, minus, added, removed, all_below, lowest_missing, lowest_member};

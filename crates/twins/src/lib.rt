@@ -1,6 +1,7 @@
 // Twins, timers of which every transition starts both or neither, count as one, the lowest of them: which it is for each timer, sets with twins so
 // counted, and the numbers of lowest twins handed to all.
 #![tactic(auto)]
+
 ghost use Rattle.std.specs.Prelude.{◌≡◌, true, map, ℕ, ◌+◌, ◌*◌, ◌≤◌, ◌<◌, eqb, length};
 ghost use Rattle.timer_set.specs.Members.{member, image};
 ghost use Rattle.model.specs.Twins.{lowest_in_same};

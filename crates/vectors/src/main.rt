@@ -12,6 +12,7 @@
 //   'h'  K, the number of heads, the lengths of eight files, of eight blocks and of eight lists of counts; the files, the counts, calls, a state
 // All lent memory is filled with bytes 170 before a call.
 #![tactic(auto)]
+
 mod calls;
 mod charts;
 mod heads;

@@ -1,5 +1,6 @@
 // The edges that leave each location, listed, and a worklist of the locations whose sets have grown while edges are gone over.
 #![tactic(auto)]
+
 ghost use Rattle.std.specs.Prelude.{◌≡◌, List, ℕ, ◌+◌, ◌≤◌, ◌<◌, length, get_or, replicate, set};
 ghost use Rattle.lists.specs.Lists.{sum_of};
 ghost use Rattle.chart_lists.specs.Limits.{most_transitions};

@@ -1,5 +1,6 @@
 // Writes a chart that stands in lists as a chart file: judges all of it first, then the room, and only then writes.
 #![tactic(auto)]
+
 ghost use Rattle.std.specs.Prelude.{◌≡◌, ◌*◌, ◌≤◌, length};
 ghost use Rattle.file_format.specs.File.{file_of};
 ghost use Rattle.chart_lists.specs.Lists.{put, overwritten};

@@ -1,0 +1,36 @@
+-- `sound_state` looks at the turn, then at one head after another.
+use mathlib.Core.Path.{◌≡◌, sym, ◌∙◌}
+use Prim.Native.Nat.{◌-◌}
+use native.Mathlib.Omega.{arith}
+use borrow.Author.Tests.{not-true, not-false}
+use Rattle.controller_model.specs.Controlling.{sound_at}
+use Rattle.controller.proofs.Every.{pass_none, pass_more}
+use Rattle.controller.proofs.SoundStates.{on_board, sound_at_lem, no_such_turn, head_unsound, all_sound}
+use Rattle.controller.proofs.state.sound_state.Goals as goal
+
+pub returns-then-state-n : goal.returns-then-state-n
+returns-then-state-n c = λ cs e are fits. no_such_turn _ cs _ (omega (arith, e, c.if-state-n.true))
+
+pub loop-h-init : goal.loop-h-init
+loop-h-init c = (omega (arith, c.requires.1, c.requires.2.few), omega arith, c.if-state-n.false, λ cs e are fits. pass_none _)
+
+pub sound_head-requires : goal.sound_head-requires
+sound_head-requires c = on_board c.requires.2 c.requires.3 c.loop-h.h (omega (arith, c.requires.1)) c.begin_of-o.ensures
+
+pub returns-then-not-sound_head : goal.returns-then-not-sound_head
+returns-then-not-sound_head c = λ cs e are fits.
+    head_unsound _ cs _ (omega (arith, e, c.loop-h.invariant.2)) c.loop-h.h (omega (arith, e)) (sym (let looked' : c.sound_head.result ≡ sound_at x.blocks cs x.t1 c.loop-h.h = sound_at_lem are fits c.loop-h.h (omega (arith, e)) c.begin_of-o.ensures c.args.t1 c.sound_head.ensures in
+    looked') ∙ not-true _ c.if-not-sound_head.true)
+
+pub loop-h-preserved : goal.loop-h-preserved
+loop-h-preserved c = (
+  c.loop-h.invariant.0,
+  omega arith,
+  c.loop-h.invariant.2,
+  λ cs e are fits. pass_more _ c.loop-h.h (sym (let looked' : c.sound_head.result ≡ sound_at x.blocks cs x.t1 c.loop-h.h = sound_at_lem are fits c.loop-h.h (omega (arith, e)) c.begin_of-o.ensures c.args.t1 c.sound_head.ensures in
+      looked') ∙ not-false _ c.if-not-sound_head.false) (c.loop-h.invariant.3 cs e are fits),
+)
+
+pub returns : goal.returns
+returns c = λ cs e are fits.
+    all_sound _ cs _ (omega (arith, e, c.loop-h.invariant.2)) c.loop-h.h (omega (arith, e)) (c.loop-h.invariant.3 cs e are fits)

@@ -1,0 +1,24 @@
+-- `play_chart` has 12 and 13 judged, then the steps decide. What is judged first is one call.
+use mathlib.Core.Path.{refl, sym, ap, ◌∙◌}
+use Rattle.chart_lists.proofs.Fronts.{timers_are}
+use Rattle.steps.proofs.Held.{holds_steps}
+use Rattle.player.specs.Playing.{judged_as, judged_to13}
+use Rattle.player.proofs.Accepting.{accepting_front, accepting_long}
+use Rattle.player.proofs.Inputs.{after_inputs_lem, allowed, one_length}
+use Rattle.player.proofs.play_chart.Goals as goal
+
+pub returns-in-Refused : goal.returns-in-Refused
+unfolding judged_to13
+returns-in-Refused c = λ ch e held. after_inputs_lem ch _ _ _ (sym (ap judged_as c.in-Refused.is) ∙ c.judge_inputs-judged.ensures ch (timers_are ch e)) _ ∙ refl
+
+pub play_steps-out-requires : goal.play_steps-out-requires
+play_steps-out-requires c = record { header_value = let e = (sym (ap judged_as c.in_default.is) ∙ c.judge_inputs-judged.ensures c.in_default.is.0 (timers_are c.in_default.is.0 c.in_default.is.1)) in (c.requires.0, c.requires.1, holds_steps c.requires.2); allowed = let e = (sym (ap judged_as c.in_default.is) ∙ c.judge_inputs-judged.ensures c.in_default.is.0 (timers_are c.in_default.is.0 c.in_default.is.1)) in allowed c.requires.0 _ _ _ e c.requires.2.valid.few_timers; times_len = let e = (sym (ap judged_as c.in_default.is) ∙ c.judge_inputs-judged.ensures c.in_default.is.0 (timers_are c.in_default.is.0 c.in_default.is.1)) in sym (one_length c.requires.0 _ _ _ e) }
+
+pub slice_bounds-arrived-end : goal.slice_bounds-arrived-end
+slice_bounds-arrived-end c = accepting_long c.requires.0 c.requires.1 c.requires.2
+
+pub returns : goal.returns
+unfolding judged_to13
+returns c = λ ch e held.
+    let out = c.arrived.ensures ch _ _ (accepting_front ch e held) (c.play_steps-out.ensures ch e (holds_steps held)) in
+    out ∙ after_inputs_lem ch _ _ _ (sym (ap judged_as c.in_default.is) ∙ c.judge_inputs-judged.ensures ch (timers_are ch e)) _ ∙ refl

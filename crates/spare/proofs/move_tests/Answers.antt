@@ -1,0 +1,51 @@
+-- `move_tests` meets its contract: the first k tests are moved. Moved has what is hard.
+use mathlib.Core.Path.{◌≡◌, refl, ◌∙◌}
+use Prim.Native.Nat.{◌-◌}
+use native.Mathlib.Omega.{arith}
+use lib.ListN.{length-set}
+use Rattle.spare.proofs.Moved.{moved_none, moved_more, moved_same}
+use Rattle.spare.proofs.move_tests.Goals as goal
+
+pub returns-then-from-to : goal.returns-then-from-to
+returns-then-from-to c = let r = let e : c.args.from ≡ c.args.to = c.if-from-to.true in
+    rw (← e) (
+      moved_same c.args.from c.args.count c.args.timers.now c.requires.1,
+      (
+        moved_same c.args.from c.args.count c.args.codes.now c.requires.2,
+        moved_same c.args.from c.args.count c.args.constants.now c.requires.3,
+      ),
+    ) in record { timers = r.0; codes = r.1.0; constants = r.1.1 }
+
+pub loop-k-init : goal.loop-k-init
+loop-k-init c = (
+  omega arith,
+  moved_none c.args.from c.args.to c.requires.0 c.args.timers.now (omega arith),
+  moved_none c.args.from c.args.to c.requires.0 c.args.codes.now (omega arith),
+  moved_none c.args.from c.args.to c.requires.0 c.args.constants.now (omega arith),
+  refl,
+  refl,
+  refl,
+)
+
+pub loop-k-preserved : goal.loop-k-preserved
+loop-k-preserved c = (
+  omega arith,
+  moved_more c.args.from c.args.to c.requires.0 c.args.timers.now c.loop-k.k (omega arith) c.loop-k.invariant.1,
+  moved_more c.args.from c.args.to c.requires.0 c.args.codes.now c.loop-k.k (omega arith) c.loop-k.invariant.2,
+  moved_more c.args.from c.args.to c.requires.0 c.args.constants.now c.loop-k.k (omega arith) c.loop-k.invariant.3,
+  length-set c.loop-k.timers _ _ ∙ c.loop-k.invariant.4,
+  length-set c.loop-k.codes _ _ ∙ c.loop-k.invariant.5,
+  length-set c.loop-k.constants _ _ ∙ c.loop-k.invariant.6,
+)
+
+pub shape_of-timers : goal.shape_of-timers
+shape_of-timers c = c.loop-k.invariant.4
+
+pub shape_of-codes : goal.shape_of-codes
+shape_of-codes c = c.loop-k.invariant.5
+
+pub shape_of-constants : goal.shape_of-constants
+shape_of-constants c = c.loop-k.invariant.6
+
+pub returns : goal.returns
+returns c = record { timers = let f : c.loop-k.k ≡ c.args.count = omega arith in rw f at c.loop-k.invariant.1; codes = let f : c.loop-k.k ≡ c.args.count = omega arith in rw f at c.loop-k.invariant.2; constants = let f : c.loop-k.k ≡ c.args.count = omega arith in rw f at c.loop-k.invariant.3 }
