@@ -1,5 +1,6 @@
 // A set of timers as one word: timer j is in the set where the binary digit at place j is 1.
 #![tactic(auto)]
+
 ghost use Rattle.std.specs.Prelude.{◌≡◌, ◌<◌, eqb};
 ghost use Rattle.std.specs.Int.Count.{ones};
 ghost use Rattle.timer_set.specs.Members.{member, joined, common, minus, added, removed, all_below, lowest_missing, lowest_member};
@@ -33,6 +34,7 @@ impl TimerSet {
         }
     }
 
+    #[tactic(auto, unfolding(crate::specs::Members::joined))]
     pub fn join(self, other: TimerSet) -> TimerSet
         ensures { result.bits ≡ joined self.bits other.bits }
     {
@@ -49,6 +51,7 @@ impl TimerSet {
         }
     }
 
+    #[tactic(auto, unfolding(crate::specs::Members::common))]
     pub fn common(self, other: TimerSet) -> TimerSet
         ensures { result.bits ≡ common self.bits other.bits }
     {
