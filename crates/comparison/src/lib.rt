@@ -21,6 +21,7 @@ pub enum Decoded {
     Unknown,
 }
 
+#[tactic(auto, using(crate::proofs::Comparisons::comparison_past), unfolding(crate::specs::Comparison::comparison_of))]
 pub fn decode(code: u8) -> Decoded
     ensures { decoded_of result ≡ comparison_of code }
 {
@@ -34,6 +35,7 @@ pub fn decode(code: u8) -> Decoded
     }
 }
 
+#[tactic(auto, unfolding(crate::specs::Comparison::code_of))]
 pub fn code_of(c: Comparison) -> u8
     ensures { result ≡ code_of c }
 {
@@ -67,6 +69,7 @@ fn order_of(count: u64, constant: u64) -> usize
     }
 }
 
+#[tactic(auto, using(crate::proofs::Comparisons::code_below, crate::proofs::Comparisons::order_below, crate::proofs::Comparisons::table_met))]
 pub fn holds(c: Comparison, count: u64, constant: u64) -> bool
     ensures { result ≡ met c count constant }
 {

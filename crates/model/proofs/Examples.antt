@@ -47,18 +47,18 @@ module _ (v : Counts) where
   two_steps_lem = (refl, refl, refl)
 
   pub B-run : IsRun B v two_steps
-  B-run = (is_run_iff B v two_steps).1 (_, two_steps.0)
+  B-run = (is_run_iff B v two_steps).1 (_, two_steps_lem.0)
 
   pub stricter_no_run : IsRun stricter v two_steps → ⊥
-  stricter_no_run x = result_refused ((is_run_iff stricter v two_steps).0 x).1 two_steps.1
+  stricter_no_run x = result_refused ((is_run_iff stricter v two_steps).0 x).1 two_steps_lem.1
 
   pub other_end_accepting : EndsAccepting other_end v two_steps
-  other_end_accepting = (ends_accepting_iff other_end v two_steps).1 (_, two_steps.2, refl)
+  other_end_accepting = (ends_accepting_iff other_end v two_steps).1 (_, two_steps_lem.2, refl)
 
   pub B-not-accepting : EndsAccepting B v two_steps → ⊥
   B-not-accepting x =
       let y = (ends_accepting_iff B v two_steps).0 x in
-      true≢false (sym y.2 ∙ ap (λ (a : Arrival). a.accepting) (result_same (sym y.1 ∙ two_steps.0)))
+      true≢false (sym y.2 ∙ ap (λ (a : Arrival). a.accepting) (result_same (sym y.1 ∙ two_steps_lem.0)))
 
   -- ---- points
 

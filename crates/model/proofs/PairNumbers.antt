@@ -11,7 +11,7 @@ use Rattle.lists.specs.Lists.{memb}
 use Rattle.model.specs.Placing.{FamilyOfPair, PairNumber}
 use Rattle.lists.proofs.Bools.{same_bool}
 use Rattle.model.specs.Family.{Pairs, is_pair, Linked, Joined, Family, has, family_of, families, WellFormed}
-use Rattle.model.specs.FirstFit.{Placed, place, first_fit, number_at}
+use Rattle.model.specs.FirstFit.{Placed, first_fit, number_at}
 use Rattle.model.proofs.FirstFit.{Fitted, place_fitted}
 use Rattle.model.proofs.NumberAt.{has_timer, has_location, has_pair, place_in, place_out}
 use Rattle.model.proofs.NumberAt.{number_in, number_out, number_same, number_apart}

@@ -84,11 +84,11 @@ module _ (f : Flow) where
       go ih (by_edge {e} i n s) = along i n (ih e.from s)
 
   module _ (shaped : Shaped f) where
-    pub complete : (sets : List ℕ) → round f sets ≡ sets → (q j : ℕ) → q < f.locations → Comes f j q → member (get_or sets q 0) j ≡ true
-    complete sets still q j l (owned o) = rw still at (round_in sets q j (record { below = l; way = by_own o }))
-    complete sets still q j l (gained i g) = rw still at (round_in sets q j (record { below = l; way = by_gain i g }))
-    complete sets still q j l (along {e = e} i n m) =
-        let before = complete sets still e.from j (shaped.from_below i.number i.is_nth) m in
+    pub complete : (sets : List ℕ) → round f sets ≡ sets → (j q : ℕ) → q < f.locations → Comes f j q → member (get_or sets q 0) j ≡ true
+    complete sets still j q l (owned o) = rw still at (round_in sets q j (record { below = l; way = by_own o }))
+    complete sets still j q l (gained i g) = rw still at (round_in sets q j (record { below = l; way = by_gain i g }))
+    complete sets still j q l (along {e = e} i n m) =
+        let before = complete sets still j e.from (shaped.from_below i.number i.is_nth) m in
         rw still at (round_in sets q j (record { below = l; way = by_edge i n before }))
 
     -- ---- every set of a round is a word of 64

@@ -97,4 +97,4 @@ module _ (f : Flow) where
 
     pub settled_iff : (q j : ℕ) → q < f.locations → (member (get_or (settled f) q 0) j ≡ true) ↔ Comes f j q
     unfolding settled
-    settled_iff q j l = (sound f (changing f) q j, complete f shaped (settled f) settled_still q j l)
+    settled_iff q j l = (sound f (changing f) q j, complete f shaped (settled f) settled_still j q l)

@@ -199,7 +199,7 @@ module _ {W : ℕ} {c : Chart} (valid : Valid W c) where
   rule_plan rule = record {
     numbered = rule.numbered;
     live = rule.live;
-    one_number_lem = rule.one_number;
+    one_number_lem = rule.one_number_lem;
     different = λ q j s i n m e e'. (meeting_apart valid rule q j s i n m e e').0;
     below = rule.used_above;
   }

@@ -11,7 +11,6 @@ use Rattle.timer_set.specs.Members.{member}
 use Rattle.timer_set.proofs.Counts.{ones_pick}
 use Rattle.model.specs.Chart.{Chart}
 use Rattle.model.specs.Valid.{Valid}
-use Rattle.model.specs.Live.{live}
 use Rattle.model.specs.Twins.{LowestTwin, merged_sets}
 use Rattle.model.specs.Family.{is_pair, live_pairs}
 use Rattle.model.proofs.Paths.{live_inside}

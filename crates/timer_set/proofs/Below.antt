@@ -11,7 +11,7 @@ use Rattle.lists.specs.Lists.{any_of}
 use Rattle.lists.proofs.Bools.{is_no, same_bool, not_both}
 use Rattle.lists.proofs.Membership.{any_memb_in, any_memb_out}
 use Rattle.timer_set.specs.Members.{member, members, all_below}
-use Rattle.timer_set.proofs.Members.{member_empty, none_empty, memb_members}
+use Rattle.timer_set.proofs.Members.{member_empty, member_past, none_empty, memb_members}
 
 -- the members of a shifted word
 pub member_shifted : (w n j : ℕ) → member (w / 2 ^ n) j ≡ member w (n + j)
@@ -27,6 +27,10 @@ module _ (n w : ℕ) (h : w < 2 ^ 64) where
       found a =
           let m = any_memb_out (λ j. leb n j) (members w) a in
           not_both (sym (memb_members w m.0 h) ∙ m.1) (f m.0 (leb-true _ _ m.2))
+
+  -- a word of 64 digits has no timer from 64 on
+  pub all_below_over : 64 ≤ n → all_below n w ≡ true
+  all_below_over l = below_all (λ j q. member_past w j h (omega arith))
 
   pub all_below_lem : all_below n w ≡ true → (j : ℕ) → n ≤ j → member w j ≡ false
   unfolding all_below

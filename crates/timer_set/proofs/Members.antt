@@ -72,6 +72,9 @@ pub member_high : (k w j : ℕ) → w < 2 ^ k → k ≤ j → member w j ≡ fal
 unfolding member
 member_high k w j h l = ap (λ (x : ℕ). eqb (x % 2) 1) (div-eq_of_lt (lt_of_lt_of_le h (pow_mono l)))
 
+pub member_past : (w j : ℕ) → w < 2 ^ 64 → 64 ≤ j → member w j ≡ false
+member_past w j h l = member_high 64 w j h l
+
 -- ---- a set is its members
 
 pub member_ext : (k a b : ℕ) → a < 2 ^ k → b < 2 ^ k → ((j : ℕ) → j < k → member a j ≡ member b j) → a ≡ b

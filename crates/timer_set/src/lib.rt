@@ -34,6 +34,7 @@ impl TimerSet {
         }
     }
 
+    #[tactic(auto, unfolding(crate::specs::Members::joined))]
     pub fn join(self, other: TimerSet) -> TimerSet
         ensures { result.bits ≡ joined self.bits other.bits }
     {
@@ -50,6 +51,7 @@ impl TimerSet {
         }
     }
 
+    #[tactic(auto, unfolding(crate::specs::Members::common))]
     pub fn common(self, other: TimerSet) -> TimerSet
         ensures { result.bits ≡ common self.bits other.bits }
     {
@@ -59,6 +61,7 @@ impl TimerSet {
     }
 
     // A number past 63 is in no set.
+    #[tactic(auto, using(crate::proofs::Machine::machine_member, crate::proofs::Members::member_past))]
     pub fn has(self, j: u8) -> bool
         ensures { result ≡ member self.bits j }
     {
@@ -82,6 +85,7 @@ impl TimerSet {
     }
 
     // Every timer of the set is below n.
+    #[tactic(auto, using(crate::proofs::Below::machine_all_below, crate::proofs::Below::all_below_over))]
     pub fn all_below(self, n: u8) -> bool
         ensures { result ≡ all_below n self.bits }
     {
@@ -89,12 +93,14 @@ impl TimerSet {
     }
 
     // The lowest timer that is not in the set, 64 where none is missing.
+    #[tactic(auto, using(crate::proofs::Counts::lowest_missing_lem))]
     pub fn lowest_missing(self) -> u32
         ensures { result ≡ lowest_missing self.bits }
     {
         u64::trailing_zeros(!self.bits)
     }
     // The lowest timer of the set, 64 where there is none.
+    #[tactic(auto, using(crate::proofs::LowestMember::machine_lowest))]
     pub fn lowest(self) -> u32
         ensures { result ≡ lowest_member self.bits }
     {
@@ -102,6 +108,7 @@ impl TimerSet {
     }
 
     // The set without its lowest timer, if it has one.
+    #[tactic(auto, using(crate::proofs::LowestMember::machine_without_lowest, crate::proofs::LowestMember::none_without))]
     pub fn without_lowest(self) -> TimerSet
         ensures { result.bits ≡ removed self.bits (lowest_member self.bits) }
     {

@@ -85,6 +85,7 @@ module _ (c : Chart) (j k : ℕ) (t : Together c j k) where
       → (s.counts j ≡ s.counts k) ⊎ StartedIn c j es → s'.counts j ≡ s'.counts k
   unfolding steps after
   steps_same [] n s s' reach h (inl e) = rw (← result_same h) e
+  steps_same [] n s s' reach h (inr x) = elim x [ ]
   steps_same (e ∷ es) n s s' reach h x =
       let a = step_taken c n s e es s' h in
       let from : Reached c a.transition.source = rw a.leaves reach in
