@@ -41,7 +41,8 @@ use Rattle.list_judging.specs.Typed.{Typed, TypedHeader}
 use Rattle.list_judging.specs.FileFrom.{FieldBytes, bytes_of, entry_field, starts_field, test_fields, length_at, transition_fields, tests_before}
 use Rattle.list_judging.specs.FileFrom.{record_fields, header_fields, body_from, file_from}
 use Rattle.list_judging.proofs.ListEntries.{entry_some}
-use Rattle.list_judging.proofs.Parts.{accepting_item, next_lowest, accepting_items_lem, test_item, no_state, tests_items, next_tests, transitions_items}
+use Rattle.list_judging.proofs.Parts.{accepting_item, next_lowest, accepting_items_lem, test_item, no_state, tests_items}
+use Rattle.list_judging.proofs.Parts.{next_tests, transitions_items}
 use Rattle.list_judging.proofs.TransitionOf.{transition_of}
 use Rattle.list_judging.proofs.Turns.{members_few}
 use Rattle.list_judging.proofs.FieldLengths.{get_d_below, body_most, from_bytes}
