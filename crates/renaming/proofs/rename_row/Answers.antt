@@ -36,4 +36,4 @@ loop-k-preserved c = (
 
 pub returns : goal.returns
 returns c = let f : c.loop-k.k ≡ c.args.count = omega arith in
-    rw f at (c.loop-k.invariant.2 done m d e o)
+    λ done m d e o. rw f at (c.loop-k.invariant.2 done m d e o)
