@@ -1,7 +1,7 @@
 -- `propagate` meets its contract: the sets come by joins from the one set at q, and their sum grows until all links agree.
 use borrow.Author.Rules.{rules}
 use mathlib.Core.Path.{sym, ◌∙◌}
-use Prim.Native.Nat.{◌-◌, ◌<◌}
+use Prim.Native.Nat.{◌<◌}
 use native.Mathlib.Omega.{arith}
 use lib.ListN.{length, length-set}
 use Rattle.lists.proofs.Bools.{not-true, not-false}
@@ -34,12 +34,12 @@ pub sweep-swept-requires : goal.sweep-swept-requires
 sweep-swept-requires c = (ends_long (sym (joins_long _ _ _ c.loop-q.invariant.0 c.loop-q.invariant.2)) c.loop-q.invariant.0, c.loop-q.invariant.3)
 
 pub shape_of-sets-then-not-swept : goal.shape_of-sets-then-not-swept
-shape_of-sets-then-not-swept c = joins_long _ _ _ c.loop-q.invariant.0 (joins_trans _ _ _ c.loop-q.invariant.2 c.sweep-swept.ensures.swept.joins) ∙ length-set c.clear.last.0 _ _ ∙ c.clear.auto.sets
+shape_of-sets-then-not-swept c = joins_long _ _ _ c.loop-q.invariant.0 (joins_trans _ _ _ c.loop-q.invariant.2 c.sweep-swept.ensures.swept.joins) ∙ length-set c.clear.new.sets _ _ ∙ c.clear.auto.sets
 
 pub returns-then-not-swept : goal.returns-then-not-swept
 returns-then-not-swept c = record {
   families = let still = (c.sweep-swept.ensures.swept.same (not-true _ c.if-not-swept.true)).1 in (λ p formed long links.
-      propagated_over c.clear.last.0 c.args.q c.args.roots.bits (let inside' : c.args.q < length c.clear.new.sets = omega (arith, c.requires.1, c.clear.auto.sets) in
+      propagated_over c.clear.new.sets c.args.q c.args.roots.bits (let inside' : c.args.q < length c.clear.new.sets = omega (arith, c.requires.1, c.clear.auto.sets) in
       inside') c.clear.ensures c.loop-q.invariant.0 p links _ (joins_trans _ _ _ c.loop-q.invariant.2 c.sweep-swept.ensures.swept.joins) still);
   end = let still = (c.sweep-swept.ensures.swept.same (not-true _ c.if-not-swept.true)).1 in c.sweep-swept.ensures.end;
 }

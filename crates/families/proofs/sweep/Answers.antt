@@ -1,7 +1,7 @@
 -- `sweep` meets its contract: the first k links are joined, and if no set has grown, both ends of each of them agree.
 use mathlib.Core.Path.{refl, ◌∙◌}
 use mathlib.Core.List.{List}
-use Prim.Native.Nat.{ℕ, ◌-◌, ◌≤◌, ◌<◌}
+use Prim.Native.Nat.{ℕ, ◌≤◌, ◌<◌}
 use native.Mathlib.Omega.{arith}
 use lib.ListN.{length, get_or}
 use Rattle.chart_lists.specs.Limits.{most_locations}

@@ -13,9 +13,9 @@ pub number_lists-requires : goal.number_lists-requires
 number_lists-requires c = ((c.requires.0.0, c.requires.0.1, c.requires.0.2, c.requires.0.3), c.requires.1, c.requires.2, c.requires.3, c.requires.4)
 
 pub returns-then-allows_spare : goal.returns-then-allows_spare
-returns-then-allows_spare c = c.number_part.ensures chart is holds tested
+returns-then-allows_spare c chart is holds tested reached = c.number_part.ensures chart is holds tested
 
 pub returns-else-allows_spare : goal.returns-else-allows_spare
 unfolding header_of
-returns-else-allows_spare c = let none : allows_spare (header_of chart).version ≡ false = rw (← is) (sym c.allows_spare.ensures ∙ c.if-allows_spare.false) in
+returns-else-allows_spare c chart is holds tested reached = let none : allows_spare (header_of chart).version ≡ false = rw (← is) (sym c.allows_spare.ensures ∙ c.if-allows_spare.false) in
     whole_numbered holds.valid (reached none) (c.number_lists.ensures chart is holds tested)

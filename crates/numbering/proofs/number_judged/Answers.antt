@@ -37,7 +37,7 @@ find_floor-found-requires c = let room = few c.requires.0.0 c.requires.0.1 c.req
 )
 
 pub returns : goal.returns
-returns c = let m = c.number_chart-numbered.ensures d e h b reached in
+returns c d e h b reached = let m = c.number_chart-numbered.ensures d e h b reached in
     let room = few d e h b in
     let f = c.find_floor-found.ensures (reached_part d) (floor_asked (reached_part d) (part_are d e) (part_valid h.valid) m (search (rules, room))) in (
       ap returned (chart_numbers d e m.used_is f.0 f.1 m.rounds_is),

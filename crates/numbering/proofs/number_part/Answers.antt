@@ -16,5 +16,5 @@ number_lists-requires c = let l = c.reached_part-transitions.ensures c.requires.
     ((reached_part c.requires.0.0, part_header c.requires.0.0 c.requires.0.1 l.count, l.edges, l.tested-are), c.requires.1, c.requires.2, c.requires.3, c.requires.4)
 
 pub returns : goal.returns
-returns c = let l = c.reached_part-transitions.ensures chart is holds tested in
+returns c chart is holds tested = let l = c.reached_part-transitions.ensures chart is holds tested in
     c.number_lists.ensures (reached_part chart) (part_header chart is l.count) l.edges l.tested-are

@@ -1,6 +1,5 @@
 -- `smallest` tries k from the size of the largest clique on: no plan has fewer than k timers, and one has `high`.
 use mathlib.Core.Path.{sym, ◌∙◌}
-use Prim.Native.Nat.{◌-◌}
 use native.Mathlib.Omega.{arith}
 use borrow.Author.Tests.{eqb-true, eqb-false}
 use Rattle.smallest_plan.proofs.Placing.{completes_part}

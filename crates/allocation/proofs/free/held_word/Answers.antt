@@ -19,7 +19,8 @@ pub loop-s-preserved-then-has : goal.loop-s-preserved-then-has
 loop-s-preserved-then-has c = (
   omega arith,
   c.loop-s.invariant.1,
-  λ x. rw c.join-set.ensures (member_joined c.loop-s.set.bits _ x ∙ ap (λ (b : Bool). b || in_word c.args.held.now c.loop-s.s c.args.w x) (c.loop-s.invariant.2 x)
+  λ x. rw c.join-set.ensures
+      (member_joined c.loop-s.set.bits _ x ∙ ap (λ (b : Bool). b || in_word c.args.held.now c.loop-s.s c.args.w x) (c.loop-s.invariant.2 x)
       ∙ some_yes c.args.sets.now c.args.j (λ s. in_word c.args.held.now s c.args.w x) c.loop-s.s
       (sym c.has.ensures ∙ c.if-has.true)),
 )
@@ -28,7 +29,8 @@ pub loop-s-preserved : goal.loop-s-preserved
 loop-s-preserved c = (
   omega arith,
   c.loop-s.invariant.1,
-  λ x. c.loop-s.invariant.2 x ∙ some_no c.args.sets.now c.args.j (λ s. in_word c.args.held.now s c.args.w x) c.loop-s.s (sym c.has.ensures ∙ c.if-has.false),
+  λ x. c.loop-s.invariant.2 x
+      ∙ some_no c.args.sets.now c.args.j (λ s. in_word c.args.held.now s c.args.w x) c.loop-s.s (sym c.has.ensures ∙ c.if-has.false),
 )
 
 pub returns : goal.returns

@@ -35,4 +35,5 @@ loop-s-preserved c = (
 pub returns : goal.returns
 unfolding taken
 returns c = let e : c.loop-s.s ≡ c.args.end = omega arith in
-    λ x h. (rw e at (c.loop-s.invariant.2 x h)) ∙ some_all c.args.sets.now c.args.j (λ s. in_row c.args.cells.now s (64 * c.args.w + x) 64) c.loop-s.invariant.1.2
+    λ x h. (rw e at (c.loop-s.invariant.2 x h))
+    ∙ some_all c.args.sets.now c.args.j (λ s. in_row c.args.cells.now s (64 * c.args.w + x) 64) c.loop-s.invariant.1.2

@@ -32,4 +32,4 @@ pub settle-requires : goal.settle-requires
 settle-requires c = record { safe_edges = settle_safe c.requires.0.0 c.requires.0.1 c.requires.0.2 c.requires.0.3; sets_len = length-take-le _ _ c.requires.1 ∙ sym (own_length c.requires.0.0 c.requires.0.1 c.requires.0.2 c.requires.0.3) }
 
 pub returns : goal.returns
-returns c = live_found chart is holds tested _ c.settle.ensures.sets c.settle.ensures.count
+returns c chart is holds tested = live_found chart is holds tested _ c.settle.ensures.sets c.settle.ensures.count

@@ -40,6 +40,6 @@ number_live-allocated-requires c = let b = (c.live_chart-rounds.ensures c.requir
     )
 
 pub returns : goal.returns
-returns c = let e = c.live_chart-rounds.ensures chart is holds tested in
+returns c chart is holds tested = let e = c.live_chart-rounds.ensures chart is holds tested in
     numbered chart is holds e.0 _ _ _ (c.number_live-allocated.ensures chart (live_lists chart is holds e.0))
     (c.number_live-allocated.auto.families_at ∙ length-take-le _ _ c.requires.4) refl refl e.1
