@@ -3,7 +3,7 @@ use mathlib.Core.Path.{refl, sym, ap, ◌∙◌, subst}
 use mathlib.Core.List.{List}
 use Prim.Native.Nat.{ℕ, ◌≤◌}
 use native.Mathlib.Omega.{arith}
-use lib.ListN.{length, take}
+use lib.ListN.{length}
 use lib.Seq.{length-take-le}
 use Rattle.model.specs.Family.{Family}
 use Rattle.model.specs.FirstFit.{Placed, used_by}
@@ -24,18 +24,22 @@ described : (sources targets starts live : List ℕ) (timers : ℕ) (ones others
     → LinkLists (pairs_of sources targets starts live timers) ones others linked
     → Described (pairs_of sources targets starts live timers) live ones others linked
 unfolding pairs_of
-described sources targets starts live timers ones others linked safe links = record { formed = formed safe; sets_are = refl; locations_are = refl; links_are = links }
+described sources targets starts live timers ones others linked safe links =
+    record { formed = formed safe; sets_are = refl; locations_are = refl; links_are = links }
 
 pub slice_bounds-number_locations-end : goal.slice_bounds-number_locations-end
-slice_bounds-number_locations-end c = let few : c.find_links-k.result ≤ most_transitions = omega (arith, c.find_links-k.ensures.few, c.requires.0.few_transitions) in
+slice_bounds-number_locations-end c = let few : c.find_links-k.result ≤ most_transitions =
+    omega (arith, c.find_links-k.ensures.few, c.requires.0.few_transitions) in
     sym (length-take-le c.find_links-k.result c.find_links-k.new.ones (omega (arith, few, c.find_links-k.auto.ones)))
 
 pub slice_bounds-number_locations-end-2 : goal.slice_bounds-number_locations-end-2
-slice_bounds-number_locations-end-2 c = let few : c.find_links-k.result ≤ most_transitions = omega (arith, c.find_links-k.ensures.few, c.requires.0.few_transitions) in
+slice_bounds-number_locations-end-2 c = let few : c.find_links-k.result ≤ most_transitions =
+    omega (arith, c.find_links-k.ensures.few, c.requires.0.few_transitions) in
     sym (length-take-le c.find_links-k.result c.find_links-k.new.others (omega (arith, few, c.find_links-k.auto.others)))
 
 pub slice_bounds-number_locations-end-3 : goal.slice_bounds-number_locations-end-3
-slice_bounds-number_locations-end-3 c = let few : c.find_links-k.result ≤ most_transitions = omega (arith, c.find_links-k.ensures.few, c.requires.0.few_transitions) in
+slice_bounds-number_locations-end-3 c = let few : c.find_links-k.result ≤ most_transitions =
+    omega (arith, c.find_links-k.ensures.few, c.requires.0.few_transitions) in
     sym (length-take-le c.find_links-k.result c.find_links-k.new.linked (omega (arith, few, c.find_links-k.auto.linked)))
 
 pub slice_bounds-number_locations-end-4 : goal.slice_bounds-number_locations-end-4

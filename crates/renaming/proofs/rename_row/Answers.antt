@@ -30,7 +30,8 @@ loop-k-preserved c = (
   omega arith,
   length-set c.loop-k.renamed (c.args.base + c.loop-k.k) c.board_timer.result ∙ c.loop-k.invariant.1,
   λ done m d e o.
-      row_more c.args.cells.now c.args.q c.args.timers.now c.args.base c.loop-k.k (omega arith) done m d (omega arith) (c.loop-k.invariant.2 done m d e o)
+      row_more c.args.cells.now c.args.q c.args.timers.now c.args.base c.loop-k.k (omega arith) done m d (omega arith)
+      (c.loop-k.invariant.2 done m d e o)
       c.board_timer.ensures,
 )
 

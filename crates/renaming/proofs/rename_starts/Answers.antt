@@ -18,19 +18,23 @@ unfolding put
 loop-i-init c = (omega arith, refl, λ chart N e h s. refl)
 
 pub bounds-targets-i : goal.bounds-targets-i
-bounds-targets-i c = let turn : RowAt c.args.targets.now c.args.starts.now c.args.cells.now c.loop-i.i = starts_turn c.requires.0.0 c.requires.0.2 c.requires.0.4 c.loop-i-test.true c.requires.0.3 in
+bounds-targets-i c = let turn : RowAt c.args.targets.now c.args.starts.now c.args.cells.now c.loop-i.i =
+    starts_turn c.requires.0.0 c.requires.0.2 c.requires.0.4 c.loop-i-test.true c.requires.0.3 in
     turn.in_locations
 
 pub overflow_cast-q : goal.overflow_cast-q
-overflow_cast-q c = let turn : RowAt c.args.targets.now c.args.starts.now c.args.cells.now c.loop-i.i = starts_turn c.requires.0.0 c.requires.0.2 c.requires.0.4 c.loop-i-test.true c.requires.0.3 in
+overflow_cast-q c = let turn : RowAt c.args.targets.now c.args.starts.now c.args.cells.now c.loop-i.i =
+    starts_turn c.requires.0.0 c.requires.0.2 c.requires.0.4 c.loop-i-test.true c.requires.0.3 in
     record { fits = omega (arith, turn.few) }
 
 pub bounds-starts-i : goal.bounds-starts-i
-bounds-starts-i c = let turn : RowAt c.args.targets.now c.args.starts.now c.args.cells.now c.loop-i.i = starts_turn c.requires.0.0 c.requires.0.2 c.requires.0.4 c.loop-i-test.true c.requires.0.3 in
+bounds-starts-i c = let turn : RowAt c.args.targets.now c.args.starts.now c.args.cells.now c.loop-i.i =
+    starts_turn c.requires.0.0 c.requires.0.2 c.requires.0.4 c.loop-i-test.true c.requires.0.3 in
     turn.in_others
 
 pub renamed_set-requires : goal.renamed_set-requires
-renamed_set-requires c = let turn : RowAt c.args.targets.now c.args.starts.now c.args.cells.now c.loop-i.i = starts_turn c.requires.0.0 c.requires.0.2 c.requires.0.4 c.loop-i-test.true c.requires.0.3 in
+renamed_set-requires c = let turn : RowAt c.args.targets.now c.args.starts.now c.args.cells.now c.loop-i.i =
+    starts_turn c.requires.0.0 c.requires.0.2 c.requires.0.4 c.loop-i-test.true c.requires.0.3 in
     (turn.few, turn.row)
 
 pub bounds-renamed-i : goal.bounds-renamed-i

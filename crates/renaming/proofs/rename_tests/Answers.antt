@@ -16,21 +16,27 @@ pub loop-i-init : goal.loop-i-init
 loop-i-init c = (omega arith, refl, λ chart N e h s. tests_none chart N _)
 
 pub bounds-test_counts-i : goal.bounds-test_counts-i
-bounds-test_counts-i c = let turn : RowAt c.args.sources.now c.args.test_counts.now c.args.cells.now c.loop-i.i = tests_turn c.requires.0 c.requires.2 c.requires.4 c.loop-i-test.true c.requires.3 in
+bounds-test_counts-i c = let turn : RowAt c.args.sources.now c.args.test_counts.now c.args.cells.now c.loop-i.i =
+    tests_turn c.requires.0 c.requires.2 c.requires.4 c.loop-i-test.true c.requires.3 in
     turn.in_others
 
 pub bounds-sources-i : goal.bounds-sources-i
-bounds-sources-i c = let turn : RowAt c.args.sources.now c.args.test_counts.now c.args.cells.now c.loop-i.i = tests_turn c.requires.0 c.requires.2 c.requires.4 c.loop-i-test.true c.requires.3 in
+bounds-sources-i c = let turn : RowAt c.args.sources.now c.args.test_counts.now c.args.cells.now c.loop-i.i =
+    tests_turn c.requires.0 c.requires.2 c.requires.4 c.loop-i-test.true c.requires.3 in
     turn.in_locations
 
 pub overflow_cast-q : goal.overflow_cast-q
-overflow_cast-q c = let turn : RowAt c.args.sources.now c.args.test_counts.now c.args.cells.now c.loop-i.i = tests_turn c.requires.0 c.requires.2 c.requires.4 c.loop-i-test.true c.requires.3 in
+overflow_cast-q c = let turn : RowAt c.args.sources.now c.args.test_counts.now c.args.cells.now c.loop-i.i =
+    tests_turn c.requires.0 c.requires.2 c.requires.4 c.loop-i-test.true c.requires.3 in
     record { fits = omega (arith, turn.few) }
 
 pub rename_row-requires : goal.rename_row-requires
-rename_row-requires c = let turn : RowAt c.args.sources.now c.args.test_counts.now c.args.cells.now c.loop-i.i = tests_turn c.requires.0 c.requires.2 c.requires.4 c.loop-i-test.true c.requires.3 in
-    let begins : TestsRenamed c.requires.0 c.requires.1 c.args.renamed.now c.loop-i.renamed c.loop-i.base c.loop-i.i = c.loop-i.invariant.2 c.requires.0 c.requires.1 (transitions_are c.requires.0 c.requires.2) c.requires.3 c.requires.4 in
-    let there : c.loop-i.base + get_or c.args.test_counts.now c.loop-i.i 0 ≤ length c.args.timers.now = timers_in c.requires.0 c.requires.2 c.requires.4 c.loop-i-test.true c.requires.3 begins.base_is in
+rename_row-requires c = let turn : RowAt c.args.sources.now c.args.test_counts.now c.args.cells.now c.loop-i.i =
+    tests_turn c.requires.0 c.requires.2 c.requires.4 c.loop-i-test.true c.requires.3 in
+    let begins : TestsRenamed c.requires.0 c.requires.1 c.args.renamed.now c.loop-i.renamed c.loop-i.base c.loop-i.i =
+    c.loop-i.invariant.2 c.requires.0 c.requires.1 (transitions_are c.requires.0 c.requires.2) c.requires.3 c.requires.4 in
+    let there : c.loop-i.base + get_or c.args.test_counts.now c.loop-i.i 0 ≤ length c.args.timers.now =
+    timers_in c.requires.0 c.requires.2 c.requires.4 c.loop-i-test.true c.requires.3 begins.base_is in
     let room = timers_there c.requires.0 c.requires.2 c.requires.4 c.loop-i-test.true c.requires.3 begins.base_is in (
       there,
       timers_few c.requires.0 c.requires.2 c.requires.4 c.loop-i-test.true c.requires.3 begins.base_is,
@@ -40,13 +46,17 @@ rename_row-requires c = let turn : RowAt c.args.sources.now c.args.test_counts.n
     )
 
 pub overflow_cast-base : goal.overflow_cast-base
-overflow_cast-base c = let begins : TestsRenamed c.requires.0 c.requires.1 c.args.renamed.now c.loop-i.renamed c.loop-i.base c.loop-i.i = c.loop-i.invariant.2 c.requires.0 c.requires.1 (transitions_are c.requires.0 c.requires.2) c.requires.3 c.requires.4 in
-    let there : c.loop-i.base + get_or c.args.test_counts.now c.loop-i.i 0 ≤ length c.args.timers.now = timers_in c.requires.0 c.requires.2 c.requires.4 c.loop-i-test.true c.requires.3 begins.base_is in
+overflow_cast-base c = let begins : TestsRenamed c.requires.0 c.requires.1 c.args.renamed.now c.loop-i.renamed c.loop-i.base c.loop-i.i =
+    c.loop-i.invariant.2 c.requires.0 c.requires.1 (transitions_are c.requires.0 c.requires.2) c.requires.3 c.requires.4 in
+    let there : c.loop-i.base + get_or c.args.test_counts.now c.loop-i.i 0 ≤ length c.args.timers.now =
+    timers_in c.requires.0 c.requires.2 c.requires.4 c.loop-i-test.true c.requires.3 begins.base_is in
     record { fits = omega (arith, there) }
 
 pub overflow_add-base : goal.overflow_add-base
-overflow_add-base c = let begins : TestsRenamed c.requires.0 c.requires.1 c.args.renamed.now c.loop-i.renamed c.loop-i.base c.loop-i.i = c.loop-i.invariant.2 c.requires.0 c.requires.1 (transitions_are c.requires.0 c.requires.2) c.requires.3 c.requires.4 in
-    let there : c.loop-i.base + get_or c.args.test_counts.now c.loop-i.i 0 ≤ length c.args.timers.now = timers_in c.requires.0 c.requires.2 c.requires.4 c.loop-i-test.true c.requires.3 begins.base_is in
+overflow_add-base c = let begins : TestsRenamed c.requires.0 c.requires.1 c.args.renamed.now c.loop-i.renamed c.loop-i.base c.loop-i.i =
+    c.loop-i.invariant.2 c.requires.0 c.requires.1 (transitions_are c.requires.0 c.requires.2) c.requires.3 c.requires.4 in
+    let there : c.loop-i.base + get_or c.args.test_counts.now c.loop-i.i 0 ≤ length c.args.timers.now =
+    timers_in c.requires.0 c.requires.2 c.requires.4 c.loop-i-test.true c.requires.3 begins.base_is in
     record { fits = omega (arith, there) }
 
 pub loop-i-preserved : goal.loop-i-preserved

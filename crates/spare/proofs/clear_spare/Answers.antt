@@ -10,17 +10,28 @@ use Rattle.spare.proofs.clear_spare.Goals as goal
 
 pub returns-then-not-allows_spare : goal.returns-then-not-allows_spare
 unfolding header_of
-returns-then-not-allows_spare c = λ chart e reached h. let none : allows_spare (header_of chart).version ≡ false = rw (← e) (sym c.allows_spare.ensures ∙ c.if-not-allows_spare.true) in
+returns-then-not-allows_spare c = λ chart e reached h. let none : allows_spare (header_of chart).version ≡ false =
+    rw (← e) (sym c.allows_spare.ensures ∙ c.if-not-allows_spare.true) in
     whole_holds h (reached none)
 
 pub reached_sets-reached-requires : goal.reached_sets-reached-requires
 reached_sets-reached-requires c = (c.requires.0, c.requires.1, holds_ends c.requires.3)
 
 pub keep_tests-requires : goal.keep_tests-requires
-keep_tests-requires c = (c.requires.0, transitions_are c.requires.0 c.requires.1, c.reached_sets-reached.ensures c.requires.0 c.requires.1 (holds_ends c.requires.3), holds_tests c.requires.3)
+keep_tests-requires c = (
+  c.requires.0,
+  transitions_are c.requires.0 c.requires.1,
+  c.reached_sets-reached.ensures c.requires.0 c.requires.1 (holds_ends c.requires.3),
+  holds_tests c.requires.3,
+)
 
 pub clear_starts-requires : goal.clear_starts-requires
-clear_starts-requires c = (c.requires.0, transitions_are c.requires.0 c.requires.1, c.reached_sets-reached.ensures c.requires.0 c.requires.1 (holds_ends c.requires.3), holds_starts c.requires.3)
+clear_starts-requires c = (
+  c.requires.0,
+  transitions_are c.requires.0 c.requires.1,
+  c.reached_sets-reached.ensures c.requires.0 c.requires.1 (holds_ends c.requires.3),
+  holds_starts c.requires.3,
+)
 
 pub returns : goal.returns
 returns c = λ chart e reached h. let n = transitions_are chart e in

@@ -21,10 +21,13 @@ pub loop-i-init : goal.loop-i-init
 loop-i-init c = (omega arith, refl, refl, refl, λ chart e b h. tests_none chart _ _ _)
 
 pub bounds-test_counts-transition : goal.bounds-test_counts-transition
-bounds-test_counts-transition c = let below : c.loop-i.i < length c.requires.0.transitions = omega (arith, c.requires.1, c.loop-i-test.true) in entry_there c.requires.0 (test_counts_each c.requires.0) c.requires.3.test_counts below
+bounds-test_counts-transition c = let below : c.loop-i.i < length c.requires.0.transitions = omega (arith, c.requires.1, c.loop-i-test.true) in
+    entry_there c.requires.0 (test_counts_each c.requires.0) c.requires.3.test_counts below
 
 pub overflow_cast-count : goal.overflow_cast-count
-overflow_cast-count c = let below : c.loop-i.i < length c.requires.0.transitions = omega (arith, c.requires.1, c.loop-i-test.true) in let row : Row (length c.args.timers.now) (length c.args.codes.now) (length c.args.constants.now) c.loop-i.from c.loop-i.to (get_or c.args.test_counts.now c.loop-i.i 0) = let n = (nth_transition c.requires.0 c.loop-i.i below).1 in
+overflow_cast-count c = let below : c.loop-i.i < length c.requires.0.transitions = omega (arith, c.requires.1, c.loop-i-test.true) in
+    let row : Row (length c.args.timers.now) (length c.args.codes.now) (length c.args.constants.now) c.loop-i.from c.loop-i.to
+    (get_or c.args.test_counts.now c.loop-i.i 0) = let n = (nth_transition c.requires.0 c.loop-i.i below).1 in
     let x = c.loop-i.invariant.4 c.requires.0 c.requires.1 c.requires.2 c.requires.3 in
     let its = test_count_at n c.requires.3.test_counts in
     record {
@@ -35,7 +38,9 @@ overflow_cast-count c = let below : c.loop-i.i < length c.requires.0.transitions
     } in record { fits = omega (arith, row) }
 
 pub overflow_add-from : goal.overflow_add-from
-overflow_add-from c = let below : c.loop-i.i < length c.requires.0.transitions = omega (arith, c.requires.1, c.loop-i-test.true) in let row : Row (length c.args.timers.now) (length c.args.codes.now) (length c.args.constants.now) c.loop-i.from c.loop-i.to (get_or c.args.test_counts.now c.loop-i.i 0) = let n = (nth_transition c.requires.0 c.loop-i.i below).1 in
+overflow_add-from c = let below : c.loop-i.i < length c.requires.0.transitions = omega (arith, c.requires.1, c.loop-i-test.true) in
+    let row : Row (length c.args.timers.now) (length c.args.codes.now) (length c.args.constants.now) c.loop-i.from c.loop-i.to
+    (get_or c.args.test_counts.now c.loop-i.i 0) = let n = (nth_transition c.requires.0 c.loop-i.i below).1 in
     let x = c.loop-i.invariant.4 c.requires.0 c.requires.1 c.requires.2 c.requires.3 in
     let its = test_count_at n c.requires.3.test_counts in
     record {
@@ -52,7 +57,9 @@ leaves_reached-requires c = let below : c.loop-i.i < length c.requires.0.transit
 )
 
 pub move_tests-requires : goal.move_tests-requires
-move_tests-requires c = let below : c.loop-i.i < length c.requires.0.transitions = omega (arith, c.requires.1, c.loop-i-test.true) in let row : Row (length c.args.timers.now) (length c.args.codes.now) (length c.args.constants.now) c.loop-i.from c.loop-i.to (get_or c.args.test_counts.now c.loop-i.i 0) = let n = (nth_transition c.requires.0 c.loop-i.i below).1 in
+move_tests-requires c = let below : c.loop-i.i < length c.requires.0.transitions = omega (arith, c.requires.1, c.loop-i-test.true) in
+    let row : Row (length c.args.timers.now) (length c.args.codes.now) (length c.args.constants.now) c.loop-i.from c.loop-i.to
+    (get_or c.args.test_counts.now c.loop-i.i 0) = let n = (nth_transition c.requires.0 c.loop-i.i below).1 in
     let x = c.loop-i.invariant.4 c.requires.0 c.requires.1 c.requires.2 c.requires.3 in
     let its = test_count_at n c.requires.3.test_counts in
     record {
@@ -60,10 +67,17 @@ move_tests-requires c = let below : c.loop-i.i < length c.requires.0.transitions
       in_timers = tests_room x n its (timers_each c.requires.0) c.requires.3.timers;
       in_codes = tests_room x n its (codes_each c.requires.0) c.requires.3.codes;
       in_constants = tests_room x n its (constants_each c.requires.0) c.requires.3.constants;
-    } in (row.up, omega (arith, row.in_timers, c.loop-i.invariant.1), omega (arith, row.in_codes, c.loop-i.invariant.2), omega (arith, row.in_constants, c.loop-i.invariant.3))
+    } in (
+      row.up,
+      omega (arith, row.in_timers, c.loop-i.invariant.1),
+      omega (arith, row.in_codes, c.loop-i.invariant.2),
+      omega (arith, row.in_constants, c.loop-i.invariant.3),
+    )
 
 pub overflow_add-to : goal.overflow_add-to
-overflow_add-to c = let below : c.loop-i.i < length c.requires.0.transitions = omega (arith, c.requires.1, c.loop-i-test.true) in let row : Row (length c.args.timers.now) (length c.args.codes.now) (length c.args.constants.now) c.loop-i.from c.loop-i.to (get_or c.args.test_counts.now c.loop-i.i 0) = let n = (nth_transition c.requires.0 c.loop-i.i below).1 in
+overflow_add-to c = let below : c.loop-i.i < length c.requires.0.transitions = omega (arith, c.requires.1, c.loop-i-test.true) in
+    let row : Row (length c.args.timers.now) (length c.args.codes.now) (length c.args.constants.now) c.loop-i.from c.loop-i.to
+    (get_or c.args.test_counts.now c.loop-i.i 0) = let n = (nth_transition c.requires.0 c.loop-i.i below).1 in
     let x = c.loop-i.invariant.4 c.requires.0 c.requires.1 c.requires.2 c.requires.3 in
     let its = test_count_at n c.requires.3.test_counts in
     record {

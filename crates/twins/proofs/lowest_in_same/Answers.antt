@@ -9,7 +9,8 @@ pub loop-i-init : goal.loop-i-init
 loop-i-init c = (refl, alike_first _ _ c.requires)
 
 pub returns-then-lowest-j : goal.returns-then-lowest-j
-returns-then-lowest-j c = let next : Alike c.args.sets.now c.args.j (c.loop-i.i + 1) c.narrow-alike.result.bits = rw c.narrow-alike.ensures (alike_next _ _ c.loop-i.invariant.1 (omega arith)) in
+returns-then-lowest-j c = let next : Alike c.args.sets.now c.args.j (c.loop-i.i + 1) c.narrow-alike.result.bits =
+    rw c.narrow-alike.ensures (alike_next _ _ c.loop-i.invariant.1 (omega arith)) in
     alike_own _ _ next (sym c.lowest.ensures ∙ c.if-lowest-j.true)
 
 pub loop-i-preserved : goal.loop-i-preserved

@@ -19,7 +19,8 @@ loop-j-preserved-then-twin-here c = (
   omega arith,
   simp length-set c.loop-j.invariant.1,
   rw (c.lowest_in_same-twin.ensures _ c.loop-j-test.true) (filled_more _ c.loop-j.lowest c.loop-j.j (omega arith) c.loop-j.invariant.2),
-  c.with-own.ensures ∙ rw c.loop-j.invariant.3 (sym (own_yes _ _ c.loop-j.j (eq-eqb _ _ (sym (c.lowest_in_same-twin.ensures _ c.loop-j-test.true) ∙ c.if-twin-here.true)))),
+  c.with-own.ensures ∙ rw c.loop-j.invariant.3
+      (sym (own_yes _ _ c.loop-j.j (eq-eqb _ _ (sym (c.lowest_in_same-twin.ensures _ c.loop-j-test.true) ∙ c.if-twin-here.true)))),
 )
 
 pub loop-j-preserved : goal.loop-j-preserved
@@ -27,9 +28,13 @@ loop-j-preserved c = (
   omega arith,
   simp length-set c.loop-j.invariant.1,
   rw (c.lowest_in_same-twin.ensures _ c.loop-j-test.true) (filled_more _ c.loop-j.lowest c.loop-j.j (omega arith) c.loop-j.invariant.2),
-  c.loop-j.invariant.3 ∙ sym (own_no _ _ c.loop-j.j (ne_eqb _ _ (λ e. c.if-twin-here.false ((c.lowest_in_same-twin.ensures _ c.loop-j-test.true) ∙ e)))),
+  c.loop-j.invariant.3 ∙ sym
+      (own_no _ _ c.loop-j.j (ne_eqb _ _ (λ e. c.if-twin-here.false ((c.lowest_in_same-twin.ensures _ c.loop-j-test.true) ∙ e)))),
 )
 
 pub returns : goal.returns
 unfolding own_lowest
-returns c = record { listed = let e : c.loop-j.j ≡ c.args.timers = omega arith in λ k h. c.loop-j.invariant.2 k (omega arith); own = let e : c.loop-j.j ≡ c.args.timers = omega arith in c.loop-j.invariant.3 ∙ ap (own_below _ _) e }
+returns c = record {
+  listed = let e : c.loop-j.j ≡ c.args.timers = omega arith in λ k h. c.loop-j.invariant.2 k (omega arith);
+  own = let e : c.loop-j.j ≡ c.args.timers = omega arith in c.loop-j.invariant.3 ∙ ap (own_below _ _) e;
+}

@@ -20,18 +20,22 @@ loop-left-init c = rw c.minus-left.ensures (
 )
 
 pub bounds-lowest-j : goal.bounds-lowest-j
-bounds-lowest-j c = let chosen : member c.loop-left.left.bits c.lowest-j.result ≡ true = rw c.lowest-j.ensures (lowest_member_lem _ c.loop-left.invariant.0 (λ e. not_both (c.is_empty.ensures ∙ eq-eqb _ _ e) c.loop-left-test.true)) in
+bounds-lowest-j c = let chosen : member c.loop-left.left.bits c.lowest-j.result ≡ true =
+    rw c.lowest-j.ensures (lowest_member_lem _ c.loop-left.invariant.0 (λ e. not_both (c.is_empty.ensures ∙ eq-eqb _ _ e) c.loop-left-test.true)) in
     c.loop-left.invariant.1.listed _ chosen
 
 pub with-merged-requires : goal.with-merged-requires
-with-merged-requires c = let chosen : member c.loop-left.left.bits c.lowest-j.result ≡ true = rw c.lowest-j.ensures (lowest_member_lem _ c.loop-left.invariant.0 (λ e. not_both (c.is_empty.ensures ∙ eq-eqb _ _ e) c.loop-left-test.true)) in
+with-merged-requires c = let chosen : member c.loop-left.left.bits c.lowest-j.result ≡ true =
+    rw c.lowest-j.ensures (lowest_member_lem _ c.loop-left.invariant.0 (λ e. not_both (c.is_empty.ensures ∙ eq-eqb _ _ e) c.loop-left-test.true)) in
     low_small c.loop-left.invariant.1 c.loop-left.invariant.0 _ chosen
 
 pub loop-left-smaller : goal.loop-left-smaller
-loop-left-smaller c = rw c.without_lowest-left.ensures (without_less _ c.loop-left.invariant.0 (λ e. not_both (c.is_empty.ensures ∙ eq-eqb _ _ e) c.loop-left-test.true))
+loop-left-smaller c = rw c.without_lowest-left.ensures
+    (without_less _ c.loop-left.invariant.0 (λ e. not_both (c.is_empty.ensures ∙ eq-eqb _ _ e) c.loop-left-test.true))
 
 pub loop-left-preserved : goal.loop-left-preserved
-loop-left-preserved c = let chosen : member c.loop-left.left.bits c.lowest-j.result ≡ true = rw c.lowest-j.ensures (lowest_member_lem _ c.loop-left.invariant.0 (λ e. not_both (c.is_empty.ensures ∙ eq-eqb _ _ e) c.loop-left-test.true)) in
+loop-left-preserved c = let chosen : member c.loop-left.left.bits c.lowest-j.result ≡ true =
+    rw c.lowest-j.ensures (lowest_member_lem _ c.loop-left.invariant.0 (λ e. not_both (c.is_empty.ensures ∙ eq-eqb _ _ e) c.loop-left-test.true)) in
     rw (c.without_lowest-left.ensures, ← c.lowest-j.ensures, c.with-merged.ensures) (
       removed_lt 64 _ _ c.loop-left.invariant.0,
       listed_fewer c.loop-left.invariant.1 _ (λ j m. and_left _ _ (sym (member_removed _ _ j) ∙ m)),

@@ -13,7 +13,8 @@ pub share_row-requires : goal.share_row-requires
 share_row-requires c = (c.requires.0.each c.loop-q.q (omega arith), omega (arith, c.loop-q.invariant.1, c.requires.1))
 
 pub loop-q-preserved-then-not-is_empty : goal.loop-q-preserved-then-not-is_empty
-loop-q-preserved-then-not-is_empty c = (refl, c.share_row.auto.cells ∙ c.loop-q.invariant.1, shared_row _ _ _ c.requires.0 (omega arith) c.loop-q.invariant.2 c.share_row.ensures)
+loop-q-preserved-then-not-is_empty c =
+    (refl, c.share_row.auto.cells ∙ c.loop-q.invariant.1, shared_row _ _ _ c.requires.0 (omega arith) c.loop-q.invariant.2 c.share_row.ensures)
 
 pub loop-q-preserved : goal.loop-q-preserved
 loop-q-preserved c = let word = c.type_inv.live c.loop-q.q in

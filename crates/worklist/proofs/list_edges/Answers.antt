@@ -1,11 +1,13 @@
 -- `list_edges` goes from the last edge to the first, and lists one a turn (Leaving).
-use mathlib.Core.Path.{◌≡◌, refl}
-use Prim.Native.Nat.{◌-◌, ◌<◌}
+use Rattle.std.proofs.Common.{◌≡◌, List, ℕ, ◌-◌, ◌<◌, ◌≤◌, length, get_or, length-set, refl, arith}
 use native.Mathlib.Nat.{le_refl}
-use native.Mathlib.Omega.{arith}
-use lib.ListN.{length, get_or, length-set}
 use Rattle.worklist.proofs.Leaving.{listed_none, listed_more, listed_firsts, listed_nexts}
 use Rattle.worklist.proofs.list_edges.Goals as goal
+
+-- the edge that a turn lists leaves a location
+source : (from first : List ℕ) (m i : ℕ) → ((j : ℕ) → j < length from → get_or from j 0 < m) → length first ≡ m → 0 < i → i ≤ length from
+    → get_or from (i - 1) 0 < length first
+source from first m i h e l b = omega (arith, h (i - 1) (omega arith), e)
 
 pub loop-i-init : goal.loop-i-init
 loop-i-init c = (le_refl _, refl, refl, listed_none _ _ _ c.requires.0 c.requires.2)
@@ -17,51 +19,31 @@ pub offset_bounds-first-q : goal.offset_bounds-first-q
 offset_bounds-first-q c = omega (arith, (c.type_inv.from (c.loop-i.i - 1)).fits)
 
 pub bounds-first-q : goal.bounds-first-q
-bounds-first-q c = (let source' : get_or c.args.from.now (c.loop-i.i - 1) 0 < length c.loop-i.first = omega (
-  arith,
-  c.requires.3 (c.loop-i.i - 1) (let below' : (c.loop-i.i - 1) < length c.args.from.now = omega (arith, c.loop-i-test.true, c.loop-i.invariant.0) in
-      below'),
-  c.loop-i.invariant.1,
-) in
-    source')
+bounds-first-q c = let v = c.loop-i.invariant in source _ _ _ c.loop-i.i c.requires.3 v.1 (omega arith) v.0
 
 pub offset_bounds-first-q-in-loop-i : goal.offset_bounds-first-q-in-loop-i
 offset_bounds-first-q-in-loop-i c = omega (arith, (c.type_inv.from (c.loop-i.i - 1)).fits)
 
 pub bounds-first-q-in-loop-i : goal.bounds-first-q-in-loop-i
-bounds-first-q-in-loop-i c = (let source' : get_or c.args.from.now (c.loop-i.i - 1) 0 < length c.loop-i.first = omega (
-  arith,
-  c.requires.3 (c.loop-i.i - 1) (let below' : (c.loop-i.i - 1) < length c.args.from.now = omega (arith, c.loop-i-test.true, c.loop-i.invariant.0) in
-      below'),
-  c.loop-i.invariant.1,
-) in
-    source')
+bounds-first-q-in-loop-i c = let v = c.loop-i.invariant in source _ _ _ c.loop-i.i c.requires.3 v.1 (omega arith) v.0
 
 pub loop-i-preserved : goal.loop-i-preserved
-loop-i-preserved c = (
-  omega (
-    arith,
-    (let below' : (c.loop-i.i - 1) < length c.args.from.now = omega (arith, c.loop-i-test.true, c.loop-i.invariant.0) in
-        below'),
-  ),
-  rw length-set c.loop-i.invariant.1,
-  rw length-set c.loop-i.invariant.2,
-  listed_more c.loop-i.invariant.3 (c.loop-i.i - 1) (omega (arith, c.loop-i-test.true)) (let below' : (c.loop-i.i - 1) < length c.args.from.now = omega (arith, c.loop-i-test.true, c.loop-i.invariant.0) in
-      below') (let source' : get_or c.args.from.now (c.loop-i.i - 1) 0 < length c.loop-i.first = omega (
-        arith,
-        c.requires.3 (c.loop-i.i - 1) (let below' : (c.loop-i.i - 1) < length c.args.from.now = omega (arith, c.loop-i-test.true, c.loop-i.invariant.0) in
-            below'),
-        c.loop-i.invariant.1,
-      ) in
-      source')
-      (omega (
-        arith,
-        (let below' : (c.loop-i.i - 1) < length c.args.from.now = omega (arith, c.loop-i-test.true, c.loop-i.invariant.0) in
-            below'),
-        c.requires.1,
-        c.loop-i.invariant.2,
-      )),
-)
+loop-i-preserved c =
+    let v = c.loop-i.invariant in
+    let below : c.loop-i.i - 1 < length c.args.from.now = omega (arith, c.loop-i-test.true, v.0) in (
+      omega (arith, below),
+      rw length-set v.1,
+      rw length-set v.2,
+      listed_more v.3 (c.loop-i.i - 1) (omega (arith, c.loop-i-test.true)) below
+          (source _ _ _ c.loop-i.i c.requires.3 v.1 (omega arith) v.0)
+          (omega (arith, below, c.requires.1, v.2)),
+    )
 
 pub returns : goal.returns
-returns c = record { firsts = let none_left : c.loop-i.i ≡ 0 = omega (arith, c.loop-i-test.false) in listed_firsts c.loop-i.invariant.3 none_left; nexts = let none_left : c.loop-i.i ≡ 0 = omega (arith, c.loop-i-test.false) in listed_nexts c.loop-i.invariant.3 none_left (omega (arith, c.requires.1, c.loop-i.invariant.2)) }
+returns c =
+    let v = c.loop-i.invariant in
+    let none_left : c.loop-i.i ≡ 0 = omega (arith, c.loop-i-test.false) in
+    record {
+      firsts = listed_firsts v.3 none_left;
+      nexts = listed_nexts v.3 none_left (omega (arith, c.requires.1, v.2));
+    }
