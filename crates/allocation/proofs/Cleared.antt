@@ -16,7 +16,8 @@ front_length m h = length-take-le m (replicate {A = ℕ} most_locations 0) (omeg
 
 pub fresh : (live cells at : List ℕ) → length live ≤ most_locations → length cells ≡ 64 * length live
     → ((x : ℕ) → x < 64 * length live → get_or cells x 0 ≡ no_number) → length at ≡ length live → ((s : ℕ) → get_or at s 0 ≡ 0)
-    → Fresh live (take (length live) (replicate most_locations 0)) (take (length live) (replicate most_locations 0)) cells (replicate held_length 0) at
+    → Fresh live (take (length live) (replicate most_locations 0)) (take (length live) (replicate most_locations 0)) cells
+    (replicate held_length 0) at
 fresh live cells at few long unnumbered at_long none_at = record {
   sets_long = front_length (length live) few;
   placed_long = front_length (length live) few;

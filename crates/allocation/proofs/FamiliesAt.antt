@@ -64,7 +64,8 @@ contains_last f (g ∷ gs) (suc i) s = rw (eqb-suc-suc i (length gs)) (contains_
 module _ {fs : List Family} {at : List ℕ} (so : FamiliesAt fs at) (sets : List ℕ) (long : length at ≡ length sets) where
   pub at_more : (f : Family) (j : ℕ) {place : ℕ} → ((s : ℕ) → in_family sets j s ≡ memb s f.locations) → place ≡ length fs → (after : List ℕ)
       → length after ≡ length sets
-      → ((s i : ℕ) → s < length sets → i < most_searched → member (get_or after s 0) i ≡ marked sets j place at s i) → FamiliesAt (fs ++ (f ∷ [])) after
+      → ((s i : ℕ) → s < length sets → i < most_searched → member (get_or after s 0) i ≡ marked sets j place at s i)
+      → FamiliesAt (fs ++ (f ∷ [])) after
   unfolding marked
   at_more f j its is after wide marks = record {
     holds = λ s i h k. marks s i (omega (arith, h, wide)) k

@@ -22,7 +22,8 @@ module _ (place : ℕ → ℕ → ℕ) (sets : List ℕ) (j column : ℕ) (value
   changed_no e i = go (eqb column i)
     where
       go : (b : Bool)
-          → elim (b && in_family sets j s) [ true ↦ value (get_or before (place s i) 0) | false ↦ get_or before (place s i) 0 ] ≡ get_or before (place s i) 0
+          → elim (b && in_family sets j s) [ true ↦ value (get_or before (place s i) 0) | false ↦ get_or before (place s i) 0 ] ≡ get_or before
+          (place s i) 0
       go true = rw e refl
       go false = refl
 
@@ -66,7 +67,8 @@ module _ {place : ℕ → ℕ → ℕ} {columns : ℕ} {sets : List ℕ} {j colu
       left = λ q i h b k. other q i (λ e. omega arith) b k ∙ r.left q i (omega arith) b k;
     }
       where
-        go : (q i : ℕ) → i < columns → q < most_locations → Dec (q ≡ s) → (q ≢ s → get_or l (place q i) 0 ≡ changed place sets j column value before q i)
+        go : (q i : ℕ) → i < columns → q < most_locations → Dec (q ≡ s)
+            → (q ≢ s → get_or l (place q i) 0 ≡ changed place sets j column value before q i)
             → get_or m (place q i) 0 ≡ changed place sets j column value before q i
         go q i k b (yes e) f = rw e (row i k)
         go q i k b (no ne) f = other q i ne b k ∙ f ne

@@ -103,7 +103,8 @@ module _ {p : Pairs} {live ones others linked : List ℕ} (d : Described p live 
       only = λ s j m. let x = so.only s j m in (x.0, omega (arith, x.1));
     }
       where
-        go : (s j : ℕ) → is_pair p s j ≡ true → (family_of p s j).first < q + 1 → Dec ((family_of p s j).first ≡ q) → member (get_or placed s 0) j ≡ true
+        go : (s j : ℕ) → is_pair p s j ≡ true → (family_of p s j).first < q + 1 → Dec ((family_of p s j).first ≡ q)
+            → member (get_or placed s 0) j ≡ true
         go s j pair l (no n) = so.has s j pair (omega arith)
         go s j pair l (yes e) = absurd (not_both (first_here s j pair e).0 (no_root j))
 

@@ -94,7 +94,8 @@ module _ (sets : List ℕ) (j number : ℕ) (few : j < 64) (cells after : List �
         go (inr e) = words_agree s w x h a b ∙ sym (row_kept s h e (64 * w + x))
 
     pub words_held : number < held_numbers → (words : List ℕ)
-        → ((s v : ℕ) → s < length sets → v < held_words → get_or words (most_locations * v + s) 0 ≡ holding sets j (number / 64) (number % 64) held s v)
+        → ((s v : ℕ) → s < length sets → v < held_words
+        → get_or words (most_locations * v + s) 0 ≡ holding sets j (number / 64) (number % 64) held s v)
         → WordsAgree after words (length sets)
     unfolding WordsAgree holding
     words_held small words has s w x h a b = go (yes_or_no (in_family sets j s)) (ℕ_discrete (number / 64) w)
@@ -109,7 +110,8 @@ module _ (sets : List ℕ) (j number : ℕ) (few : j < 64) (cells after : List �
           where
             word : holding sets j (number / 64) (number % 64) held s w ≡ added (get_or held (most_locations * w + s) 0) (number % 64)
             word =
-                subst (λ (v : ℕ). holding sets j (number / 64) (number % 64) held s v ≡ added (get_or held (most_locations * v + s) 0) (number % 64)) p
+                subst (λ (v : ℕ). holding sets j (number / 64) (number % 64) held s v ≡ added (get_or held (most_locations * v + s) 0) (number % 64))
+                p
                 (changed_here word_place sets j (number / 64) (λ y. added y (number % 64)) held s e)
 
             same : eqb x (number % 64) ≡ eqb number (64 * w + x)

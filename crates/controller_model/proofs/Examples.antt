@@ -186,7 +186,7 @@ second_not_first ks x =
 
 first_can : CanTake choice 0 choosing 0 1 (arrow 1 2 [] (test 0 Below 3 ∷ []))
 unfolding controller_compute choice choosing state_with waiting_at
-first_can = record { is_nth = record { there = refl }; leaves = refl; on_event_lem = refl; tests_met = refl }
+first_can = record { is_nth = record { there = refl }; leaves = refl; on_event = refl; tests_met = refl }
 
 -- the lower one is taken
 pub lower_taken : ServedBy choice 0 choosing (chosen 1 2)

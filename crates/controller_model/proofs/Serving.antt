@@ -62,13 +62,13 @@ module _ (c : Chart) (o : ℕ) (s : Controller) where
       record {
         is_nth = n;
         leaves = same_number (and_left (eqb r.source d.location) (eqb r.event d.event && met) e);
-        on_event_lem = same_number (and_left (eqb r.event d.event) met rest);
+        on_event = same_number (and_left (eqb r.event d.event) met rest);
         tests_met = and_right (eqb r.event d.event) met rest;
       }
 
   can_in : {k : ℕ} {r : Transition} → CanTake c o s s.turn k r → can_take c x d.event t r ≡ true
   unfolding can_take state_of
-  can_in {k} {r} y = and_both (eq-eqb r.source d.location y.leaves) (and_both (eq-eqb r.event d.event y.on_event_lem) y.tests_met)
+  can_in {k} {r} y = and_both (eq-eqb r.source d.location y.leaves) (and_both (eq-eqb r.event d.event y.on_event) y.tests_met)
 
   -- none before the one that is found
   none_lower : (k : ℕ) (q : Transition) → k < i → CanTake c o s s.turn k q → ⊥

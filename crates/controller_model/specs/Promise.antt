@@ -43,7 +43,7 @@ counts_at_event c o s h = let d = head_at s h in grown (d.waiting_time - d.time)
 pub record CanTake (c : Chart) (o : ℕ) (s : Controller) (h i : ℕ) (r : Transition) : Type 0 where
   pub is_nth : Nth c i r
   pub leaves : r.source ≡ (head_at s h).location
-  pub on_event_lem : r.event ≡ (head_at s h).event
+  pub on_event : r.event ≡ (head_at s h).event
   pub tests_met : enabled c r (counts_at_event c o s h) ≡ true
 
 -- a turn leaves its head at a location at the event's time, nothing waiting, with these counts

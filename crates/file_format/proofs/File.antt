@@ -120,10 +120,10 @@ module _ (bs : List ℕ) (c : Chart) (by : Bytes bs) (e : chart_in bs ≡ return
   -- a file that is read as a chart is the one that is written for it, byte for byte
   pub file_survives : file_of c ≡ bs
   unfolding file_of
-  file_survives = sym read_as.written
+  file_survives = sym read_as_lem.written
 
   pub reads_storable : Storable c
-  reads_storable = record { known = read_as.is_known; valid = read_as.valid }
+  reads_storable = record { known = read_as_lem.is_known; valid = read_as_lem.valid }
 
   -- valid for the constants of its version
   pub reads_valid : Valid (width_of c.version) c

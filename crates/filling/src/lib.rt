@@ -8,7 +8,7 @@ ghost use Rattle.std.specs.Prelude.{◌≡◌, ◌⊎◌, List, ℕ, ◌≤◌, 
 ghost use Rattle.model.specs.Answer.{returned, nowhere};
 ghost use Rattle.model.specs.Chart.{Chart};
 ghost use Rattle.chart_lists.specs.Lists.{lists_of, put, put_lists};
-ghost use Rattle.chart_lists.specs.Lent.{passed, at_entry, at_exit};
+ghost use Rattle.chart_lists.specs.Lent.{passed_mut, mut_at_entry, at_exit};
 ghost use Rattle.chart_lists.specs.Read.{read_as};
 ghost use Rattle.file_format.specs.Parse.{value, rising};
 ghost use Rattle.file_format.specs.Body.{FileHeader, read_header};
@@ -97,11 +97,11 @@ pub fn fill(
     codes: &mut [u8],
     constants: &mut [u32],
 ) -> Read
-    requires { RoomToFill file.now (passed accepting sources targets events starts test_counts timers codes constants) }
+    requires { RoomToFill file.now (passed_mut accepting sources targets events starts test_counts timers codes constants) }
     ensures answer { read_as result ≡ header_read file.now }
     ensures lists { ((c : Chart) → chart_in file.now ≡ returned c
         → at_exit accepting sources targets events starts test_counts timers codes constants
-        ≡ put_lists (lists_of c) (at_entry accepting sources targets events starts test_counts timers codes constants)) }
+        ≡ put_lists (lists_of c) (mut_at_entry accepting sources targets events starts test_counts timers codes constants)) }
 {
     let a = file_judging::frame(file);
     let Field::Value(version, body) = a else {

@@ -11,7 +11,7 @@ ghost use Rattle.chart_lists.specs.Lists.{put};
 ghost use Rattle.chart_lists.specs.Header.{header_of};
 ghost use Rattle.chart_lists.specs.Begins.{Begins};
 ghost use Rattle.chart_lists.specs.Holds.{Holds};
-ghost use Rattle.chart_lists.specs.Lent.{passed, at_exit};
+ghost use Rattle.chart_lists.specs.Lent.{passed_mut, at_exit};
 ghost use Rattle.chart_lists.specs.Limits.{most_transitions};
 ghost use Rattle.chart_lists.specs.Read.{read_as};
 ghost use Rattle.file_format.specs.File.{chart_in};
@@ -216,7 +216,7 @@ pub fn judge(
     constants: &mut [u32],
     tested: &mut [u64],
 ) -> Read
-    requires { LargestLists (passed accepting sources targets events starts test_counts timers codes constants)
+    requires { LargestLists (passed_mut accepting sources targets events starts test_counts timers codes constants)
         × (most_transitions ≤ length tested.old) }
     ensures answer { read_as result ≡ judged_header file.now }
     ensures lists { ((c : Chart) → chart_in file.now ≡ returned c

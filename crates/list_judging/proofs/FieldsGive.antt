@@ -87,7 +87,8 @@ module _ {A : Type 0} (w v : ℕ) (fits : v < 256 ^ w) where
   limit_read limit n p k h = simp (bind_assoc, bind_guard) (number_read _ (reads_unless (ltb v limit) n p h))
 
 -- an entry of a list
-pub entry_read : (w : ℕ) (l : List ℕ) (k : ℕ) → All (λ x. x < 256 ^ suc w) l → FieldsGive (entry_field (suc w) l k ∷ []) (number (suc w)) (entry_at l k)
+pub entry_read : (w : ℕ) (l : List ℕ) (k : ℕ) → All (λ x. x < 256 ^ suc w) l
+    → FieldsGive (entry_field (suc w) l k ∷ []) (number (suc w)) (entry_at l k)
 unfolding entry_field entry_at bytes_of
 entry_read w l k fits = go (get_elem? l k) refl
   where

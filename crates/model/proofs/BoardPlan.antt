@@ -77,7 +77,7 @@ module _ {W : ℕ} {c : Chart} (valid : Valid W c) where
           number = i;
           transition = r;
           is_nth = n;
-          not_started_lem = f;
+          not_started = f;
           ends = inl (refl, refl);
           live_one = live_itself back;
           live_other = live_itself y.0;

@@ -78,7 +78,7 @@ module _ {W : ℕ} {c : Chart} (valid : Valid W c) where
   first_fit_shares = record {
     numbered = live_number valid;
     live = number_live valid;
-    one_number_lem = λ q s j i k a t l e. (number_iff valid s i k).1 (
+    one_number = λ q s j i k a t l e. (number_iff valid s i k).1 (
       l,
       ap (number_at (board c) s) (sym (same_lowest c t))
           ∙ sym (joined_same formed ((pair_twin valid q j).1 a.pair) ((joined_iff valid j q s a.pair).1 a))

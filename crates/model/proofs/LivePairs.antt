@@ -97,19 +97,19 @@ module _ {W : ℕ} {c : Chart} (valid : Valid W c) where
           number = l.number;
           transition = x.0;
           is_nth = record { there = x.1 };
-          not_started_lem = (twin_lowest valid live).twin.together l.number x.0 (record { there = x.1 }) ∙ k.2;
+          not_started = (twin_lowest valid live).twin.together l.number x.0 (record { there = x.1 }) ∙ k.2;
           ends = e;
           live_one = b.0;
           live_other = b.1;
         },
     λ l.
         let b = (at_ends (link c l.transition) l.ends).1 (l.live_one, l.live_other) in
-        let not_started_lem = sym ((twin_lowest valid l.live_one).twin.together l.number l.transition l.is_nth) ∙ l.not_started_lem in
+        let not_started = sym ((twin_lowest valid l.live_one).twin.together l.number l.transition l.is_nth) ∙ l.not_started in
         record {
           number = l.number;
           link = link c l.transition;
           is_nth = nth_map (link c) c.transitions l.number l.is_nth.there;
-          holds = (kept_iff c (merged_sets c) l.transition m).1 ((pair_twin valid _ j).1 b.0, (pair_twin valid _ j).1 b.1, not_started_lem);
+          holds = (kept_iff c (merged_sets c) l.transition m).1 ((pair_twin valid _ j).1 b.0, (pair_twin valid _ j).1 b.1, not_started);
           ends = l.ends;
         },
   )

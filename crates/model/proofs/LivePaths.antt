@@ -51,10 +51,10 @@ way_live_iff c j k q = (out, λ l. back l.live.front l.live l.live.leads l.live.
     }
     out (by_edge i n m) =
         let x = edge_of c backwards i.number i.is_nth in
-        let not_started_lem = sym (member_starts x.transition j) ∙ ap (λ (y : Edge). member y.cut j) x.is_edge ∙ n in
+        let not_started = sym (member_starts x.transition j) ∙ ap (λ (y : Edge). member y.cut j) x.is_edge ∙ n in
         let l = subst (λ (s : ℕ). LiveWithin c k s j) (sym (ap (λ (y : Edge). y.from) x.is_edge)) m in
         subst (λ (s : ℕ). LiveWithin c (suc k) s j) (ap (λ (y : Edge). y.into) x.is_edge ∙ i.leads)
-        (record { live = live_back x.is_nth not_started_lem l.live; at_most = omega (arith, l.at_most) })
+        (record { live = live_back x.is_nth not_started l.live; at_most = omega (arith, l.at_most) })
 
     into : {i : ℕ} {r : Transition} → Nth c i r → r.source ≡ q → EdgeInto (live_flow c) q (backwards r)
     into {r = r} n leaves = subst (λ (s : ℕ). EdgeInto (live_flow c) s (backwards r)) leaves (edge_to c (λ q. 0) backwards n)

@@ -54,7 +54,7 @@ module _ {c : Chart} {j : ℕ} where
         transition = w.0;
         is_nth = w.1;
         leaves = w.2;
-        not_started_lem = u.0 w.0 w.1;
+        not_started = u.0 w.0 w.1;
         live = record { front = p; end = l.end; leads = w.3; unstarted = u.1; read = l.read };
       })
 

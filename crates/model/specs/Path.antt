@@ -36,7 +36,7 @@ pub record LiveOnward (c : Chart) (q j : ℕ) : Type 0 where
   pub transition : Transition
   pub is_nth : Nth c number transition
   pub leaves : transition.source ≡ q
-  pub not_started_lem : memb j transition.starts ≡ false
+  pub not_started : memb j transition.starts ≡ false
   pub live : Live c transition.target j
 
 -- active on r: live at its target

@@ -18,7 +18,7 @@ pub record LiveLink (c : Chart) (j q s : ℕ) : Type 0 where
   pub number : ℕ
   pub transition : Transition
   pub is_nth : Nth c number transition
-  pub not_started_lem : memb j transition.starts ≡ false
+  pub not_started : memb j transition.starts ≡ false
   pub ends : Between transition.source transition.target q s
   pub live_one : TwinLive c q j
   pub live_other : TwinLive c s j
@@ -67,7 +67,7 @@ pub record SharingRule (c : Chart) (N : Numbering) : Type 0 where
   -- and nowhere else
   pub live : (q j k : ℕ) → Has N q j k → Live c q j
   -- the pairs of a family, twins' pairs among them, have one number
-  pub one_number_lem : (q s j i k : ℕ) → SameFamily c j q s → Twins c j i → Live c s i → Has N q j k → Has N s i k
+  pub one_number : (q s j i k : ℕ) → SameFamily c j q s → Twins c j i → Live c s i → Has N q j k → Has N s i k
   -- no earlier family that the pair's family meets holds its number
   pub free : (q j k : ℕ) → Has N q j k → HeldEarlier c N q j k → ⊥
   -- and each smaller number is held by such a one

@@ -47,7 +47,8 @@ module _ (cells : List ℕ) (q : ℕ) where
   unfolding renamed_row
   row_more ts base k h done l {out} {v} d room o e =
       let b : k < length (drop base ts) = simp length-drop (omega arith) in
-      let long : length (done ++ renamed_row cells q (take k (drop base ts))) ≡ base + k = rw (length-append, d, length_row ts base k (omega arith)) in
+      let long : length (done ++ renamed_row cells q (take k (drop base ts))) ≡ base + k =
+      rw (length-append, d, length_row ts base k (omega arith)) in
       rw (add-one k, take-suc (drop base ts) k 0 b, map-append, ← append_assoc, get_or-drop, ← e)
       (put_last (done ++ renamed_row cells q (take k (drop base ts))) l v room long o)
 

@@ -7,11 +7,10 @@ ghost use Rattle.model.specs.Chart.{Chart};
 ghost use Rattle.model.specs.Valid.{Storable};
 ghost use Rattle.model.specs.Live.{tested_sets};
 ghost use Rattle.model.specs.Judge.{judged};
-ghost use Rattle.chart_lists.specs.Lists.{overwritten};
+ghost use Rattle.chart_lists.specs.Lists.{lists, overwritten};
 ghost use Rattle.chart_lists.specs.Header.{header_of};
 ghost use Rattle.chart_lists.specs.Begins.{Begins};
 ghost use Rattle.chart_lists.specs.Holds.{Holds};
-ghost use Rattle.chart_lists.specs.Lent.{passed, at_entry};
 ghost use Rattle.rewriting.specs.Rewriting.{new_file, values_of, rewrite_into, rewrite_answer, rewritten_as};
 ghost use Rattle.rewriting.specs.Parts.{fitted_into, JudgedInto};
 
@@ -48,13 +47,14 @@ fn fit<'a>(
     out: &mut [u8],
 ) -> Rewritten
     requires { (c : Chart) × (header ≡ header_of c) × (judged c ≡ returned c) × Storable c
-        × Holds c (passed accepting sources targets events starts test_counts timers codes constants) × Begins (tested_sets c) tested.now }
+        × Holds c (lists accepting.now sources.now targets.now events.now starts.old test_counts.old timers.old codes.old constants.old)
+        × Begins (tested_sets c) tested.now }
     ensures answer { ((c : Chart) → header ≡ header_of c → judged c ≡ returned c → Storable c
-        → Holds c (at_entry accepting sources targets events starts test_counts timers codes constants)
+        → Holds c (lists accepting.now sources.now targets.now events.now starts.old test_counts.old timers.old codes.old constants.old)
         → Begins (tested_sets c) tested.now
         → rewritten_as result ≡ then (fitted_into k (length out.old) c) (λ x. returned (values_of x))) }
     ensures lent { ((c : Chart) → header ≡ header_of c → judged c ≡ returned c → Storable c
-        → Holds c (at_entry accepting sources targets events starts test_counts timers codes constants)
+        → Holds c (lists accepting.now sources.now targets.now events.now starts.old test_counts.old timers.old codes.old constants.old)
         → Begins (tested_sets c) tested.now
         → out.new ≡ overwritten new_file (fitted_into k (length out.old) c) out.old) }
 {
@@ -116,12 +116,15 @@ fn rewrite_judged<'a>(
     out: &mut [u8],
 ) -> Rewritten
     requires { (bs : List ℕ)
-        × JudgedInto bs answer (passed accepting sources targets events starts test_counts timers codes constants) tested.now }
+        × JudgedInto bs answer (lists accepting.now sources.now targets.now events.now starts.old test_counts.old timers.old codes.old constants.old)
+            tested.now }
     ensures answer { ((bs : List ℕ)
-        → JudgedInto bs answer (at_entry accepting sources targets events starts test_counts timers codes constants) tested.now
+        → JudgedInto bs answer (lists accepting.now sources.now targets.now events.now starts.old test_counts.old timers.old codes.old constants.old)
+            tested.now
         → rewritten_as result ≡ rewrite_answer k (length out.old) bs) }
     ensures lent { ((bs : List ℕ)
-        → JudgedInto bs answer (at_entry accepting sources targets events starts test_counts timers codes constants) tested.now
+        → JudgedInto bs answer (lists accepting.now sources.now targets.now events.now starts.old test_counts.old timers.old codes.old constants.old)
+            tested.now
         → out.new ≡ overwritten new_file (rewrite_into k (length out.old) bs) out.old) }
 {
     match answer {

@@ -7,7 +7,7 @@ ghost use Rattle.model.specs.Spare.{spare_cleared};
 ghost use Rattle.model.specs.Places.{ReachedIfAsked};
 ghost use Rattle.model.specs.Rewrite.{Numbering, rewritten_by};
 ghost use Rattle.file_format.specs.File.{file_of};
-ghost use Rattle.chart_lists.specs.Lists.{overwritten};
+ghost use Rattle.chart_lists.specs.Lists.{lists, overwritten};
 ghost use Rattle.chart_lists.specs.Header.{header_of};
 ghost use Rattle.chart_lists.specs.Holds.{Holds};
 ghost use Rattle.chart_lists.specs.Lent.{passed, at_entry};
@@ -90,13 +90,14 @@ pub fn write_cleared<'a>(
     out: &mut [u8],
 ) -> Written
     requires { (c : Chart) × (N : Numbering) × (header ≡ header_of c) × ReachedIfAsked c
-        × Holds c (passed accepting sources targets events starts test_counts timers codes constants) × CellsOf (spare_cleared c) N cells.now }
+        × Holds c (lists accepting.now sources.now targets.now events.now starts.old test_counts.old timers.old codes.old constants.old)
+        × CellsOf (spare_cleared c) N cells.now }
     ensures answer { ((c : Chart) (N : Numbering) → header ≡ header_of c → ReachedIfAsked c
-        → Holds c (at_entry accepting sources targets events starts test_counts timers codes constants)
+        → Holds c (lists accepting.now sources.now targets.now events.now starts.old test_counts.old timers.old codes.old constants.old)
         → CellsOf (spare_cleared c) N cells.now → Storable (rewritten_by N (spare_cleared c)) → used ≡ N.used
         → written_as result ≡ then (into_room (length out.old) (rewritten_by N (spare_cleared c))) (λ d. returned (length (file_of d)))) }
     ensures lent { ((c : Chart) (N : Numbering) → header ≡ header_of c → ReachedIfAsked c
-        → Holds c (at_entry accepting sources targets events starts test_counts timers codes constants)
+        → Holds c (lists accepting.now sources.now targets.now events.now starts.old test_counts.old timers.old codes.old constants.old)
         → CellsOf (spare_cleared c) N cells.now → Storable (rewritten_by N (spare_cleared c)) → used ≡ N.used
         → out.new ≡ overwritten file_of (into_room (length out.old) (rewritten_by N (spare_cleared c))) out.old) }
 {

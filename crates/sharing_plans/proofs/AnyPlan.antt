@@ -25,13 +25,13 @@ sharing_plan_is_plan {c} {N} started plan = record {
         number = i;
         transition = r;
         is_nth = n;
-        not_started_lem = f;
+        not_started = f;
         ends = inr (refl, refl);
         live_one = live_itself l;
         live_other = live_itself back;
       } in
       let same : SameFamily c j r.target r.source = record { pair = live_itself l; way = r.source ∷ []; chain = (link, refl) } in
-      plan.one_number_lem r.target r.source j j k same (twins_refl j) back e;
+      plan.one_number r.target r.source j j k same (twins_refl j) back e;
   apart = λ q j j' k x e e' i r n y. (plan_different_here plan q j j' k e e').together i r n;
   below = plan.below;
 }

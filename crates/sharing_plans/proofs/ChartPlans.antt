@@ -163,7 +163,7 @@ module _ {W : ℕ} {c : Chart} (valid : Valid W c) where
         numbered = λ q j l. let e = families_have formed q (lowest_twin c j) ((pair_twin valid q j).1 (live_itself l)) in
             (f e.place, place_number q j e.place l e.is_nth);
         live = λ q j n e. (number_place q j n e).live;
-        one_number_lem = λ q s j i n a t l e.
+        one_number = λ q s j i n a t l e.
             let x = number_place q j n e in
             place_number s i x.place l (x.is_nth ∙ ap some (one_family a ∙ twins_family s t)) ∙ ap some x.number;
         different = different;
@@ -199,7 +199,7 @@ module _ {W : ℕ} {c : Chart} (valid : Valid W c) where
   rule_plan rule = record {
     numbered = rule.numbered;
     live = rule.live;
-    one_number_lem = rule.one_number_lem;
+    one_number = rule.one_number;
     different = λ q j s i n m e e'. (meeting_apart valid rule q j s i n m e e').0;
     below = rule.used_above;
   }

@@ -16,7 +16,7 @@ pub record SharingPlan (c : Chart) (N : Numbering) : Type 0 where
   -- and nowhere else
   pub live : (q j n : ℕ) → Has N q j n → Live c q j
   -- the pairs of a family, twins' pairs among them, have one number
-  pub one_number_lem : (q s j i n : ℕ) → SameFamily c j q s → Twins c j i → Live c s i → Has N q j n → Has N s i n
+  pub one_number : (q s j i n : ℕ) → SameFamily c j q s → Twins c j i → Live c s i → Has N q j n → Has N s i n
   -- families that meet have different numbers; two of twins that meet are the same family
   pub different : (q j s i n : ℕ) → FamiliesMeet c q j s i → Has N q j n → Has N s i n → Twins c j i
   -- the numbers are those of its timers

@@ -24,7 +24,8 @@ use Rattle.forward.proofs.ChartSets.{own_safe, reached_are}
 pub holds_ends : {c : Chart} {l : Lists} → Holds c l → Holds c (edges_of c l.sources l.targets (lists_of c).starts)
 holds_ends h = holds_transitions h h.sources h.targets (begins_self _) (begins_self _) (begins_self _)
 
-module _ (c : Chart) {m : Header} (e : m ≡ header_of c) {sources targets : List ℕ} (h : Holds c (edges_of c sources targets (lists_of c).starts)) where
+module _ (c : Chart) {m : Header} (e : m ≡ header_of c) {sources targets : List ℕ}
+    (h : Holds c (edges_of c sources targets (lists_of c).starts)) where
   pub sources_part : m.transitions ≡ length (take m.transitions sources)
   sources_part = sym (each_part c e (sources_each c) h.sources)
 

@@ -21,7 +21,7 @@ module _ {W : ℕ} {c : Chart} (valid : Valid W c) where
   pub rule_number_iff : {N : Numbering} → SharingRule c N → (q j i k : ℕ) → Has N q j k → Live c q i → Has N q i k ↔ Twins c j i
   rule_number_iff rule q j i k e l =
       let here : SameFamily c j q q = record { pair = live_itself (rule.live q j k e); way = []; chain = refl } in
-      (different_here valid rule q j i k e, λ t. rule.one_number_lem q q j i k here t l e)
+      (different_here valid rule q j i k e, λ t. rule.one_number q q j i k here t l e)
 
 -- a location at which a timer has a number is reached, and what is live there in the chart is live in the part
 pub one_number_iff : {W : ℕ} {c : Chart} → Valid W c → (q j i k : ℕ) → Has (board_numbering (reached_part c)) q j k → Live c q i

@@ -51,7 +51,8 @@ module _ (f g : ℕ → ℕ) (sets : List ℕ) (same : (q j : ℕ) → q < lengt
       ∙ sym (get_d_map_all (image g) (image_empty g) sets q))
 
   pub shared_same : (N : Numbering) → cells_of (through sets f N) (length sets) ≡ cells_of (through sets g N) (length sets)
-  shared_same N = cells_is (through sets g N) (length sets) (cells_of (through sets f N) (length sets)) (cells_length (through sets f N) (length sets))
+  shared_same N = cells_is (through sets g N) (length sets) (cells_of (through sets f N) (length sets))
+      (cells_length (through sets f N) (length sets))
       (λ q j h b. cells_at (through sets f N) (length sets) q j h b ∙ ap cell (go q j h (yes_or_no (member (get_or sets q 0) j))))
     where
       go : (q j : ℕ) → q < length sets → (member (get_or sets q 0) j ≡ true) ⊎ (member (get_or sets q 0) j ≡ false)

@@ -85,7 +85,8 @@ module _ {live lowest : List ℕ} {own : ℕ} (s : LowestOf live lowest own) (N 
             let x = image_out (lowest_at lowest) (get_or live q 0) word j t in
             not_both x.1 (ap (member (get_or live q 0)) (sym (own_low x.0 x.1) ∙ x.2) ∙ m))
 
-        go : (member (get_or live q 0) j ≡ true) ⊎ (member (get_or live q 0) j ≡ false) → N.number q j ≡ (through live (lowest_at lowest) N).number q j
+        go : (member (get_or live q 0) j ≡ true) ⊎ (member (get_or live q 0) j ≡ false)
+            → N.number q j ≡ (through live (lowest_at lowest) N).number q j
         go (inl m) = sym (through_in live (lowest_at lowest) N q j m ∙ ap (N.number q) (own_low j m))
         go (inr m) =
             only.no_other q j (omega (arith, length-map live (image (lowest_at lowest))))

@@ -41,7 +41,8 @@ module _ (W : ℕ) (l : Lists) (timers i : ℕ) where
   tests_bytes_lem : (k g : ℕ) (ts : List Test) → tests_from l timers i k g ≡ returned ts → tests_bytes W l k g ≡ write_all (write_test W) ts
   unfolding tests_bytes
   tests_bytes_lem k g ts e =
-      let each = each_nth (test_item l timers i) no_state (TestOf l timers) (λ k s t. test_of l timers i k t) k 0 ts (tests_each l timers i k g ts e) in
+      let own = tests_each l timers i k g ts e in
+      let each = each_nth (test_item l timers i) no_state (TestOf l timers) (λ k s t. test_of l timers i k t) k 0 ts own in
       rw (← tests_length l timers i k g ts e)
       (gather_all (write_test W) ts (λ t. test_at W l (k + t)) (λ j t n. test_at_lem (k + j) t (each j t n)))
 

@@ -28,7 +28,8 @@ use Rattle.list_judging.specs.FromLists.{or_refused, entry_at, limited, entry_be
 use Rattle.list_judging.specs.FromLists.{test_from, tests_from, transition_from, transitions_from, fields_from, chart_from}
 use Rattle.list_judging.specs.Refusals.{LargeInVersion1}
 use Rattle.list_judging.proofs.Items.{items}
-use Rattle.list_judging.proofs.Parts.{accepting_item, next_lowest, accepting_items_lem, test_item, no_state, tests_items, next_tests, transitions_items}
+use Rattle.list_judging.proofs.Parts.{accepting_item, next_lowest, accepting_items_lem, test_item, no_state, tests_items}
+use Rattle.list_judging.proofs.Parts.{next_tests, transitions_items}
 use Rattle.list_judging.proofs.FieldOrder.{unknown_refused}
 use Rattle.writer.specs.Writing.{write_into, write_answer}
 use Rattle.writer.specs.Refusals.{WriteRefusal}

@@ -37,7 +37,8 @@ module _ (room : ℕ) (m : Header) (l : Lists) (out : List ℕ) where
       pub write_writable : Writable m l n room
       write_writable = record { chart = judged.0; is = judged.1; size = sym judged.2; fits = h }
 
-      pub write_done : (write_answer room m l ≡ returned n) × (overwritten file_of (write_into room m l) out ≡ overwritten file_of (chart_from m l) out)
+      pub write_done : (write_answer room m l ≡ returned n)
+          × (overwritten file_of (write_into room m l) out ≡ overwritten file_of (chart_from m l) out)
       unfolding write_answer write_into
       write_done =
           let c = judged in

@@ -2,7 +2,7 @@
 use mathlib.Core.Path.{◌≡◌, refl, sym, ap, ◌∙◌, subst}
 use mathlib.Core.Logic.{◌⊎◌, inl, inr}
 use mathlib.Core.List.{List}
-use Prim.Native.Nat.{ℕ, ◌+◌, ◌-◌, ◌≤◌, ◌<◌}
+use Prim.Native.Nat.{ℕ, ◌+◌, ◌≤◌, ◌<◌}
 use native.Mathlib.Omega.{arith}
 use lib.Bits.{or_comm}
 use lib.ListN.{get_or, set, length-set}
@@ -29,7 +29,8 @@ loop-s-init c = (omega arith, refl, c.requires.0, c.requires.1, λ q h. absurd (
 
 pub loop-s-preserved : goal.loop-s-preserved
 loop-s-preserved c = let new : ℕ → ℕ = λ q. joined (get_or c.args.all.now q 0) (get_or c.args.sets.now q 0) in
-    let e : c.join.result.bits ≡ new c.loop-s.s = c.join.ensures ∙ ap (λ (w : ℕ). joined w (get_or c.args.sets.now c.loop-s.s 0)) (c.loop-s.invariant.5 c.loop-s.s (omega arith)) in (
+    let e : c.join.result.bits ≡ new c.loop-s.s = c.join.ensures
+    ∙ ap (λ (w : ℕ). joined w (get_or c.args.sets.now c.loop-s.s 0)) (c.loop-s.invariant.5 c.loop-s.s (omega arith)) in (
       omega arith,
       simp length-set c.loop-s.invariant.1,
       c.loop-s.invariant.2,
@@ -40,4 +41,5 @@ loop-s-preserved c = let new : ℕ → ℕ = λ q. joined (get_or c.args.all.now
     )
 
 pub returns : goal.returns
-returns c = λ q h. both c.args.sets.now c.args.all.now c.loop-s.all c.loop-s.invariant.4 c.loop-s.invariant.5 (omega arith) c.loop-s.invariant.3 q (lt_or_le q c.loop-s.s)
+returns c = λ q h. both c.args.sets.now c.args.all.now c.loop-s.all c.loop-s.invariant.4 c.loop-s.invariant.5 (omega arith) c.loop-s.invariant.3 q
+    (lt_or_le q c.loop-s.s)

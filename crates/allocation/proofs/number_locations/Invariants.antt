@@ -8,12 +8,13 @@ use Rattle.allocation.specs.Turns.{NumberedTo, Described, PlacedTo}
 use Rattle.allocation.proofs.number_locations.Given as goal
 
 abbrev pub invariant-loop-q : goal.invariant-loop-q
-invariant-loop-q l = (l.q ≤ length l.live) × ((p : Pairs) × Described p l.live l.ones l.others l.linked) × Ends (length l.live) l.ones l.others l.linked
+invariant-loop-q l = (l.q ≤ length l.live) × ((p : Pairs) × Described p l.live l.ones l.others l.linked)
+    × Ends (length l.live) l.ones l.others l.linked
     × ((length l.sets ≡ length l.live) × (length l.placed ≡ length l.live) × (length l.cells ≡ 64 * length l.live) × (length l.held ≡ held_length)
-    × (length l.at ≡ length l.live))
+    × (length l.families_at ≡ length l.live))
     × WordsAgree l.cells l.held (length l.live)
     × ((p : Pairs) → Described p l.live l.ones l.others l.linked
-    → NumberedTo p (64 * l.q) l.cells l.at l.counts.used l.counts.families × PlacedTo p l.q l.placed)
+    → NumberedTo p (64 * l.q) l.cells l.families_at l.counts.used l.counts.families × PlacedTo p l.q l.placed)
 
 abbrev pub decreases-loop-q : goal.decreases-loop-q
 decreases-loop-q l = length l.live - l.q

@@ -13,7 +13,7 @@ pub overflow_mul-result : goal.overflow_mul-result
 overflow_mul-result c = record { fits = omega (arith, c.byte_at-a.ensures.small _ _ c.in-Value.is) }
 
 pub overflow_add-result : goal.overflow_add-result
-overflow_add-result c = record { fits = omega (arith, (mul-t9 c).ranges, c.byte_at-b.ensures.small _ _ c.in-Value-b.is) }
+overflow_add-result c = record { fits = omega (arith, c.byte_at-a.ensures.small _ _ c.in-Value.is, c.byte_at-b.ensures.small _ _ c.in-Value-b.is) }
 
 pub returns : goal.returns
 returns c = both_found 1 1 c.byte_at-a.ensures c.in-Value.is c.byte_at-b.ensures c.in-Value-b.is

@@ -18,28 +18,26 @@ pub loop-h-init : goal.loop-h-init
 loop-h-init c = (omega arith, λ cs e are. refl)
 
 pub returns-in_default : goal.returns-in_default
-returns-in_default c = λ cs e are. ap judged_as c.in_default.is ∙ sym (let counted' : counts_in_order (let counts' : (g : ℕ) → List ℕ = head_counts c.args.counts.now c.args.parts in
-    counts') 0 cs (returned tt) ≡ then (judged_as _) (λ _. counts_in_order (let counts' : (g : ℕ) → List ℕ = head_counts c.args.counts.now c.args.parts in
-    counts') (h + 1) (drop (h + 1) cs) (returned (tt {0}))) = let x = nth_below cs c.loop-h.h (omega (arith, e)) in
+returns-in_default c = λ cs e are.
+    let own : ℕ → List ℕ = head_counts c.args.counts.now c.args.parts in
+    let x = nth_below cs c.loop-h.h (omega (arith, e)) in
     let part = part_between c.args.parts.lengths c.loop-h.h c.args.counts.now c.begin_of-begin.ensures c.end_of-end.ensures in
     let says = c.judge_counts-judged.ensures x.0 (timers_of_lem are c.loop-h.h x.0 x.1) in
-    c.loop-h.invariant.1 cs e are
-    ∙ counts_next (let counts' : (g : ℕ) → List ℕ = head_counts c.args.counts.now c.args.parts in
-    counts') (returned tt) cs c.loop-h.h x.1 (sym (ap judged_as c.in_default.is) ∙ says ∙ ap (λ (v : List ℕ). counts_judged x.0 v (returned tt)) part) in
-    counted')
+    ap judged_as c.in_default.is ∙ sym (c.loop-h.invariant.1 cs e are
+    ∙ counts_next own (returned tt) cs c.loop-h.h x.1
+    (sym (ap judged_as c.in_default.is) ∙ says ∙ ap (λ (v : List ℕ). counts_judged x.0 v (returned tt)) part))
 
 pub loop-h-preserved : goal.loop-h-preserved
 loop-h-preserved c = (
   omega arith,
-  λ cs e are. (let counted' : counts_in_order (let counts' : (g : ℕ) → List ℕ = head_counts c.args.counts.now c.args.parts in
-      counts') 0 cs (returned tt) ≡ then (judged_as _) (λ _. counts_in_order (let counts' : (g : ℕ) → List ℕ = head_counts c.args.counts.now c.args.parts in
-      counts') (h + 1) (drop (h + 1) cs) (returned (tt {0}))) = let x = nth_below cs c.loop-h.h (omega (arith, e)) in
-      let part = part_between c.args.parts.lengths c.loop-h.h c.args.counts.now c.begin_of-begin.ensures c.end_of-end.ensures in
-      let says = c.judge_counts-judged.ensures x.0 (timers_of_lem are c.loop-h.h x.0 x.1) in
-      c.loop-h.invariant.1 cs e are
-      ∙ counts_next (let counts' : (g : ℕ) → List ℕ = head_counts c.args.counts.now c.args.parts in
-      counts') (returned tt) cs c.loop-h.h x.1 (sym (ap judged_as c.in-Passed.is) ∙ says ∙ ap (λ (v : List ℕ). counts_judged x.0 v (returned tt)) part) in
-      counted'),
+  λ cs e are.
+    let own : ℕ → List ℕ = head_counts c.args.counts.now c.args.parts in
+    let x = nth_below cs c.loop-h.h (omega (arith, e)) in
+    let part = part_between c.args.parts.lengths c.loop-h.h c.args.counts.now c.begin_of-begin.ensures c.end_of-end.ensures in
+    let says = c.judge_counts-judged.ensures x.0 (timers_of_lem are c.loop-h.h x.0 x.1) in
+    c.loop-h.invariant.1 cs e are
+    ∙ counts_next own (returned tt) cs c.loop-h.h x.1
+    (sym (ap judged_as c.in-Passed.is) ∙ says ∙ ap (λ (v : List ℕ). counts_judged x.0 v (returned tt)) part),
 )
 
 pub returns : goal.returns

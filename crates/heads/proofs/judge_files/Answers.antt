@@ -20,4 +20,4 @@ loop-h-preserved c = let a = judged_chart _ (sym (ap read_as c.in-Chart.is) ∙ 
 
 pub returns : goal.returns
 returns c = let e : c.loop-h.h ≡ c.args.heads.number = omega arith in
-    passed_as _ refl c.loop-h.invariant.1.headers-are (files_passed c.args.files.now c.args.heads c.loop-h.invariant.1 e)
+    passed_as _ refl c.loop-h.invariant.1.headers_are (files_passed c.args.files.now c.args.heads c.loop-h.invariant.1 e)

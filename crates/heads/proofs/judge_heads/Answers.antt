@@ -1,5 +1,4 @@
 -- `judge_heads` judges the blocks behind the charts.
-use Rattle.lists.proofs.Bools.{not-true, not-false}
 use Rattle.heads.proofs.Judging.{refused_as_lem, passed_as}
 use Rattle.heads.proofs.AfterCharts.{all_passed, few_heads, charts_refused, blocks_answer}
 use Rattle.heads.proofs.judge_heads.Goals as goal
@@ -12,8 +11,8 @@ blocks_fit-requires c = few_heads _ _ _ _ (all_passed _ _ _ _ c.judge_charts-jud
 
 pub returns-then-not-blocks_fit : goal.returns-then-not-blocks_fit
 returns-then-not-blocks_fit c = refused_as_lem _ c.refused.ensures
-    (blocks_answer _ _ _ _ (all_passed _ _ _ _ c.judge_charts-judged.ensures c.in-Passed.is) c.blocks_fit.ensures (not-true _ c.if-not-blocks_fit.true))
+    (blocks_answer _ _ _ _ (all_passed _ _ _ _ c.judge_charts-judged.ensures c.in-Passed.is) c.blocks_fit.ensures c.if-not-blocks_fit.true)
 
 pub returns : goal.returns
 returns c = passed_as _ c.in-Passed.is ((all_passed _ _ _ _ c.judge_charts-judged.ensures c.in-Passed.is)).headers_are
-    (blocks_answer _ _ _ _ (all_passed _ _ _ _ c.judge_charts-judged.ensures c.in-Passed.is) c.blocks_fit.ensures (not-false _ c.if-not-blocks_fit.false))
+    (blocks_answer _ _ _ _ (all_passed _ _ _ _ c.judge_charts-judged.ensures c.in-Passed.is) c.blocks_fit.ensures c.if-not-blocks_fit.false)

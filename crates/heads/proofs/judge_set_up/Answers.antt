@@ -1,6 +1,5 @@
 -- `judge_set_up` judges the starting counts and the blocks behind the charts.
 use mathlib.Core.Path.{ap}
-use Rattle.lists.proofs.Bools.{not-true, not-false}
 use Rattle.player.specs.declared.Judged.{Judged}
 use Rattle.heads.proofs.Judging.{refused_as_lem, passed_as}
 use Rattle.heads.proofs.AfterCharts.{all_passed, few_heads, set_up_refused, counts_refused, set_up_answer}
@@ -22,9 +21,9 @@ blocks_fit-requires c = few_heads _ _ _ _ (all_passed _ _ _ _ c.judge_charts-jud
 pub returns-then-not-blocks_fit : goal.returns-then-not-blocks_fit
 returns-then-not-blocks_fit c = refused_as_lem _ c.refused.ensures
     (set_up_answer _ _ _ _ _ _ (all_passed _ _ _ _ c.judge_charts-judged.ensures c.in-Passed.is) c.judge_counts-allowed.ensures c.in-Passed-allowed.is
-    c.blocks_fit.ensures (not-true _ c.if-not-blocks_fit.true))
+    c.blocks_fit.ensures c.if-not-blocks_fit.true)
 
 pub returns : goal.returns
 returns c = passed_as _ c.in-Passed.is ((all_passed _ _ _ _ c.judge_charts-judged.ensures c.in-Passed.is)).headers_are
     (set_up_answer _ _ _ _ _ _ (all_passed _ _ _ _ c.judge_charts-judged.ensures c.in-Passed.is) c.judge_counts-allowed.ensures c.in-Passed-allowed.is
-    c.blocks_fit.ensures (not-false _ c.if-not-blocks_fit.false))
+    c.blocks_fit.ensures c.if-not-blocks_fit.false)

@@ -15,33 +15,15 @@ unfolding put sets_in sum_of
 loop-i-init c = (omega arith, refl, refl, refl, refl)
 
 pub set_of-requires : goal.set_of-requires
-set_of-requires c = (
-  (let room' : let a = c.args in
-      c.loop-i.base + get_or a.test_counts.now c.loop-i.i 0 ≤ length a.timers.now = omega (arith, sum_room c.args.test_counts.now c.args.timers.now c.loop-i.i (omega arith), c.requires.0.enough) in
-      room'),
-  (λ i h. c.requires.0.small i (let within' : i < sum_of a.test_counts.now = omega (arith, sum_room c.args.test_counts.now c.args.timers.now c.loop-i.i (omega arith)) in
-      within')),
-)
+set_of-requires c =
+    let room = sum_room c.args.test_counts.now c.args.timers.now c.loop-i.i (omega arith) in
+    (omega (arith, room, c.requires.0.enough), (λ i h. c.requires.0.small i (omega (arith, room))))
 
 pub overflow_cast-base : goal.overflow_cast-base
-overflow_cast-base c = record {
-  fits = omega (
-    arith,
-    (let room' : let a = c.args in
-        c.loop-i.base + get_or a.test_counts.now c.loop-i.i 0 ≤ length a.timers.now = omega (arith, sum_room c.args.test_counts.now c.args.timers.now c.loop-i.i (omega arith), c.requires.0.enough) in
-        room'),
-  );
-}
+overflow_cast-base c = record { fits = omega (arith, sum_room c.args.test_counts.now c.args.timers.now c.loop-i.i (omega arith), c.requires.0.enough) }
 
 pub overflow_add-base : goal.overflow_add-base
-overflow_add-base c = record {
-  fits = omega (
-    arith,
-    (let room' : let a = c.args in
-        c.loop-i.base + get_or a.test_counts.now c.loop-i.i 0 ≤ length a.timers.now = omega (arith, sum_room c.args.test_counts.now c.args.timers.now c.loop-i.i (omega arith), c.requires.0.enough) in
-        room'),
-  );
-}
+overflow_add-base c = record { fits = omega (arith, sum_room c.args.test_counts.now c.args.timers.now c.loop-i.i (omega arith), c.requires.0.enough) }
 
 pub loop-i-preserved : goal.loop-i-preserved
 loop-i-preserved c = let h : c.loop-i.i < length c.args.test_counts.now = omega arith in (

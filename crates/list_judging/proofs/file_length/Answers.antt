@@ -1,38 +1,27 @@
 -- `file_length` meets its contract. What is hard is that nothing overflows: a version gives a constant at most 4 bytes.
-use Prim.Native.Nat.{◌+◌, ◌*◌, ◌≤◌}
 use native.Mathlib.Omega.{arith}
 use Rattle.model.proofs.Versions.{tests_most}
 use Rattle.list_judging.proofs.file_length.Goals as goal
 
 pub overflow_add-result-3 : goal.overflow_add-result-3
-overflow_add-result-3 c = omega (
-  arith,
-  ((let few' : ((2 + c.width_of-width.result) * c.args.tests ≤ 6 * 4294967296) × (c.width_of-width.result ≤ 4) = tests_most _ c.args.tests 4294967296 c.width_of-width.ensures (omega (arith, c.requires)) in
-      few')).1,
-)
+overflow_add-result-3 c =
+    let most = tests_most _ c.args.tests 4294967296 c.width_of-width.ensures (omega (arith, c.requires)) in
+    omega (arith, most.1)
 
 pub overflow_mul-result-3 : goal.overflow_mul-result-3
-overflow_mul-result-3 c = omega (
-  arith,
-  ((let few' : ((2 + c.width_of-width.result) * c.args.tests ≤ 6 * 4294967296) × (c.width_of-width.result ≤ 4) = tests_most _ c.args.tests 4294967296 c.width_of-width.ensures (omega (arith, c.requires)) in
-      few')).0,
-)
+overflow_mul-result-3 c =
+    let most = tests_most _ c.args.tests 4294967296 c.width_of-width.ensures (omega (arith, c.requires)) in
+    omega (arith, most.0)
 
 pub overflow_add-result-4 : goal.overflow_add-result-4
-overflow_add-result-4 c = omega (
-  arith,
-  ((let few' : ((2 + c.width_of-width.result) * c.args.tests ≤ 6 * 4294967296) × (c.width_of-width.result ≤ 4) = tests_most _ c.args.tests 4294967296 c.width_of-width.ensures (omega (arith, c.requires)) in
-      few')).0,
-  c.requires,
-)
+overflow_add-result-4 c =
+    let most = tests_most _ c.args.tests 4294967296 c.width_of-width.ensures (omega (arith, c.requires)) in
+    omega (arith, most.0, c.requires)
 
 pub overflow_add-result-5 : goal.overflow_add-result-5
-overflow_add-result-5 c = omega (
-  arith,
-  ((let few' : ((2 + c.width_of-width.result) * c.args.tests ≤ 6 * 4294967296) × (c.width_of-width.result ≤ 4) = tests_most _ c.args.tests 4294967296 c.width_of-width.ensures (omega (arith, c.requires)) in
-      few')).0,
-  c.requires,
-)
+overflow_add-result-5 c =
+    let most = tests_most _ c.args.tests 4294967296 c.width_of-width.ensures (omega (arith, c.requires)) in
+    omega (arith, most.0, c.requires)
 
 pub returns : goal.returns
 returns c = rw c.width_of-width.ensures

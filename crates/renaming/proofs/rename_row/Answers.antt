@@ -1,7 +1,7 @@
 -- `rename_row` meets its contract: the first k timers are renamed, behind those that are there.
 use mathlib.Core.Path.{◌≡◌, refl, sym, ap, ◌∙◌}
 use mathlib.Core.List.{List, append-nil}
-use Prim.Native.Nat.{ℕ, ◌+◌, ◌-◌}
+use Prim.Native.Nat.{ℕ, ◌+◌}
 use native.Mathlib.Omega.{arith}
 use lib.ListN.{length-set}
 use Rattle.chart_lists.specs.Lists.{put}
@@ -30,10 +30,11 @@ loop-k-preserved c = (
   omega arith,
   length-set c.loop-k.renamed (c.args.base + c.loop-k.k) c.board_timer.result ∙ c.loop-k.invariant.1,
   λ done m d e o.
-      row_more c.args.cells.now c.args.q c.args.timers.now c.args.base c.loop-k.k (omega arith) done m d (omega arith) (c.loop-k.invariant.2 done m d e o)
+      row_more c.args.cells.now c.args.q c.args.timers.now c.args.base c.loop-k.k (omega arith) done m d (omega arith)
+      (c.loop-k.invariant.2 done m d e o)
       c.board_timer.ensures,
 )
 
 pub returns : goal.returns
 returns c = let f : c.loop-k.k ≡ c.args.count = omega arith in
-    rw f at (c.loop-k.invariant.2 done m d e o)
+    λ done m d e o. rw f at (c.loop-k.invariant.2 done m d e o)

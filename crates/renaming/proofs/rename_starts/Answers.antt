@@ -2,7 +2,7 @@
 -- turn may read follows from the one that is given.
 use mathlib.Core.Path.{◌≡◌, refl, ap, ◌∙◌, subst₂}
 use mathlib.Core.List.{List}
-use Prim.Native.Nat.{ℕ, ◌-◌, ◌<◌}
+use Prim.Native.Nat.{ℕ, ◌<◌}
 use native.Mathlib.Omega.{arith}
 use lib.ListN.{length, length-set}
 use Rattle.chart_lists.specs.Lists.{put}
@@ -18,26 +18,24 @@ unfolding put
 loop-i-init c = (omega arith, refl, λ chart N e h s. refl)
 
 pub bounds-targets-i : goal.bounds-targets-i
-bounds-targets-i c = ((let turn' : let a = c.args in RowAt a.targets.now a.starts.now a.cells.now c.loop-i.i = starts_turn c.requires.0.0 c.requires.0.2 c.requires.0.4 c.loop-i-test.true c.requires.0.3 in
-    turn')).in_locations
+bounds-targets-i c = let turn : RowAt c.args.targets.now c.args.starts.now c.args.cells.now c.loop-i.i =
+    starts_turn c.requires.0.0 c.requires.0.2 c.requires.0.4 c.loop-i-test.true c.requires.0.3 in
+    turn.in_locations
 
 pub overflow_cast-q : goal.overflow_cast-q
-overflow_cast-q c = record {
-  fits = omega (
-    arith,
-    ((let turn' : let a = c.args in RowAt a.targets.now a.starts.now a.cells.now c.loop-i.i = starts_turn c.requires.0.0 c.requires.0.2 c.requires.0.4 c.loop-i-test.true c.requires.0.3 in
-        turn')).few,
-  );
-}
+overflow_cast-q c = let turn : RowAt c.args.targets.now c.args.starts.now c.args.cells.now c.loop-i.i =
+    starts_turn c.requires.0.0 c.requires.0.2 c.requires.0.4 c.loop-i-test.true c.requires.0.3 in
+    record { fits = omega (arith, turn.few) }
 
 pub bounds-starts-i : goal.bounds-starts-i
-bounds-starts-i c = ((let turn' : let a = c.args in RowAt a.targets.now a.starts.now a.cells.now c.loop-i.i = starts_turn c.requires.0.0 c.requires.0.2 c.requires.0.4 c.loop-i-test.true c.requires.0.3 in
-    turn')).in_others
+bounds-starts-i c = let turn : RowAt c.args.targets.now c.args.starts.now c.args.cells.now c.loop-i.i =
+    starts_turn c.requires.0.0 c.requires.0.2 c.requires.0.4 c.loop-i-test.true c.requires.0.3 in
+    turn.in_others
 
 pub renamed_set-requires : goal.renamed_set-requires
-renamed_set-requires c = let t = (let turn' : let a = c.args in RowAt a.targets.now a.starts.now a.cells.now c.loop-i.i = starts_turn c.requires.0.0 c.requires.0.2 c.requires.0.4 c.loop-i-test.true c.requires.0.3 in
-    turn') in
-    (t.few, t.row)
+renamed_set-requires c = let turn : RowAt c.args.targets.now c.args.starts.now c.args.cells.now c.loop-i.i =
+    starts_turn c.requires.0.0 c.requires.0.2 c.requires.0.4 c.loop-i-test.true c.requires.0.3 in
+    (turn.few, turn.row)
 
 pub bounds-renamed-i : goal.bounds-renamed-i
 bounds-renamed-i c = omega (arith, c.loop-i.invariant.1, c.requires.1)
@@ -58,6 +56,6 @@ pub shape_of-renamed : goal.shape_of-renamed
 shape_of-renamed c = c.loop-i.invariant.1
 
 pub returns : goal.returns
-returns c = let e = transitions_are chart is in
+returns c = λ chart N is h s. let e = transitions_are chart is in
     let all : c.loop-i.i ≡ length chart.transitions = omega arith in
     c.loop-i.invariant.2 chart N e h s ∙ ap (λ (w : List ℕ). put w c.args.renamed.now) (starts_all chart N all)

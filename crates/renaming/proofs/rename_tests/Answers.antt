@@ -2,7 +2,7 @@
 -- what a turn may read follows from the one that is given.
 use mathlib.Core.Path.{◌≡◌, refl, sym, ap, ◌∙◌}
 use mathlib.Core.List.{List}
-use Prim.Native.Nat.{ℕ, ◌+◌, ◌-◌, ◌≤◌}
+use Prim.Native.Nat.{ℕ, ◌+◌, ◌≤◌}
 use native.Mathlib.Omega.{arith}
 use lib.ListN.{length, get_or}
 use Rattle.chart_lists.specs.Lists.{put}
@@ -16,63 +16,48 @@ pub loop-i-init : goal.loop-i-init
 loop-i-init c = (omega arith, refl, λ chart N e h s. tests_none chart N _)
 
 pub bounds-test_counts-i : goal.bounds-test_counts-i
-bounds-test_counts-i c = ((let turn' : let a = c.args in
-    RowAt a.sources.now a.test_counts.now a.cells.now c.loop-i.i = tests_turn c.requires.0 c.requires.2 c.requires.4 c.loop-i-test.true c.requires.3 in
-    turn')).in_others
+bounds-test_counts-i c = let turn : RowAt c.args.sources.now c.args.test_counts.now c.args.cells.now c.loop-i.i =
+    tests_turn c.requires.0 c.requires.2 c.requires.4 c.loop-i-test.true c.requires.3 in
+    turn.in_others
 
 pub bounds-sources-i : goal.bounds-sources-i
-bounds-sources-i c = ((let turn' : let a = c.args in
-    RowAt a.sources.now a.test_counts.now a.cells.now c.loop-i.i = tests_turn c.requires.0 c.requires.2 c.requires.4 c.loop-i-test.true c.requires.3 in
-    turn')).in_locations
+bounds-sources-i c = let turn : RowAt c.args.sources.now c.args.test_counts.now c.args.cells.now c.loop-i.i =
+    tests_turn c.requires.0 c.requires.2 c.requires.4 c.loop-i-test.true c.requires.3 in
+    turn.in_locations
 
 pub overflow_cast-q : goal.overflow_cast-q
-overflow_cast-q c = record {
-  fits = omega (
-    arith,
-    ((let turn' : let a = c.args in
-        RowAt a.sources.now a.test_counts.now a.cells.now c.loop-i.i = tests_turn c.requires.0 c.requires.2 c.requires.4 c.loop-i-test.true c.requires.3 in
-        turn')).few,
-  );
-}
+overflow_cast-q c = let turn : RowAt c.args.sources.now c.args.test_counts.now c.args.cells.now c.loop-i.i =
+    tests_turn c.requires.0 c.requires.2 c.requires.4 c.loop-i-test.true c.requires.3 in
+    record { fits = omega (arith, turn.few) }
 
 pub rename_row-requires : goal.rename_row-requires
-rename_row-requires c = let t = (let turn' : let a = c.args in
-    RowAt a.sources.now a.test_counts.now a.cells.now c.loop-i.i = tests_turn c.requires.0 c.requires.2 c.requires.4 c.loop-i-test.true c.requires.3 in
-    turn') in
-    let b = ((let begins' : let p = c.requires in TestsRenamed p.0 p.1 c.args.renamed.now c.loop-i.renamed c.loop-i.base c.loop-i.i = c.loop-i.invariant.2 c.requires.0 c.requires.1 (transitions_are c.requires.0 c.requires.2) c.requires.3 c.requires.4 in
-    begins')).base_is in
-    let room = timers_there c.requires.0 c.requires.2 c.requires.4 c.loop-i-test.true c.requires.3 b in (
-      (let there' : let a = c.args in
-          c.loop-i.base + get_or a.test_counts.now c.loop-i.i 0 ≤ length a.timers.now = timers_in c.requires.0 c.requires.2 c.requires.4 c.loop-i-test.true c.requires.3 ((let begins' : let p = c.requires in TestsRenamed p.0 p.1 c.args.renamed.now c.loop-i.renamed c.loop-i.base c.loop-i.i = c.loop-i.invariant.2 c.requires.0 c.requires.1 (transitions_are c.requires.0 c.requires.2) c.requires.3 c.requires.4 in
-          begins')).base_is in
-          there'),
-      timers_few c.requires.0 c.requires.2 c.requires.4 c.loop-i-test.true c.requires.3 b,
+rename_row-requires c = let turn : RowAt c.args.sources.now c.args.test_counts.now c.args.cells.now c.loop-i.i =
+    tests_turn c.requires.0 c.requires.2 c.requires.4 c.loop-i-test.true c.requires.3 in
+    let begins : TestsRenamed c.requires.0 c.requires.1 c.args.renamed.now c.loop-i.renamed c.loop-i.base c.loop-i.i =
+    c.loop-i.invariant.2 c.requires.0 c.requires.1 (transitions_are c.requires.0 c.requires.2) c.requires.3 c.requires.4 in
+    let there : c.loop-i.base + get_or c.args.test_counts.now c.loop-i.i 0 ≤ length c.args.timers.now =
+    timers_in c.requires.0 c.requires.2 c.requires.4 c.loop-i-test.true c.requires.3 begins.base_is in
+    let room = timers_there c.requires.0 c.requires.2 c.requires.4 c.loop-i-test.true c.requires.3 begins.base_is in (
+      there,
+      timers_few c.requires.0 c.requires.2 c.requires.4 c.loop-i-test.true c.requires.3 begins.base_is,
       omega (arith, room, c.requires.5, c.loop-i.invariant.1),
-      t.few,
-      t.row,
+      turn.few,
+      turn.row,
     )
 
 pub overflow_cast-base : goal.overflow_cast-base
-overflow_cast-base c = record {
-  fits = omega (
-    arith,
-    (let there' : let a = c.args in
-        c.loop-i.base + get_or a.test_counts.now c.loop-i.i 0 ≤ length a.timers.now = timers_in c.requires.0 c.requires.2 c.requires.4 c.loop-i-test.true c.requires.3 ((let begins' : let p = c.requires in TestsRenamed p.0 p.1 c.args.renamed.now c.loop-i.renamed c.loop-i.base c.loop-i.i = c.loop-i.invariant.2 c.requires.0 c.requires.1 (transitions_are c.requires.0 c.requires.2) c.requires.3 c.requires.4 in
-        begins')).base_is in
-        there'),
-  );
-}
+overflow_cast-base c = let begins : TestsRenamed c.requires.0 c.requires.1 c.args.renamed.now c.loop-i.renamed c.loop-i.base c.loop-i.i =
+    c.loop-i.invariant.2 c.requires.0 c.requires.1 (transitions_are c.requires.0 c.requires.2) c.requires.3 c.requires.4 in
+    let there : c.loop-i.base + get_or c.args.test_counts.now c.loop-i.i 0 ≤ length c.args.timers.now =
+    timers_in c.requires.0 c.requires.2 c.requires.4 c.loop-i-test.true c.requires.3 begins.base_is in
+    record { fits = omega (arith, there) }
 
 pub overflow_add-base : goal.overflow_add-base
-overflow_add-base c = record {
-  fits = omega (
-    arith,
-    (let there' : let a = c.args in
-        c.loop-i.base + get_or a.test_counts.now c.loop-i.i 0 ≤ length a.timers.now = timers_in c.requires.0 c.requires.2 c.requires.4 c.loop-i-test.true c.requires.3 ((let begins' : let p = c.requires in TestsRenamed p.0 p.1 c.args.renamed.now c.loop-i.renamed c.loop-i.base c.loop-i.i = c.loop-i.invariant.2 c.requires.0 c.requires.1 (transitions_are c.requires.0 c.requires.2) c.requires.3 c.requires.4 in
-        begins')).base_is in
-        there'),
-  );
-}
+overflow_add-base c = let begins : TestsRenamed c.requires.0 c.requires.1 c.args.renamed.now c.loop-i.renamed c.loop-i.base c.loop-i.i =
+    c.loop-i.invariant.2 c.requires.0 c.requires.1 (transitions_are c.requires.0 c.requires.2) c.requires.3 c.requires.4 in
+    let there : c.loop-i.base + get_or c.args.test_counts.now c.loop-i.i 0 ≤ length c.args.timers.now =
+    timers_in c.requires.0 c.requires.2 c.requires.4 c.loop-i-test.true c.requires.3 begins.base_is in
+    record { fits = omega (arith, there) }
 
 pub loop-i-preserved : goal.loop-i-preserved
 loop-i-preserved c = (
@@ -88,6 +73,6 @@ pub shape_of-renamed : goal.shape_of-renamed
 shape_of-renamed c = c.loop-i.invariant.1
 
 pub returns : goal.returns
-returns c = let e = transitions_are chart is in
+returns c = λ chart N is h s. let e = transitions_are chart is in
     let all : c.loop-i.i ≡ length chart.transitions = omega arith in
     (c.loop-i.invariant.2 chart N e h s).renamed_are ∙ ap (λ (w : List ℕ). put w c.args.renamed.now) (timers_all chart N all)

@@ -3,8 +3,25 @@ use Rattle.judgement.proofs.Reading.{bytes_are}
 use Rattle.rewriting.proofs.rewrite.Goals as goal
 
 pub rewrite_judged-requires : goal.rewrite_judged-requires
-rewrite_judged-requires c = (c.args.file.now, record { (bytes_are c.args.file.now (λ i. (c.type_inv.file i).fits)) (bytes_are c.args.file.now (λ i. (c.type_inv.file i).fits)); answers = c.judge-answer.ensures.answer; lists = c.judge-answer.ensures.lists; tested = c.judge-answer.ensures.tested })
+rewrite_judged-requires c = (
+  c.args.file.now,
+  record {
+    bytes = bytes_are c.args.file.now (λ i. c.type_inv.file i);
+    answers = c.judge-answer.ensures.answer;
+    lists = c.judge-answer.ensures.lists;
+    tested = c.judge-answer.ensures.tested;
+  },
+)
 
 pub returns : goal.returns
-unfolding rewrite-judged-requires
-returns c = record { answer = let x = rewrite-judged-requires c c.rewrite_judged.lifetimes in c.rewrite_judged.ensures.answer x.0 x.1; lent = let x = rewrite-judged-requires c c.rewrite_judged.lifetimes in c.rewrite_judged.ensures.lent x.0 x.1 }
+returns c =
+    let judged = record {
+      bytes = bytes_are c.args.file.now (λ i. c.type_inv.file i);
+      answers = c.judge-answer.ensures.answer;
+      lists = c.judge-answer.ensures.lists;
+      tested = c.judge-answer.ensures.tested;
+    } in
+    record {
+      answer = c.rewrite_judged.ensures.answer c.args.file.now judged;
+      lent = c.rewrite_judged.ensures.lent c.args.file.now judged;
+    }

@@ -10,12 +10,19 @@ fit-requires c = let x = accepted_into c.requires.1 c.in-Chart.is in
     (x.0.chart, x.0.header_is, x.0.accepted, x.1, x.2, x.3)
 
 pub returns-in-Refused : goal.returns-in-Refused
-returns-in-Refused c = record { answer = λ bs j. answer_refused c.args.k (length c.args.out.now) bs (sym (ap read_as c.in-Refused.is) ∙ j.answers); lent = λ bs j. lent_refused c.args.k (length c.args.out.now) bs (sym (ap read_as c.in-Refused.is) ∙ j.answers) c.args.out.now }
+returns-in-Refused c = record {
+  answer = λ bs j. answer_refused c.args.k (length c.args.out.now) bs (sym (ap read_as c.in-Refused.is) ∙ j.answers);
+  lent = λ bs j. lent_refused c.args.k (length c.args.out.now) bs (sym (ap read_as c.in-Refused.is) ∙ j.answers) c.args.out.now;
+}
 
 pub returns-in-Chart : goal.returns-in-Chart
 returns-in-Chart c = record {
-  answer = let room = length c.args.out.now in λ bs j. let x = accepted_into j c.in-Chart.is in
-      answer_accepted c.args.k room bs x.0 (c.fit.ensures.answer x.0.chart x.0.header_is x.0.accepted x.1 x.2 x.3);
-  lent = let room = length c.args.out.now in λ bs j. let x = accepted_into j c.in-Chart.is in
-      lent_accepted c.args.k room bs x.0 c.args.out.now (c.fit.ensures.lent x.0.chart x.0.header_is x.0.accepted x.1 x.2 x.3);
+  answer = λ bs j.
+      let x = accepted_into j c.in-Chart.is in
+      let made = c.fit.ensures.answer x.0.chart x.0.header_is x.0.accepted x.1 x.2 x.3 in
+      answer_accepted c.args.k (length c.args.out.now) bs x.0 made;
+  lent = λ bs j.
+      let x = accepted_into j c.in-Chart.is in
+      let made = c.fit.ensures.lent x.0.chart x.0.header_is x.0.accepted x.1 x.2 x.3 in
+      lent_accepted c.args.k (length c.args.out.now) bs x.0 c.args.out.now made;
 }

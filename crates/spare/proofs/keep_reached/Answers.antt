@@ -15,28 +15,23 @@ pub loop-i-init : goal.loop-i-init
 loop-i-init c = (omega arith, omega arith, refl, refl, refl, refl, λ chart e h t b. part_none chart _ _ _ _)
 
 pub leaves_reached-requires : goal.leaves_reached-requires
-leaves_reached-requires c = (
-  source_there c.requires.0.2.valid c.requires.0.2.sources c.requires.0.4 (let below' : c.loop-i.i < length c.requires.0.0.transitions = omega (arith, c.requires.0.1, c.loop-i-test.true) in
-      below'),
-  set_there c.requires.0.2.valid c.requires.0.2.sources c.requires.0.4 (let below' : c.loop-i.i < length c.requires.0.0.transitions = omega (arith, c.requires.0.1, c.loop-i-test.true) in
-      below'),
+leaves_reached-requires c = let below : c.loop-i.i < length c.requires.0.0.transitions = omega (arith, c.requires.0.1, c.loop-i-test.true) in (
+  source_there c.requires.0.2.valid c.requires.0.2.sources c.requires.0.4 below,
+  set_there c.requires.0.2.valid c.requires.0.2.sources c.requires.0.4 below,
 )
 
 pub copy_transition-requires : goal.copy_transition-requires
-copy_transition-requires c = let few : c.loop-i.count < c.args.n = omega (arith, c.loop-i.invariant.1, c.loop-i-test.true) in (
-  source_there c.requires.0.2.valid c.requires.0.2.sources c.requires.0.4 (let below' : c.loop-i.i < length c.requires.0.0.transitions = omega (arith, c.requires.0.1, c.loop-i-test.true) in
-      below'),
-  entry_there c.requires.0.0 (targets_each c.requires.0.0) c.requires.0.2.targets (let below' : c.loop-i.i < length c.requires.0.0.transitions = omega (arith, c.requires.0.1, c.loop-i-test.true) in
-      below'),
-  entry_there c.requires.0.0 (starts_each c.requires.0.0) c.requires.0.2.starts (let below' : c.loop-i.i < length c.requires.0.0.transitions = omega (arith, c.requires.0.1, c.loop-i-test.true) in
-      below'),
-  entry_there c.requires.0.0 (tested_each c.requires.0.0) c.requires.0.3 (let below' : c.loop-i.i < length c.requires.0.0.transitions = omega (arith, c.requires.0.1, c.loop-i-test.true) in
-      below'),
-  omega (arith, few, c.requires.1, c.loop-i.invariant.2),
-  omega (arith, few, c.requires.2, c.loop-i.invariant.3),
-  omega (arith, few, c.requires.3, c.loop-i.invariant.4),
-  omega (arith, few, c.requires.4, c.loop-i.invariant.5),
-)
+copy_transition-requires c = let below : c.loop-i.i < length c.requires.0.0.transitions = omega (arith, c.requires.0.1, c.loop-i-test.true) in
+    let few : c.loop-i.count < c.args.n = omega (arith, c.loop-i.invariant.1, c.loop-i-test.true) in (
+      source_there c.requires.0.2.valid c.requires.0.2.sources c.requires.0.4 below,
+      entry_there c.requires.0.0 (targets_each c.requires.0.0) c.requires.0.2.targets below,
+      entry_there c.requires.0.0 (starts_each c.requires.0.0) c.requires.0.2.starts below,
+      entry_there c.requires.0.0 (tested_each c.requires.0.0) c.requires.0.3 below,
+      omega (arith, few, c.requires.1, c.loop-i.invariant.2),
+      omega (arith, few, c.requires.2, c.loop-i.invariant.3),
+      omega (arith, few, c.requires.3, c.loop-i.invariant.4),
+      omega (arith, few, c.requires.4, c.loop-i.invariant.5),
+    )
 
 pub loop-i-preserved-then-leaves_reached : goal.loop-i-preserved-then-leaves_reached
 loop-i-preserved-then-leaves_reached c = let few : c.loop-i.count < c.args.n = omega (arith, c.loop-i.invariant.1, c.loop-i-test.true) in (
@@ -81,4 +76,7 @@ pub shape_of-part_tested : goal.shape_of-part_tested
 shape_of-part_tested c = c.loop-i.invariant.5
 
 pub returns : goal.returns
-returns c = record { few = omega (arith, c.loop-i.invariant.1, c.loop-i.invariant.0); part = λ chart e h t b. part_all (c.loop-i.invariant.6 chart e h t b) h.valid (omega (arith, e, c.loop-i.invariant.0, c.loop-i-test.false)) }
+returns c = record {
+  few = omega (arith, c.loop-i.invariant.1, c.loop-i.invariant.0);
+  part = λ chart e h t b. part_all (c.loop-i.invariant.6 chart e h t b) h.valid (omega (arith, e, c.loop-i.invariant.0, c.loop-i-test.false));
+}

@@ -10,10 +10,13 @@ use Rattle.spare.proofs.Parts.{PartTo}
 use Rattle.spare.proofs.keep_reached.Given as goal
 
 abbrev pub invariant-loop-i : goal.invariant-loop-i
-invariant-loop-i l = (l.i ≤ l.n) × (l.count ≤ l.i) × (length l.sources' ≡ length l.initial.sources) × (length l.targets' ≡ length l.initial.targets) × (length l.starts' ≡ length l.initial.starts)
-    × (length l.tested' ≡ length l.initial.tested) × ((c : Chart) → l.n ≡ length c.transitions → Holds c (edges_of c l.sources l.targets l.starts)
+invariant-loop-i l = (l.i ≤ l.n) × (l.count ≤ l.i) × (length l.part_sources ≡ length l.initial.part_sources)
+    × (length l.part_targets ≡ length l.initial.part_targets) × (length l.part_starts ≡ length l.initial.part_starts)
+    × (length l.part_tested ≡ length l.initial.part_tested)
+    × ((c : Chart) → l.n ≡ length c.transitions → Holds c (edges_of c l.sources l.targets l.starts)
     → Begins (tested_sets c) l.tested → Begins (reached_sets c) l.reached
-    → PartTo c l.initial.sources l.initial.targets l.initial.starts l.initial.tested l.sources' l.targets' l.starts' l.tested' l.count l.i)
+    → PartTo c l.initial.part_sources l.initial.part_targets l.initial.part_starts l.initial.part_tested l.part_sources l.part_targets l.part_starts
+    l.part_tested l.count l.i)
 
 abbrev pub decreases-loop-i : goal.decreases-loop-i
 decreases-loop-i l = l.n - l.i

@@ -7,14 +7,11 @@ use Rattle.spare.proofs.Moved.{moved_none, moved_more, moved_same}
 use Rattle.spare.proofs.move_tests.Goals as goal
 
 pub returns-then-from-to : goal.returns-then-from-to
-returns-then-from-to c = let r = let e : c.args.from ≡ c.args.to = c.if-from-to.true in
-    rw (← e) (
-      moved_same c.args.from c.args.count c.args.timers.now c.requires.1,
-      (
-        moved_same c.args.from c.args.count c.args.codes.now c.requires.2,
-        moved_same c.args.from c.args.count c.args.constants.now c.requires.3,
-      ),
-    ) in record { timers = r.0; codes = r.1.0; constants = r.1.1 }
+returns-then-from-to c = let e : c.args.from ≡ c.args.to = c.if-from-to.true in record {
+  timers = rw (← e) (moved_same c.args.from c.args.count c.args.timers.now c.requires.1);
+  codes = rw (← e) (moved_same c.args.from c.args.count c.args.codes.now c.requires.2);
+  constants = rw (← e) (moved_same c.args.from c.args.count c.args.constants.now c.requires.3);
+}
 
 pub loop-k-init : goal.loop-k-init
 loop-k-init c = (
@@ -48,4 +45,8 @@ pub shape_of-constants : goal.shape_of-constants
 shape_of-constants c = c.loop-k.invariant.6
 
 pub returns : goal.returns
-returns c = record { timers = let f : c.loop-k.k ≡ c.args.count = omega arith in rw f at c.loop-k.invariant.1; codes = let f : c.loop-k.k ≡ c.args.count = omega arith in rw f at c.loop-k.invariant.2; constants = let f : c.loop-k.k ≡ c.args.count = omega arith in rw f at c.loop-k.invariant.3 }
+returns c = let f : c.loop-k.k ≡ c.args.count = omega arith in record {
+  timers = rw f at c.loop-k.invariant.1;
+  codes = rw f at c.loop-k.invariant.2;
+  constants = rw f at c.loop-k.invariant.3;
+}

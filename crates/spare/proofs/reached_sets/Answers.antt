@@ -21,4 +21,4 @@ settle_reached-requires c = let safe = safe_fronts c.requires.0 c.requires.1 c.r
     (lent_safe safe, lent_empty safe)
 
 pub returns : goal.returns
-returns c = reached_begin chart e h _ c.settle_reached.ensures
+returns c = λ chart e h. reached_begin chart e h _ c.settle_reached.ensures

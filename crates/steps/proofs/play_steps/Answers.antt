@@ -7,10 +7,20 @@ use Rattle.steps.proofs.Starting.{starting_small, starting_shows}
 use Rattle.steps.proofs.play_steps.Goals as goal
 
 pub find_firsts-requires : goal.find_firsts-requires
-find_firsts-requires c = record { n_value = (c.requires.header_value.0, transitions_are c.requires.header_value.0 c.requires.header_value.1, holds_counts c.requires.header_value.2); n_in_bounds = omega (arith, transitions_are c.requires.header_value.0 c.requires.header_value.1, c.requires.header_value.2.valid.few_transitions) }
+find_firsts-requires c =
+    let p = c.requires.header_value in
+    let number = transitions_are p.0 p.1 in
+    record { n_value = (p.0, number, holds_counts p.2); n_in_bounds = omega (arith, number, p.2.valid.few_transitions) }
 
 pub take_steps-requires : goal.take_steps-requires
-take_steps-requires c = record { n_value = (c.requires.header_value.0, transitions_are c.requires.header_value.0 c.requires.header_value.1, c.find_firsts.ensures.places c.requires.header_value.0 (transitions_are c.requires.header_value.0 c.requires.header_value.1) (holds_counts c.requires.header_value.2), c.requires.header_value.2); small = starting_small c.starting_counts.ensures c.requires.allowed _; times_len = c.requires.times_len }
+take_steps-requires c =
+    let p = c.requires.header_value in
+    let number = transitions_are p.0 p.1 in
+    record {
+      n_value = (p.0, number, c.find_firsts.ensures.places p.0 number (holds_counts p.2), p.2);
+      small = starting_small c.starting_counts.ensures c.requires.allowed _;
+      times_len = c.requires.times_len;
+    }
 
 pub returns : goal.returns
 unfolding outcome

@@ -1,6 +1,5 @@
 -- `take_steps` takes one step after another. The laws of a list of steps say what each leaves.
 use mathlib.Core.Path.{refl}
-use Prim.Native.Nat.{◌-◌}
 use native.Mathlib.Omega.{arith}
 use Rattle.steps.proofs.StepLists.{reached_start, reached_next, reached_refused, reached_end}
 use Rattle.steps.proofs.take_steps.Goals as goal

@@ -7,7 +7,8 @@ use Rattle.twins.specs.LowestTwins.{own_below}
 use Rattle.twins.proofs.lowest_twins.Given as goal
 
 abbrev pub invariant-loop-j : goal.invariant-loop-j
-invariant-loop-j l = (l.j ≤ l.timers) × (length l.lowest ≡ length l.initial.lowest) × ((k : ℕ) → k < l.j → lowest_at l.lowest k ≡ lowest_in_same l.starts l.timers k)
+invariant-loop-j l = (l.j ≤ l.timers) × (length l.lowest ≡ length l.initial.lowest)
+    × ((k : ℕ) → k < l.j → lowest_at l.lowest k ≡ lowest_in_same l.starts l.timers k)
     × (l.own.bits ≡ own_below l.starts l.timers l.j)
 
 abbrev pub decreases-loop-j : goal.decreases-loop-j

@@ -15,7 +15,8 @@ pub loop-j-preserved : goal.loop-j-preserved
 loop-j-preserved c = (
   omega arith,
   simp length-set c.loop-j.invariant.1,
-  row_next _ _ _ _ c.requires.0 c.loop-j.invariant.2 (omega arith) (omega arith) (omega (arith, c.loop-j.invariant.1, c.requires.1)) c.shared_cell.ensures,
+  row_next _ _ _ _ c.requires.0 c.loop-j.invariant.2 (omega arith) (omega arith) (omega (arith, c.loop-j.invariant.1, c.requires.1))
+      c.shared_cell.ensures,
 )
 
 pub returns : goal.returns

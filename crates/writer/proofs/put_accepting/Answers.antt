@@ -12,18 +12,30 @@ use Rattle.writer.proofs.put_accepting.Goals as goal
 pub loop-i-init : goal.loop-i-init
 loop-i-init c = put_loop_first _ _ _
 
+pub slice_bounds-put_pair-start : goal.slice_bounds-put_pair-start
+slice_bounds-put_pair-start c =
+    let room = put_loop_even c.loop-i.invariant c.loop-i-test.true 2 (λ i. length_digits 2 _) c.requires.1 in
+    omega arith
+
 pub slice_bounds-put_pair-count : goal.slice_bounds-put_pair-count
-slice_bounds-put_pair-count c = omega (arith, (put_loop_even c.loop-i.invariant c.loop-i-test.true 2 (λ i. length_digits 2 _) c.requires.1))
+slice_bounds-put_pair-count c =
+    let room = put_loop_even c.loop-i.invariant c.loop-i-test.true 2 (λ i. length_digits 2 _) c.requires.1 in
+    omega arith
 
 pub put_pair-requires : goal.put_pair-requires
-put_pair-requires c = mid_room c.loop-i.at c.loop-i.out 2 (put_loop_even c.loop-i.invariant c.loop-i-test.true 2 (λ i. length_digits 2 _) c.requires.1)
+put_pair-requires c =
+    let room = put_loop_even c.loop-i.invariant c.loop-i-test.true 2 (λ i. length_digits 2 _) c.requires.1 in
+    mid_room c.loop-i.at c.loop-i.out 2 room
 
 pub overflow_add-at : goal.overflow_add-at
-overflow_add-at c = omega (arith, (put_loop_even c.loop-i.invariant c.loop-i-test.true 2 (λ i. length_digits 2 _) c.requires.1), c.well-formed)
+overflow_add-at c =
+    let room = put_loop_even c.loop-i.invariant c.loop-i-test.true 2 (λ i. length_digits 2 _) c.requires.1 in
+    omega (arith, c.well_formed)
 
 pub loop-i-preserved : goal.loop-i-preserved
-loop-i-preserved c = let size = length_digits 2 (get_or c.args.accepting.now c.loop-i.i 0) in
-    put_loop_again c.loop-i.invariant c.loop-i-test.taken refl c.put_pair.ensures c.put_pair.auto.out (omega (arith, size))
+loop-i-preserved c =
+    let size = length_digits 2 (get_or c.args.accepting.now c.loop-i.i 0) in
+    put_loop_again c.loop-i.invariant c.loop-i-test.true refl c.put_pair.ensures c.put_pair.auto.out (omega (arith, size))
 
 pub shape_of-out : goal.shape_of-out
 shape_of-out c = c.loop-i.invariant.long

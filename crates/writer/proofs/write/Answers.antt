@@ -7,13 +7,20 @@ use Rattle.writer.proofs.Writing.{write_refused, write_short, write_writable, wr
 use Rattle.writer.proofs.write.Goals as goal
 
 pub returns-then-out-n : goal.returns-then-out-n
-returns-then-out-n c = record { answer = let w = write_short (length c.args.out.now) _ _ c.args.out.now (means judged_as c.in-File.is c.judge-a.ensures) c.if-out-n.true in sym w.0; lent = let w = write_short (length c.args.out.now) _ _ c.args.out.now (means judged_as c.in-File.is c.judge-a.ensures) c.if-out-n.true in sym w.1 }
+returns-then-out-n c =
+    let w = write_short (length c.args.out.now) _ _ c.args.out.now (means judged_as c.in-File.is c.judge-a.ensures) c.if-out-n.true in
+    record { answer = sym w.0; lent = sym w.1 }
 
 pub write_file-requires : goal.write_file-requires
-write_file-requires c = write_writable (length c.args.out.now) _ _ c.args.out.now (means judged_as c.in-File.is c.judge-a.ensures) c.if-out-n.false
+write_file-requires c =
+    write_writable (length c.args.out.now) _ _ c.args.out.now (means judged_as c.in-File.is c.judge-a.ensures) c.if-out-n.false
 
 pub returns-in-Refused : goal.returns-in-Refused
-returns-in-Refused c = record { answer = let w = write_refused (length c.args.out.now) _ _ c.args.out.now (means judged_as c.in-Refused.is c.judge-a.ensures) in sym w.0; lent = let w = write_refused (length c.args.out.now) _ _ c.args.out.now (means judged_as c.in-Refused.is c.judge-a.ensures) in sym w.1 }
+returns-in-Refused c =
+    let w = write_refused (length c.args.out.now) _ _ c.args.out.now (means judged_as c.in-Refused.is c.judge-a.ensures) in
+    record { answer = sym w.0; lent = sym w.1 }
 
 pub returns-else-out-n : goal.returns-else-out-n
-returns-else-out-n c = record { answer = let w = write_done (length c.args.out.now) _ _ c.args.out.now (means judged_as c.in-File.is c.judge-a.ensures) c.if-out-n.false in sym w.0; lent = let w = write_done (length c.args.out.now) _ _ c.args.out.now (means judged_as c.in-File.is c.judge-a.ensures) c.if-out-n.false in c.write_file.ensures ∙ sym w.1 }
+returns-else-out-n c =
+    let w = write_done (length c.args.out.now) _ _ c.args.out.now (means judged_as c.in-File.is c.judge-a.ensures) c.if-out-n.false in
+    record { answer = sym w.0; lent = c.write_file.ensures ∙ sym w.1 }

@@ -1,6 +1,5 @@
 -- `held_word` meets its contract: the locations of the family below s are looked at.
 use mathlib.Core.Path.{◌≡◌, sym, ap, ◌∙◌}
-use Prim.Native.Nat.{◌-◌}
 use native.Mathlib.Omega.{arith}
 use mathlib.Core.Bool.{Bool, ◌||◌}
 use Rattle.timer_set.proofs.Members.{member_empty, member_joined}
@@ -19,7 +18,8 @@ pub loop-s-preserved-then-has : goal.loop-s-preserved-then-has
 loop-s-preserved-then-has c = (
   omega arith,
   c.loop-s.invariant.1,
-  λ x. rw c.join-set.ensures (member_joined c.loop-s.set.bits _ x ∙ ap (λ (b : Bool). b || in_word c.args.held.now c.loop-s.s c.args.w x) (c.loop-s.invariant.2 x)
+  λ x. rw c.join-set.ensures
+      (member_joined c.loop-s.set.bits _ x ∙ ap (λ (b : Bool). b || in_word c.args.held.now c.loop-s.s c.args.w x) (c.loop-s.invariant.2 x)
       ∙ some_yes c.args.sets.now c.args.j (λ s. in_word c.args.held.now s c.args.w x) c.loop-s.s
       (sym c.has.ensures ∙ c.if-has.true)),
 )
@@ -28,7 +28,8 @@ pub loop-s-preserved : goal.loop-s-preserved
 loop-s-preserved c = (
   omega arith,
   c.loop-s.invariant.1,
-  λ x. c.loop-s.invariant.2 x ∙ some_no c.args.sets.now c.args.j (λ s. in_word c.args.held.now s c.args.w x) c.loop-s.s (sym c.has.ensures ∙ c.if-has.false),
+  λ x. c.loop-s.invariant.2 x
+      ∙ some_no c.args.sets.now c.args.j (λ s. in_word c.args.held.now s c.args.w x) c.loop-s.s (sym c.has.ensures ∙ c.if-has.false),
 )
 
 pub returns : goal.returns

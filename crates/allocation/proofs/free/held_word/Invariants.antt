@@ -7,7 +7,8 @@ use Rattle.chart_lists.specs.Limits.{most_locations}
 use Rattle.allocation.proofs.free.held_word.Given as goal
 
 abbrev pub invariant-loop-s : goal.invariant-loop-s
-invariant-loop-s l = (l.s ≤ l.end) × ((l.w < held_words) × (length l.sets ≤ most_locations) × (length l.held ≡ held_length) × Within l.sets l.j l.from l.end)
+invariant-loop-s l = (l.s ≤ l.end)
+    × ((l.w < held_words) × (length l.sets ≤ most_locations) × (length l.held ≡ held_length) × Within l.sets l.j l.from l.end)
     × ((x : ℕ) → member l.set.bits x ≡ some_in l.sets l.j (λ s. in_word l.held s l.w x) l.s)
 
 abbrev pub decreases-loop-s : goal.decreases-loop-s

@@ -1,6 +1,6 @@
 -- `lowest_free` meets its contract: the numbers below 64 w are all taken.
-use Prim.Native.Nat.{◌-◌}
 use native.Mathlib.Omega.{arith}
+use Rattle.allocation.specs.Rows.{taken}
 use Rattle.allocation.proofs.Rows.{word_found, word_full, all_full}
 use Rattle.allocation.proofs.free.lowest_free.Goals as goal
 
@@ -9,16 +9,17 @@ loop-w-init c = (omega arith, c.requires, λ k h. absurd (omega arith))
 
 pub returns-then-low-lt64 : goal.returns-then-low-lt64
 returns-then-low-lt64 c = rw c.lowest_missing-low.ensures
-    (word_found (rows c) c.before.before.Taken-word.result.bits c.loop-w.w c.before.before.Taken-word.ensures c.loop-w.invariant.2 (omega (arith, c.lowest_missing-low.ensures, c.if-low-lt64.true))
+    (word_found (λ k. taken c.args.sets.now c.args.cells.now c.args.j k) c.taken_word.result.bits c.loop-w.w c.taken_word.ensures c.loop-w.invariant.2
+    (omega (arith, c.lowest_missing-low.ensures, c.if-low-lt64.true))
     (omega (arith, c.loop-w-test.true)))
 
 pub loop-w-preserved : goal.loop-w-preserved
 loop-w-preserved c = (
   omega arith,
   c.loop-w.invariant.1,
-  word_full (rows c) c.before.before.Taken-word.result.bits c.loop-w.w
-      c.before.before.Taken-word.ensures c.loop-w.invariant.2 (omega (arith, c.lowest_missing-low.ensures)),
+  word_full (λ k. taken c.args.sets.now c.args.cells.now c.args.j k) c.taken_word.result.bits c.loop-w.w
+      c.taken_word.ensures c.loop-w.invariant.2 (omega (arith, c.lowest_missing-low.ensures)),
 )
 
 pub returns : goal.returns
-returns c = all_full (rows c) (λ k h. c.loop-w.invariant.2 k (omega arith))
+returns c = all_full (λ k. taken c.args.sets.now c.args.cells.now c.args.j k) (λ k h. c.loop-w.invariant.2 k (omega arith))

@@ -1,6 +1,6 @@
 -- `row_word` meets its contract: the rows of the family's locations below s are looked at.
 use mathlib.Core.Path.{◌≡◌, sym, ap, ◌∙◌}
-use Prim.Native.Nat.{◌+◌, ◌*◌, ◌-◌}
+use Prim.Native.Nat.{◌+◌, ◌*◌}
 use native.Mathlib.Omega.{arith}
 use mathlib.Core.Bool.{Bool, ◌||◌}
 use Rattle.timer_set.proofs.Members.{member_empty}
@@ -35,4 +35,5 @@ loop-s-preserved c = (
 pub returns : goal.returns
 unfolding taken
 returns c = let e : c.loop-s.s ≡ c.args.end = omega arith in
-    λ x h. (rw e at (c.loop-s.invariant.2 x h)) ∙ some_all c.args.sets.now c.args.j (λ s. in_row c.args.cells.now s (64 * c.args.w + x) 64) c.loop-s.invariant.1.2
+    λ x h. (rw e at (c.loop-s.invariant.2 x h))
+    ∙ some_all c.args.sets.now c.args.j (λ s. in_row c.args.cells.now s (64 * c.args.w + x) 64) c.loop-s.invariant.1.2

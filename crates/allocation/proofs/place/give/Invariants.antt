@@ -7,7 +7,8 @@ use Rattle.allocation.proofs.Filling.{Rows}
 use Rattle.allocation.proofs.place.give.Given as goal
 
 abbrev pub invariant-loop-s : goal.invariant-loop-s
-invariant-loop-s l = (l.s ≤ l.end) × (length l.cells ≡ length l.initial.cells) × Rows cell_place 64 l.sets l.j l.j (λ _. l.number) l.initial.cells l.s l.cells
+invariant-loop-s l = (l.s ≤ l.end) × (length l.cells ≡ length l.initial.cells)
+    × Rows cell_place 64 l.sets l.j l.j (λ _. l.number) l.initial.cells l.s l.cells
     × ((l.j < 64) × (length l.sets ≤ most_locations) × (length l.initial.cells ≡ 64 * length l.sets) × Within l.sets l.j l.from l.end)
 
 abbrev pub decreases-loop-s : goal.decreases-loop-s

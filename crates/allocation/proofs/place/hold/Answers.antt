@@ -1,6 +1,5 @@
 -- `hold` meets its contract: the words of the family's locations below s are done.
 use mathlib.Core.Path.{◌≡◌, refl, sym, ◌∙◌}
-use Prim.Native.Nat.{◌-◌}
 use native.Mathlib.Omega.{arith}
 use lib.ListN.{length-set}
 use Rattle.allocation.specs.Rows.{holding}
@@ -14,13 +13,19 @@ pub loop-s-preserved-then-has : goal.loop-s-preserved-then-has
 loop-s-preserved-then-has c = let h = sym c.has.ensures ∙ c.if-has.true in (
   omega arith,
   simp length-set c.loop-s.invariant.1,
-  rows_yes (omega (arith, c.loop-s.invariant.3)) c.loop-s.invariant.2 h c.loop-s.invariant.3.0 (omega (arith, c.loop-s.invariant.3, c.loop-s.invariant.1)) (λ q i h k p. (omega arith, omega arith))
+  rows_yes (omega (arith, c.loop-s.invariant.3)) c.loop-s.invariant.2 h c.loop-s.invariant.3.0
+      (omega (arith, c.loop-s.invariant.3, c.loop-s.invariant.1)) (λ q i h k p. (omega arith, omega arith))
       c.with.ensures,
   c.loop-s.invariant.3,
 )
 
 pub loop-s-preserved : goal.loop-s-preserved
-loop-s-preserved c = (omega arith, c.loop-s.invariant.1, rows_no (omega (arith, c.loop-s.invariant.3)) c.loop-s.invariant.2 (sym c.has.ensures ∙ c.if-has.false), c.loop-s.invariant.3)
+loop-s-preserved c = (
+  omega arith,
+  c.loop-s.invariant.1,
+  rows_no (omega (arith, c.loop-s.invariant.3)) c.loop-s.invariant.2 (sym c.has.ensures ∙ c.if-has.false),
+  c.loop-s.invariant.3,
+)
 
 pub returns : goal.returns
 unfolding holding

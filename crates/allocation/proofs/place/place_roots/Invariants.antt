@@ -10,11 +10,13 @@ use Rattle.allocation.specs.Cells.{most_cells}
 use Rattle.allocation.proofs.place.place_roots.Given as goal
 
 abbrev pub invariant-loop-j : goal.invariant-loop-j
-invariant-loop-j l = (l.j ≤ 64) × Lengths l.sets l.cells l.held × WordsAgree l.cells l.held (length l.sets) × ((i : ℕ) → member l.roots.bits i ≡ true → Within l.sets i l.from l.end)
+invariant-loop-j l = (l.j ≤ 64) × Lengths l.sets l.cells l.held × WordsAgree l.cells l.held (length l.sets)
+    × ((i : ℕ) → member l.roots.bits i ≡ true → Within l.sets i l.from l.end)
     × ((i : ℕ) → l.j ≤ i → i < 64 → member l.roots.bits i ≡ true → Unnumbered l.sets i l.cells)
-    × ((length l.at ≡ length l.sets) × (l.count ≤ most_cells + l.j))
-    × ((p : Pairs) (q : ℕ) → Roots p q l.roots.bits l.sets → NumberedTo p (64 * q) l.initial.cells l.initial.at l.initial.most l.initial.count
-    → NumberedTo p (64 * q + l.j) l.cells l.at l.most l.count)
+    × ((length l.families_at ≡ length l.sets) × (l.count ≤ most_cells + l.j))
+    × ((p : Pairs) (q : ℕ) → Roots p q l.roots.bits l.sets
+    → NumberedTo p (64 * q) l.initial.cells l.initial.families_at l.initial.most l.initial.count
+    → NumberedTo p (64 * q + l.j) l.cells l.families_at l.most l.count)
 
 abbrev pub decreases-loop-j : goal.decreases-loop-j
 decreases-loop-j l = 64 - l.j

@@ -1,7 +1,6 @@
 -- `sound_head` makes the tests of 32 on one head. The laws take the code's tests as they are.
 use mathlib.Core.Path.{sym, ◌∙◌}
 use native.Mathlib.Omega.{arith}
-use borrow.Author.Tests.{not-true, not-false}
 use Rattle.chart_lists.proofs.Fronts.{locations_are, timers_are}
 use Rattle.controller.proofs.SoundHeads.{wrong_location, wrong_time, wrong_waiting, counts_decide}
 use Rattle.controller.proofs.state.sound_head.Goals as goal
@@ -15,10 +14,10 @@ returns-then-head-gt-LARGEST_TIME c = λ ch e. wrong_time ch _ _ (omega (arith, 
 pub returns-then-not-sound_waiting : goal.returns-then-not-sound_waiting
 returns-then-not-sound_waiting c = λ ch e.
     wrong_waiting ch _ _ (omega (arith, locations_are ch e, c.if-head-header.false)) c.if-head-gt-LARGEST_TIME.false
-    (sym c.sound_waiting.ensures ∙ not-true _ c.if-not-sound_waiting.true)
+    (sym c.sound_waiting.ensures ∙ c.if-not-sound_waiting.true)
 
 pub returns : goal.returns
 returns c = λ ch e.
     (rw (timers_are ch e) at c.sound_counts.ensures)
     ∙ counts_decide ch _ _ (omega (arith, locations_are ch e, c.if-head-header.false)) c.if-head-gt-LARGEST_TIME.false
-    (sym c.sound_waiting.ensures ∙ not-false _ c.if-not-sound_waiting.false)
+    (sym c.sound_waiting.ensures ∙ c.if-not-sound_waiting.false)

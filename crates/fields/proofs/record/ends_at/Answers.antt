@@ -27,10 +27,10 @@ pub overflow_cast-result : goal.overflow_cast-result
 overflow_cast-result c = record { fits = omega (arith, c.pair_at-a.ensures.small _ _ c.in-Value.is) }
 
 pub overflow_cast-result-2 : goal.overflow_cast-result-2
-overflow_cast-result-2 c = record { fits = omega (arith, below_limit _ _ _ _ _ (told (field_as c.args.s.now) c.in-Value-b.is c.pair_below-b.ensures), c.well-formed) }
+overflow_cast-result-2 c = record { fits = omega (arith, below_limit _ _ _ _ _ (told (field_as c.args.s.now) c.in-Value-b.is c.pair_below-b.ensures), c.ranges.locations) }
 
 pub overflow_cast-result-3 : goal.overflow_cast-result-3
-overflow_cast-result-3 c = record { fits = omega (arith, below_limit _ _ _ _ _ (told (field_as c.args.s.now) c.in-Value-d.is c.pair_below-d.ensures), c.well-formed) }
+overflow_cast-result-3 c = record { fits = omega (arith, below_limit _ _ _ _ _ (told (field_as c.args.s.now) c.in-Value-d.is c.pair_below-d.ensures), c.ranges.locations) }
 
 pub overflow_cast-result-4 : goal.overflow_cast-result-4
 overflow_cast-result-4 c = record { fits = omega (arith, c.byte_at-e.ensures.small _ _ c.in-Value-e.is) }

@@ -22,7 +22,7 @@ pub with-set-requires : goal.with-set-requires
 with-set-requires c = omega (arith, below_limit _ _ _ _ _ (told (field_as c.args.s.now) c.in-Value.is c.byte_below-a.ensures), c.requires)
 
 pub overflow_cast-x : goal.overflow_cast-x
-overflow_cast-x c = record { fits = omega (arith, with-requires c _) }
+overflow_cast-x c = record { fits = omega (arith, below_limit _ _ _ _ _ (told (field_as c.args.s.now) c.in-Value.is c.byte_below-a.ensures), c.requires) }
 
 pub overflow_add-lowest : goal.overflow_add-lowest
 overflow_add-lowest c = record { fits = omega (arith, below_limit _ _ _ _ _ (told (field_as c.args.s.now) c.in-Value.is c.byte_below-a.ensures), c.requires) }

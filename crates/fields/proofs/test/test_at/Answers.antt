@@ -31,7 +31,7 @@ returns-in_default-e c = let e = turned c.args.s.now c.in_default-e.is c.refusal
     test_constant (width_of c.args.version) c.args.timers c.args.place _ (told (field_as c.args.s.now) c.in-Value.is c.byte_below-a.ensures) (told (field_as c.args.s.now) c.in-Value-b.is c.byte_at-b.ensures.reads) (sym c.decode-d.ensures ∙ ap decoded_of c.in-Known.is) e
 
 pub overflow_cast-result : goal.overflow_cast-result
-overflow_cast-result c = record { fits = omega (arith, below_limit _ _ _ _ _ (told (field_as c.args.s.now) c.in-Value.is c.byte_below-a.ensures), c§Start.good) }
+overflow_cast-result c = record { fits = omega (arith, below_limit _ _ _ _ _ (told (field_as c.args.s.now) c.in-Value.is c.byte_below-a.ensures), c.ranges.timers) }
 
 pub overflow_cast-result-2 : goal.overflow_cast-result-2
 overflow_cast-result-2 c = let most = width_fits c.args.version in

@@ -12,7 +12,7 @@ unfolding offset sum_of
 loop-g-init c = (omega arith, omega arith)
 
 pub loop-g-preserved : goal.loop-g-preserved
-loop-g-preserved c = (omega arith, omega (arith, c.end_of-at.ensures, offset_next c.args.t2 c.loop-g.g))
+loop-g-preserved c = (omega arith, omega (arith, c.end_of-at.ensures, offset_next c.args.lengths c.loop-g.g))
 
 pub returns : goal.returns
 returns c = let e : c.loop-g.g ≡ c.args.h = omega arith in

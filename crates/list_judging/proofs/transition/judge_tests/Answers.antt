@@ -1,6 +1,5 @@
 -- `judge_tests` meets its contract: the turns are those of a loop over items, a test at each place.
 use mathlib.Core.Path.{refl, sym, ◌∙◌}
-use Prim.Native.Nat.{◌-◌}
 use native.Mathlib.Omega.{arith}
 use Rattle.list_judging.proofs.Answers.{found, refused_by}
 use Rattle.list_judging.proofs.Items.{turn_done, turn_refused, turn_again}

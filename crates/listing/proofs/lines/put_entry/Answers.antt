@@ -1,43 +1,26 @@
 -- `put_entry`: nothing for a cell with no number, else the timer and the number.
 use mathlib.Core.Path.{sym}
-use Prim.Native.Nat.{◌+◌, ◌≤◌}
 use native.Mathlib.Omega.{arith}
-use lib.ListN.{length}
-use Rattle.listing.specs.Text.{decimal}
 use Rattle.listing.proofs.Cells.{entry_none, entry_some, entry_size}
 use Rattle.listing.proofs.PutBytes.{bytes_none, bytes_next, bytes_as, bytes_room}
 use Rattle.listing.proofs.lines.put_entry.Goals as goal
 
 pub returns-then-number-eq-NO_NUMBER : goal.returns-then-number-eq-NO_NUMBER
-returns-then-number-eq-NO_NUMBER c = bytes_as (bytes_none c.args.out.now) (sym (entry_none c.args.j c.args.number c.if-number-eq-NO_NUMBER.true))
+returns-then-number-eq-NO_NUMBER c =
+    bytes_as (bytes_none c.args.out.now) (sym (entry_none c.args.j c.args.number c.if-number-eq-NO_NUMBER.true))
 
 pub put_number-at-requires : goal.put_number-at-requires
-put_number-at-requires c = omega (
-  arith,
-  (let room' : let a = c.args in 2 + (length (decimal a.j) + length (decimal a.number)) ≤ length a.out.now = omega (arith, c.requires, entry_size c.args.j c.args.number c.if-number-eq-NO_NUMBER.false) in
-      room'),
-)
+put_number-at-requires c = omega (arith, c.requires, entry_size c.args.j c.args.number c.if-number-eq-NO_NUMBER.false)
 
 pub slice_bounds-put_number-count : goal.slice_bounds-put_number-count
-slice_bounds-put_number-count c = omega (
-  arith,
-  (let room' : let a = c.args in 2 + (length (decimal a.j) + length (decimal a.number)) ≤ length a.out.now = omega (arith, c.requires, entry_size c.args.j c.args.number c.if-number-eq-NO_NUMBER.false) in
-      room'),
-)
+slice_bounds-put_number-count c = omega (arith, c.requires, entry_size c.args.j c.args.number c.if-number-eq-NO_NUMBER.false)
 
 pub put_number-requires : goal.put_number-requires
-put_number-requires c = bytes_room c.put_number-at.ensures _ (omega (
-  arith,
-  (let room' : let a = c.args in 2 + (length (decimal a.j) + length (decimal a.number)) ≤ length a.out.now = omega (arith, c.requires, entry_size c.args.j c.args.number c.if-number-eq-NO_NUMBER.false) in
-      room'),
-))
+put_number-requires c =
+    bytes_room c.put_number-at.ensures _ (omega (arith, c.requires, entry_size c.args.j c.args.number c.if-number-eq-NO_NUMBER.false))
 
 pub overflow_add-result : goal.overflow_add-result
-overflow_add-result c = omega (
-  arith,
-  (let room' : let a = c.args in 2 + (length (decimal a.j) + length (decimal a.number)) ≤ length a.out.now = omega (arith, c.requires, entry_size c.args.j c.args.number c.if-number-eq-NO_NUMBER.false) in
-      room'),
-)
+overflow_add-result c = omega (arith, c.requires, entry_size c.args.j c.args.number c.if-number-eq-NO_NUMBER.false)
 
 pub returns : goal.returns
-returns c = bytes_as (bytes_next c.put_number-at.ensures c.put_number.ensures) (entry_some c.args.j c.args.number c.if-number-eq-NO_NUMBER.left)
+returns c = bytes_as (bytes_next c.put_number-at.ensures c.put_number.ensures) (entry_some c.args.j c.args.number c.if-number-eq-NO_NUMBER.false)

@@ -1,62 +1,42 @@
 -- `put_refusal`: the number, the place and the line feed, one after another.
-use Prim.Native.Nat.{◌+◌, ◌≤◌}
+use Prim.Native.Nat.{ℕ, ◌+◌, ◌≤◌}
 use native.Mathlib.Omega.{arith}
 use lib.ListN.{length}
 use Rattle.listing.specs.Text.{decimal, refused_word}
+use Rattle.listing.specs.Listing.{refused_text}
 use Rattle.listing.proofs.PutBytes.{bytes_next, bytes_more, bytes_as, bytes_long, bytes_below, bytes_room}
 use Rattle.listing.proofs.Parts.{refused_parts, refused_length}
 use Rattle.listing.proofs.lines.put_refusal.Goals as goal
 
+-- there is room for the parts
+room : (n p : ℕ) {m : ℕ} → length (refused_text n p) ≤ m → 10 + (length (decimal n) + length (decimal p)) ≤ m
+room n p h = omega (arith, h, refused_length n p)
+
 pub put_number-at-requires : goal.put_number-at-requires
-put_number-at-requires c = omega (
-  arith,
-  (let room' : 10 + (length (decimal c.args.f.number) + length (decimal c.args.f.place)) ≤ length c.args.out.now = omega (arith, c.requires, refused_length c.args.f.number c.args.f.place) in
-      room'),
-)
+put_number-at-requires c = omega (arith, room c.args.f.number c.args.f.place c.requires)
 
 pub slice_bounds-put_number-count : goal.slice_bounds-put_number-count
-slice_bounds-put_number-count c = omega (
-  arith,
-  (let room' : 10 + (length (decimal c.args.f.number) + length (decimal c.args.f.place)) ≤ length c.args.out.now = omega (arith, c.requires, refused_length c.args.f.number c.args.f.place) in
-      room'),
-)
+slice_bounds-put_number-count c = omega (arith, room c.args.f.number c.args.f.place c.requires)
 
 pub put_number-requires : goal.put_number-requires
-put_number-requires c = bytes_room c.put_number-at.ensures _ (omega (
-  arith,
-  (let room' : 10 + (length (decimal c.args.f.number) + length (decimal c.args.f.place)) ≤ length c.args.out.now = omega (arith, c.requires, refused_length c.args.f.number c.args.f.place) in
-      room'),
-))
+put_number-requires c = bytes_room c.put_number-at.ensures _ (omega (arith, room c.args.f.number c.args.f.place c.requires))
 
 pub overflow_add-end : goal.overflow_add-end
-overflow_add-end c = omega (
-  arith,
-  (let room' : 10 + (length (decimal c.args.f.number) + length (decimal c.args.f.place)) ≤ length c.args.out.now = omega (arith, c.requires, refused_length c.args.f.number c.args.f.place) in
-      room'),
-)
+overflow_add-end c = omega (arith, room c.args.f.number c.args.f.place c.requires)
 
 pub bounds-out-end : goal.bounds-out-end
-bounds-out-end c = bytes_below (bytes_next c.put_number-at.ensures c.put_number.ensures) (omega (
-  arith,
-  (let room' : 10 + (length (decimal c.args.f.number) + length (decimal c.args.f.place)) ≤ length c.args.out.now = omega (arith, c.requires, refused_length c.args.f.number c.args.f.place) in
-      room'),
-))
+bounds-out-end c =
+    bytes_below (bytes_next c.put_number-at.ensures c.put_number.ensures) (omega (arith, room c.args.f.number c.args.f.place c.requires))
 
 pub overflow_add-result : goal.overflow_add-result
-overflow_add-result c = omega (
-  arith,
-  (let room' : 10 + (length (decimal c.args.f.number) + length (decimal c.args.f.place)) ≤ length c.args.out.now = omega (arith, c.requires, refused_length c.args.f.number c.args.f.place) in
-      room'),
-)
+overflow_add-result c = omega (arith, room c.args.f.number c.args.f.place c.requires)
 
 pub returns : goal.returns
 unfolding refused_word
-returns c = let w = bytes_next c.put_number-at.ensures c.put_number.ensures in
-    bytes_as (bytes_more w 10 (omega (
-      arith,
-      (let room' : 10 + (length (decimal c.args.f.number) + length (decimal c.args.f.place)) ≤ length c.args.out.now = omega (arith, c.requires, refused_length c.args.f.number c.args.f.place) in
-          room'),
-    ))) (refused_parts c.args.f.number c.args.f.place)
+returns c =
+    let w = bytes_next c.put_number-at.ensures c.put_number.ensures in
+    let r = room c.args.f.number c.args.f.place c.requires in
+    bytes_as (bytes_more w 10 (omega (arith, r))) (refused_parts c.args.f.number c.args.f.place)
 
 pub shape_of-out : goal.shape_of-out
 shape_of-out c = bytes_long (returns c) c.requires

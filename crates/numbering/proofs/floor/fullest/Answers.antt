@@ -29,9 +29,9 @@ loop-q-preserved-then-most-count c = (
   omega (
     arith,
     c.loop-q.invariant.2,
-    (let counted' : let l = c in
-        fullest (drop l.loop.q l.before.before.args.sets.now) ≡ max c.count-count.result (fullest (drop (l.loop.q + 1) l.before.before.args.sets.now)) = rw c.count-count.ensures (next c.args.sets.now c.loop-q.q (omega arith)) in
-        counted'),
+    (let counted : fullest (drop c.loop-q.q c.args.sets.now) ≡ max c.count-count.result (fullest (drop (c.loop-q.q + 1) c.args.sets.now)) =
+        rw c.count-count.ensures (next c.args.sets.now c.loop-q.q (omega arith)) in
+        counted),
   ),
 )
 
@@ -42,9 +42,9 @@ loop-q-preserved c = (
   omega (
     arith,
     c.loop-q.invariant.2,
-    (let counted' : let l = c in
-        fullest (drop l.loop.q l.before.before.args.sets.now) ≡ max c.count-count.result (fullest (drop (l.loop.q + 1) l.before.before.args.sets.now)) = rw c.count-count.ensures (next c.args.sets.now c.loop-q.q (omega arith)) in
-        counted'),
+    (let counted : fullest (drop c.loop-q.q c.args.sets.now) ≡ max c.count-count.result (fullest (drop (c.loop-q.q + 1) c.args.sets.now)) =
+        rw c.count-count.ensures (next c.args.sets.now c.loop-q.q (omega arith)) in
+        counted),
   ),
 )
 

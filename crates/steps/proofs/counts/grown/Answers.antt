@@ -1,6 +1,5 @@
 -- `grown` adds the ticks that passed to one count a turn.
 use mathlib.Core.Path.{refl}
-use Prim.Native.Nat.{◌-◌}
 use native.Mathlib.Omega.{arith}
 use Rattle.steps.proofs.MovedCounts.{changed_none, changed_more, grown_all}
 use Rattle.steps.proofs.counts.grown.Goals as goal

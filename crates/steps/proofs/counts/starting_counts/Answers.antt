@@ -1,6 +1,5 @@
 -- `starting_counts` sets one count a turn.
 use mathlib.Core.Path.{refl}
-use Prim.Native.Nat.{◌-◌}
 use native.Mathlib.Omega.{arith}
 use Rattle.steps.proofs.Starting.{set_none, set_more, set_all}
 use Rattle.steps.proofs.counts.starting_counts.Goals as goal

@@ -1,6 +1,5 @@
 -- `find_firsts` stores the number of the tests so far, one transition a turn. No sum passes 4,096.
 use mathlib.Core.Path.{refl}
-use Prim.Native.Nat.{◌-◌}
 use native.Mathlib.Omega.{arith}
 use lib.ListN.{length-set}
 use Rattle.steps.proofs.FirstPlaces.{found_none, counts_room, sum_fits, found_more, found_all, found_number}
@@ -10,13 +9,17 @@ pub loop-i-init : goal.loop-i-init
 loop-i-init c = (c.requires.n_value, refl, c.requires.n_in_bounds, omega arith, λ ch e h. found_none ch _)
 
 pub bounds-test_counts-i : goal.bounds-test_counts-i
-bounds-test_counts-i c = omega (arith, c.loop-i.invariant.0.1, counts_room c.loop-i.invariant.0.2 (c.loop-i.invariant.4 c.loop-i.invariant.0.0 c.loop-i.invariant.0.1 c.loop-i.invariant.0.2))
+bounds-test_counts-i c =
+    let p = c.loop-i.invariant.0 in
+    omega (arith, p.1, counts_room p.2 (c.loop-i.invariant.4 p.0 p.1 p.2))
 
 pub overflow_cast-sum : goal.overflow_cast-sum
 overflow_cast-sum c = omega (arith, c.type_inv.test_counts c.loop-i.i)
 
 pub overflow_add-sum : goal.overflow_add-sum
-overflow_add-sum c = omega (arith, sum_fits c.loop-i.invariant.0.2 (c.loop-i.invariant.4 c.loop-i.invariant.0.0 c.loop-i.invariant.0.1 c.loop-i.invariant.0.2) (omega (arith, c.loop-i.invariant.0.1)))
+overflow_add-sum c =
+    let p = c.loop-i.invariant.0 in
+    omega (arith, sum_fits p.2 (c.loop-i.invariant.4 p.0 p.1 p.2) (omega (arith, p.1)))
 
 pub loop-i-preserved : goal.loop-i-preserved
 loop-i-preserved c = (
@@ -28,4 +31,7 @@ loop-i-preserved c = (
 )
 
 pub returns : goal.returns
-returns c = record { places = λ ch e h. found_all (c.loop-i.invariant.4 ch e h) e (omega arith) (omega arith); number = λ ch e h. found_number (c.loop-i.invariant.4 ch e h) e (omega arith) }
+returns c = record {
+  places = λ ch e h. found_all (c.loop-i.invariant.4 ch e h) e (omega arith) (omega arith);
+  number = λ ch e h. found_number (c.loop-i.invariant.4 ch e h) e (omega arith);
+}

@@ -6,8 +6,9 @@ use Rattle.steps.proofs.TestTurns.{decoded_known, decoded_unknown}
 use Rattle.steps.proofs.tests.test_met.Goals as goal
 
 pub returns-in_default : goal.returns-in_default
-returns-in_default c = absurd (decoded_unknown _ x _ c.decode-a.ensures c.in_default.is e)
+returns-in_default c x e = absurd (decoded_unknown _ x _ c.decode-a.ensures c.in_default.is e)
 
 pub returns : goal.returns
-returns c = let y = decoded_known _ _ c.decode-a.ensures c.in-Known.is e in
+returns c x e =
+    let y = decoded_known _ _ c.decode-a.ensures c.in-Known.is e in
     c.holds.ensures ∙ ap (λ (z : Comparison). met z c.args.count c.args.constant) y

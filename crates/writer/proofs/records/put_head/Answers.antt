@@ -12,36 +12,29 @@ use Rattle.writer.specs.Bytes.{triple_bytes, head_bytes}
 use Rattle.writer.proofs.records.put_head.Goals as goal
 
 pub overflow_add-length-2 : goal.overflow_add-length-2
-overflow_add-length-2 c = omega (
-  arith,
-  ((let few' : ((2 + c.width_of-width.result) * c.args.g ≤ 6 * 255) × (c.width_of-width.result ≤ 4) = tests_most _ c.args.g 255 c.width_of-width.ensures (search rules) in
-      few')).1,
-)
+overflow_add-length-2 c =
+    let few = tests_most _ c.args.g 255 c.width_of-width.ensures (search rules) in
+    omega (arith, few.1)
 
 pub overflow_mul-length : goal.overflow_mul-length
-overflow_mul-length c = omega (
-  arith,
-  ((let few' : ((2 + c.width_of-width.result) * c.args.g ≤ 6 * 255) × (c.width_of-width.result ≤ 4) = tests_most _ c.args.g 255 c.width_of-width.ensures (search rules) in
-      few')).0,
-)
+overflow_mul-length c =
+    let few = tests_most _ c.args.g 255 c.width_of-width.ensures (search rules) in
+    omega (arith, few.0)
 
 pub overflow_add-length-3 : goal.overflow_add-length-3
-overflow_add-length-3 c = omega (
-  arith,
-  ((let few' : ((2 + c.width_of-width.result) * c.args.g ≤ 6 * 255) × (c.width_of-width.result ≤ 4) = tests_most _ c.args.g 255 c.width_of-width.ensures (search rules) in
-      few')).0,
-)
+overflow_add-length-3 c =
+    let few = tests_most _ c.args.g 255 c.width_of-width.ensures (search rules) in
+    omega (arith, few.0)
 
 pub overflow_cast-length-3 : goal.overflow_cast-length-3
-overflow_cast-length-3 c = omega (
-  arith,
-  ((let few' : ((2 + c.width_of-width.result) * c.args.g ≤ 6 * 255) × (c.width_of-width.result ≤ 4) = tests_most _ c.args.g 255 c.width_of-width.ensures (search rules) in
-      few')).0,
-)
+overflow_cast-length-3 c =
+    let few = tests_most _ c.args.g 255 c.width_of-width.ensures (search rules) in
+    omega (arith, few.0)
 
 pub returns : goal.returns
 unfolding head_bytes record_length triple_bytes
-returns c = let a = fields_first (rw c.width_of-width.ensures at c.put_pair.ensures) in
+returns c =
+    let a = fields_first (rw c.width_of-width.ensures at c.put_pair.ensures) in
     let b = fields_next a 2 _ (simp (length-append, length_digits)) c.put_triple.ensures in
     let d = fields_next b 7 _ (simp (length-append, length_digits)) c.put_byte.ensures in
     fields_done _ d (simp append_assoc)

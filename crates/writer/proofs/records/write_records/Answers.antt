@@ -11,38 +11,68 @@ pub loop-i-init : goal.loop-i-init
 loop-i-init c = writing_first _ _ _ _ _ _ c.requires.room c.requires.fit
 
 pub bounds-test_counts-i : goal.bounds-test_counts-i
-bounds-test_counts-i c = ((writing_next _ _ _ _ _ _ c.requires.room c.requires.fit c.loop-i.invariant c.loop-i-test.true)).count
+bounds-test_counts-i c =
+    let n = writing_next _ _ _ _ _ _ c.requires.room c.requires.fit c.loop-i.invariant c.loop-i-test.true in
+    n.count
 
 pub bounds-starts-i : goal.bounds-starts-i
-bounds-starts-i c = ((writing_next _ _ _ _ _ _ c.requires.room c.requires.fit c.loop-i.invariant c.loop-i-test.true)).starts
+bounds-starts-i c =
+    let n = writing_next _ _ _ _ _ _ c.requires.room c.requires.fit c.loop-i.invariant c.loop-i-test.true in
+    n.starts
+
+pub slice_bounds-write_record-start : goal.slice_bounds-write_record-start
+slice_bounds-write_record-start c =
+    let n = writing_next _ _ _ _ _ _ c.requires.room c.requires.fit c.loop-i.invariant c.loop-i-test.true in
+    omega (arith, n.fits)
 
 pub slice_bounds-write_record-count : goal.slice_bounds-write_record-count
-slice_bounds-write_record-count c = omega (arith, ((writing_next _ _ _ _ _ _ c.requires.room c.requires.fit c.loop-i.invariant c.loop-i-test.true)).fits)
+slice_bounds-write_record-count c =
+    let n = writing_next _ _ _ _ _ _ c.requires.room c.requires.fit c.loop-i.invariant c.loop-i-test.true in
+    omega (arith, n.fits)
 
 pub bounds-sources-i : goal.bounds-sources-i
-bounds-sources-i c = ((writing_next _ _ _ _ _ _ c.requires.room c.requires.fit c.loop-i.invariant c.loop-i-test.true)).source
+bounds-sources-i c =
+    let n = writing_next _ _ _ _ _ _ c.requires.room c.requires.fit c.loop-i.invariant c.loop-i-test.true in
+    n.source
 
 pub bounds-targets-i : goal.bounds-targets-i
-bounds-targets-i c = ((writing_next _ _ _ _ _ _ c.requires.room c.requires.fit c.loop-i.invariant c.loop-i-test.true)).target
+bounds-targets-i c =
+    let n = writing_next _ _ _ _ _ _ c.requires.room c.requires.fit c.loop-i.invariant c.loop-i-test.true in
+    n.target
 
 pub bounds-events-i : goal.bounds-events-i
-bounds-events-i c = ((writing_next _ _ _ _ _ _ c.requires.room c.requires.fit c.loop-i.invariant c.loop-i-test.true)).event
+bounds-events-i c =
+    let n = writing_next _ _ _ _ _ _ c.requires.room c.requires.fit c.loop-i.invariant c.loop-i-test.true in
+    n.event
 
 pub write_record-at-requires : goal.write_record-at-requires
-write_record-at-requires c = record { g_bound = let n = (writing_next _ _ _ _ _ _ c.requires.room c.requires.fit c.loop-i.invariant c.loop-i-test.true) in (n.few, n.timers_room, n.codes_room, n.constants_room, mid_room c.loop-i.at c.loop-i.out _ n.fits); fit_from = let n = (writing_next _ _ _ _ _ _ c.requires.room c.requires.fit c.loop-i.invariant c.loop-i-test.true) in n.constants_small }
+write_record-at-requires c =
+    let n = writing_next _ _ _ _ _ _ c.requires.room c.requires.fit c.loop-i.invariant c.loop-i-test.true in
+    record {
+      g_bound = (n.few, n.timers_room, n.codes_room, n.constants_room, mid_room c.loop-i.at c.loop-i.out _ n.fits);
+      fit_from = n.constants_small;
+    }
 
 pub overflow_add-at : goal.overflow_add-at
-overflow_add-at c = omega (arith, ((writing_next _ _ _ _ _ _ c.requires.room c.requires.fit c.loop-i.invariant c.loop-i-test.true)).fits, c.write_record-at.ensures.size, c.loop-i.invariant.wrote.long, c§Start.good)
+overflow_add-at c =
+    let n = writing_next _ _ _ _ _ _ c.requires.room c.requires.fit c.loop-i.invariant c.loop-i-test.true in
+    omega (arith, n.fits, c.write_record-at.ensures.size, c.loop-i.invariant.wrote.long, c.well_formed)
 
 pub overflow_cast-k : goal.overflow_cast-k
-overflow_cast-k c = omega (arith, ((writing_next _ _ _ _ _ _ c.requires.room c.requires.fit c.loop-i.invariant c.loop-i-test.true)).few)
+overflow_cast-k c =
+    let n = writing_next _ _ _ _ _ _ c.requires.room c.requires.fit c.loop-i.invariant c.loop-i-test.true in
+    omega (arith, n.few)
 
 pub overflow_add-k : goal.overflow_add-k
-overflow_add-k c = omega (arith, ((writing_next _ _ _ _ _ _ c.requires.room c.requires.fit c.loop-i.invariant c.loop-i-test.true)).few, c.loop-i.invariant.few, c.loop-i-test.taken)
+overflow_add-k c =
+    let n = writing_next _ _ _ _ _ _ c.requires.room c.requires.fit c.loop-i.invariant c.loop-i-test.true in
+    omega (arith, n.few, c.loop-i.invariant.few, c.loop-i-test.true)
 
 pub loop-i-preserved : goal.loop-i-preserved
-loop-i-preserved c = let at = ap (λ (x : ℕ). c.loop-i.at + x) c.write_record-at.ensures.size in
-    writing_again _ _ _ _ _ _ c.requires.room c.requires.fit c.loop-i.invariant c.loop-i-test.taken c.write_record-at.ensures.written c.write_record-at.auto.out at
+loop-i-preserved c =
+    let at = ap (λ (x : ℕ). c.loop-i.at + x) c.write_record-at.ensures.size in
+    let e = c.write_record-at.ensures.written in
+    writing_again _ _ _ _ _ _ c.requires.room c.requires.fit c.loop-i.invariant c.loop-i-test.true e c.write_record-at.auto.out at
 
 pub shape_of-out : goal.shape_of-out
 shape_of-out c = c.loop-i.invariant.wrote.long
