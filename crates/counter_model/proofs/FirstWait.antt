@@ -90,7 +90,7 @@ step_at i t = record { transition = i; time = t }
 -- z stands as s does, and each step of s is a step of z later by d
 record Later (d : ℕ) (s z : State) : Type 0 where
   pub location : s.location ≡ z.location
-  pub in_order_lem : (t : ℕ) → (s.time ≤ t) ↔ (z.time ≤ t + d)
+  pub in_order : (t : ℕ) → (s.time ≤ t) ↔ (z.time ≤ t + d)
   pub counts : (t j : ℕ) → s.time ≤ t → s.counts j + (t - s.time) ≡ z.counts j + (t + d - z.time)
 
 module _ (c : Chart) (d : ℕ) where
@@ -110,7 +110,7 @@ module _ (c : Chart) (d : ℕ) where
       taken : (r : Transition) → s.time ≤ t → Later d (after r s t) (after r z (t + d))
       taken r h = record {
         location = refl;
-        in_order_lem = λ u. omega arith;
+        in_order = λ u. omega arith;
         counts = λ u j b. omega (arith, ap (λ (v : Counts). restarted r.starts v j) (counts h));
       }
 
@@ -144,7 +144,7 @@ module _ (c : Chart) (d : ℕ) where
       ∙ match_same (Later d) (outcome every_time c (grown d v) (steps_of is ts)) (outcome every_time c v (steps_of is (later d ts)))
       (λ s. arrived_at c s.location) (λ s. arrived_at c s.location) (λ s z l. ap (arrived_at c) l.location)
       (steps_later is ts 0 (begin c (grown d v)) (begin c v)
-      (record { location = refl; in_order_lem = λ t. omega arith; counts = λ t j h. omega arith }))
+      (record { location = refl; in_order = λ t. omega arith; counts = λ t j h. omega arith }))
       ∙ sym (no_time c (outcome every_time c v (steps_of is (later d ts))))
 
 -- ---- an accepted chart

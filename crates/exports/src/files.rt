@@ -2,7 +2,7 @@
 ghost use Rattle.std.specs.Prelude.{◌≡◌, length};
 ghost use Rattle.file_format.specs.File.{file_of};
 ghost use Rattle.chart_lists.specs.Lists.{overwritten};
-ghost use Rattle.chart_lists.specs.Lent.{at_entry, at_exit};
+ghost use Rattle.chart_lists.specs.Lent.{at_entry, mut_at_entry, at_exit};
 ghost use Rattle.chart_lists.specs.Read.{read_as};
 ghost use Rattle.reader.specs.Reading.{read_into, read_answer, lists_after};
 ghost use Rattle.writer.specs.Writing.{write_into, write_answer};
@@ -78,10 +78,10 @@ pub extern "C" fn chart_read(
     constants: &mut [u32],
 ) -> chart_reading
     ensures answer { result
-        ≡ reading_of (read_answer (at_entry accepting sources targets events starts test_counts timers codes constants) file.now) }
+        ≡ reading_of (read_answer (mut_at_entry accepting sources targets events starts test_counts timers codes constants) file.now) }
     ensures lists { at_exit accepting sources targets events starts test_counts timers codes constants
-        ≡ lists_after (read_into (at_entry accepting sources targets events starts test_counts timers codes constants) file.now)
-        (at_entry accepting sources targets events starts test_counts timers codes constants) }
+        ≡ lists_after (read_into (mut_at_entry accepting sources targets events starts test_counts timers codes constants) file.now)
+        (mut_at_entry accepting sources targets events starts test_counts timers codes constants) }
 {
     let a = reader::read_chart(
         file,

@@ -7,7 +7,7 @@ use mathlib.Core.Logic.{◌⊎◌, inl, inr}
 use mathlib.Core.Bool.{Bool, true, false, ◌||◌, not}
 use mathlib.Core.Option.{Option, none, some, map, some-injective, none-ne-some}
 use mathlib.Core.List.{List, [], ◌∷◌, ◌++◌, append_assoc, append-nil}
-use Prim.Native.Nat.{ℕ, zero, suc, ◌+◌, ◌*◌, ◌^◌, ◌≤◌, ◌<◌}
+use Prim.Native.Nat.{ℕ, zero, suc, ◌+◌, ◌*◌, ◌%◌, ◌^◌, ◌≤◌, ◌<◌}
 use native.Mathlib.Nat.{zero-add, mul-le-mul}
 use native.Mathlib.Omega.{arith}
 use lib.Dec.{leb, ltb, eqb}
@@ -32,7 +32,9 @@ use Rattle.file_format.proofs.Parsed.{bind_assoc, bind_guard}
 use Rattle.file_format.proofs.Reading.{one_cut, below_refused}
 use Rattle.file_format.proofs.Fields.{number_trip, below_trip}
 use Rattle.file_format.proofs.Body.{read_chart, body_is}
+use Rattle.file_format.specs.Versions.{chart_in_version1, chart_in_version12}
 use Rattle.file_format.proofs.File.{reads_storable}
+use Rattle.file_format.proofs.Versions.{reads_as_version_1, reads_as_before}
 use Rattle.chart_lists.specs.Lists.{Lists}
 use Rattle.chart_lists.specs.declared.Header.{Header}
 use Rattle.list_judging.specs.FromLists.{or_refused, entry_at, accepting_from, test_from, tests_from, transition_from, transitions_from}
@@ -264,3 +266,22 @@ module _ (m : Header) (l : Lists) (fits : TypedHeader m) (typed : Typed l)
           let s = reads_storable (file_from m l) c (from_bytes m l fits typed) e in
           let q : large_in_version1 c ≡ false = ((storable_iff c).0 s).not_refused in
           rw q
+
+  -- of another version than 3: as the reader before there was one
+  pub writes_as_before_12 : (m.version ≡ 3 → ⊥) → chart_from m l ≡ chart_in_version12 (file_from m l)
+  unfolding file_from digits
+  writes_as_before_12 h =
+      sym writer_as_reader
+      ∙ reads_as_before (file_from m l) (λ q.
+      let three : m.version % 256 ≡ 3 = some-injective _ _ q in
+      h (omega (arith, three, fits.version)))
+
+  -- of version 1: as the reader of version 1 alone, as before there was another
+  pub writes_as_before : m.version ≡ 1 → chart_from m l ≡ chart_in_version1 (file_from m l)
+  unfolding file_from digits
+  writes_as_before e =
+      sym writer_as_reader
+      ∙ reads_as_version_1 (file_from m l) (λ q. other 2 q (λ z. omega arith)) (λ q. other 3 q (λ z. omega arith))
+    where
+      other : (v : ℕ) → some (m.version % 256) ≡ some v → (v ≡ 1 → ⊥) → ⊥
+      other v q h = h (omega (arith, some-injective _ _ q, e))

@@ -2,7 +2,7 @@
 #![tactic(auto)]
 
 ghost use Rattle.std.specs.Prelude.{◌≡◌};
-ghost use Rattle.chart_lists.specs.Lent.{at_entry, at_exit};
+ghost use Rattle.chart_lists.specs.Lent.{mut_at_entry, at_exit};
 ghost use Rattle.chart_lists.specs.Read.{read_as};
 ghost use Rattle.reader.specs.Reading.{read_into, read_answer, lists_after};
 ghost use Rattle.reader.specs.Parts.{enough};
@@ -68,10 +68,10 @@ pub fn read_chart(
     constants: &mut [u32],
 ) -> Read
     ensures answer { read_as result
-        ≡ read_answer (at_entry accepting sources targets events starts test_counts timers codes constants) file.now }
+        ≡ read_answer (mut_at_entry accepting sources targets events starts test_counts timers codes constants) file.now }
     ensures lists { at_exit accepting sources targets events starts test_counts timers codes constants
-        ≡ lists_after (read_into (at_entry accepting sources targets events starts test_counts timers codes constants) file.now)
-        (at_entry accepting sources targets events starts test_counts timers codes constants) }
+        ≡ lists_after (read_into (mut_at_entry accepting sources targets events starts test_counts timers codes constants) file.now)
+        (mut_at_entry accepting sources targets events starts test_counts timers codes constants) }
 {
     let a = file_judging::judge_file(file);
     let JudgedFile::Good(header, tests) = a else {

@@ -1,6 +1,5 @@
 -- `clear` meets its contract: the cells below x are written.
 use mathlib.Core.Path.{refl}
-use Prim.Native.Nat.{◌-◌}
 use native.Mathlib.Omega.{arith}
 use lib.ListN.{length-set}
 use Rattle.lists.proofs.Nth.{filled_more}

@@ -1,10 +1,10 @@
 -- `number_locations` meets its contract: the families that begin at the locations below q have their numbers. What is hard stands in Locations; here
 -- it is only carried through four calls.
 use mathlib.Core.Path.{◌≡◌, sym, ◌∙◌, subst}
-use Prim.Native.Nat.{ℕ, ◌*◌, ◌-◌}
+use Prim.Native.Nat.{ℕ, ◌*◌}
 use native.Mathlib.Omega.{arith}
 use lib.ListN.{length}
-use Rattle.lists.proofs.Bools.{same_number, not-false}
+use Rattle.lists.proofs.Bools.{same_number}
 use Rattle.families.specs.Propagation.{Ends}
 use Rattle.allocation.specs.Rows.{Lengths, WordsAgree}
 use Rattle.allocation.specs.Turns.{NumberedTo}

@@ -1,6 +1,5 @@
 -- `judge_state` judges the heads, then the state by 32.
-use mathlib.Core.Path.{◌≡◌, refl, sym, ◌∙◌}
-use Rattle.controller_model.specs.Controlling.{sound_state}
+use mathlib.Core.Path.{refl, sym, ◌∙◌}
 use Rattle.controller_model.proofs.SetUp.{heads_accepted}
 use Rattle.heads.proofs.Judging.{charts_passed, refused_as_lem, passed_as}
 use Rattle.controller.proofs.Judging.{accepted_ready, heads_refused, state_answer}
@@ -10,18 +9,21 @@ pub returns-in_default : goal.returns-in_default
 returns-in_default c = heads_refused _ _ _ _ _ c.judge_heads-found.ensures c.in_default.is
 
 pub sound_state-requires : goal.sound_state-requires
-sound_state-requires c = let r = (accepted_ready (heads_accepted ((charts_passed _ _ c.judge_heads-found.ensures c.in-Passed.is)).are) ((charts_passed _ _ c.judge_heads-found.ensures c.in-Passed.is)).headers_are) in
-    (((charts_passed _ _ c.judge_heads-found.ensures c.in-Passed.is)).charts, r.number, r.headers_of, r.fits)
+sound_state-requires c =
+    let p = charts_passed _ _ c.judge_heads-found.ensures c.in-Passed.is in
+    let r = accepted_ready (heads_accepted p.are) p.headers_are in
+    (p.charts, r.number, r.headers_of, r.fits)
 
 pub returns-then-not-sound_state : goal.returns-then-not-sound_state
-returns-then-not-sound_state c = refused_as_lem _ refl (state_answer _ _ _ _ ((charts_passed _ _ c.judge_heads-found.ensures c.in-Passed.is)).are (sym (c.if-not-sound_state.true) ∙ (let sounded' : let x = c.args in
-    c.sound_state.result ≡ sound_state x.heads.blocks ((charts_passed _ _ c.judge_heads-found.ensures c.in-Passed.is)).charts x.state = let r = (accepted_ready (heads_accepted ((charts_passed _ _ c.judge_heads-found.ensures c.in-Passed.is)).are) ((charts_passed _ _ c.judge_heads-found.ensures c.in-Passed.is)).headers_are) in
-    c.sound_state.ensures ((charts_passed _ _ c.judge_heads-found.ensures c.in-Passed.is)).charts r.number r.headers_of r.fits in
-    sounded')))
+returns-then-not-sound_state c =
+    let p = charts_passed _ _ c.judge_heads-found.ensures c.in-Passed.is in
+    let r = accepted_ready (heads_accepted p.are) p.headers_are in
+    let sounded = c.sound_state.ensures p.charts r.number r.headers_of r.fits in
+    refused_as_lem _ refl (state_answer _ _ _ _ p.are (sym c.if-not-sound_state.true ∙ sounded))
 
 pub returns : goal.returns
-returns c = passed_as _ c.in-Passed.is ((charts_passed _ _ c.judge_heads-found.ensures c.in-Passed.is)).headers_are
-    (state_answer _ _ _ _ ((charts_passed _ _ c.judge_heads-found.ensures c.in-Passed.is)).are (sym (c.if-not-sound_state.false) ∙ (let sounded' : let x = c.args in
-    c.sound_state.result ≡ sound_state x.heads.blocks ((charts_passed _ _ c.judge_heads-found.ensures c.in-Passed.is)).charts x.state = let r = (accepted_ready (heads_accepted ((charts_passed _ _ c.judge_heads-found.ensures c.in-Passed.is)).are) ((charts_passed _ _ c.judge_heads-found.ensures c.in-Passed.is)).headers_are) in
-    c.sound_state.ensures ((charts_passed _ _ c.judge_heads-found.ensures c.in-Passed.is)).charts r.number r.headers_of r.fits in
-    sounded')))
+returns c =
+    let p = charts_passed _ _ c.judge_heads-found.ensures c.in-Passed.is in
+    let r = accepted_ready (heads_accepted p.are) p.headers_are in
+    let sounded = c.sound_state.ensures p.charts r.number r.headers_of r.fits in
+    passed_as _ c.in-Passed.is p.headers_are (state_answer _ _ _ _ p.are (sym c.if-not-sound_state.false ∙ sounded))

@@ -17,4 +17,4 @@ returns-then-time-own c = let r = too_early _ _ _ _ _ c.if-head-n.false c.if-own
 
 pub returns : goal.returns
 unfolding receive
-returns c = let r = waits_now c.args.t1 c.args.n c.args.head c.args.event c.args.time c.if-head-n.false c.if-own-ne0.false c.if-time-gt-LARGEST_TIME.false c.if-time-own.false in record { answer = r.0; state = r.1 }
+returns c = let r = waits_now c.args.state c.args.n c.args.head c.args.event c.args.time c.if-head-n.false c.if-own-ne0.false c.if-time-gt-LARGEST_TIME.false c.if-time-own.false in record { answer = r.0; state = r.1 }

@@ -7,14 +7,23 @@ use Rattle.controller.proofs.Turns.{refused_turn}
 use Rattle.controller.proofs.turn.Goals as goal
 
 pub take_turn-requires : goal.take_turn-requires
-take_turn-requires c = let p = (charts_passed _ _ c.judge_state-found.ensures c.in-Passed.is) in
-    (p.charts, (accepted_ready (heads_accepted (state_passed _ _ _ _ ((charts_passed _ _ c.judge_state-found.ensures c.in-Passed.is)).are).0) ((charts_passed _ _ c.judge_state-found.ensures c.in-Passed.is)).headers_are), (state_passed _ _ _ _ p.are).1)
+take_turn-requires c =
+    let p = charts_passed _ _ c.judge_state-found.ensures c.in-Passed.is in
+    let s = state_passed _ _ _ _ p.are in
+    (p.charts, accepted_ready (heads_accepted s.0) p.headers_are, s.1)
 
 pub returns-in-Refused : goal.returns-in-Refused
-returns-in-Refused c = let r = refused_turn _ (called_refused _ _ _ _ _ _ c.judge_state-found.ensures c.in-Refused.is) c.in-Refused.is in record { answer = r.0; state = r.1 }
+returns-in-Refused c =
+    let r = refused_turn _ (called_refused _ _ _ _ _ _ c.judge_state-found.ensures c.in-Refused.is) c.in-Refused.is in
+    record { answer = r.0; state = r.1 }
 
 pub returns-in-Passed : goal.returns-in-Passed
 unfolding done_by reported
-returns-in-Passed c = let r = let p = (charts_passed _ _ c.judge_state-found.ensures c.in-Passed.is) in
-    let sound = (state_passed _ _ _ _ p.are).1 in
-    rw (called_passed _ _ _ _ turn p.are) (c.take_turn.ensures.answer p.charts (accepted_ready (heads_accepted (state_passed _ _ _ _ ((charts_passed _ _ c.judge_state-found.ensures c.in-Passed.is)).are).0) ((charts_passed _ _ c.judge_state-found.ensures c.in-Passed.is)).headers_are) sound, c.take_turn.ensures.state p.charts (accepted_ready (heads_accepted (state_passed _ _ _ _ ((charts_passed _ _ c.judge_state-found.ensures c.in-Passed.is)).are).0) ((charts_passed _ _ c.judge_state-found.ensures c.in-Passed.is)).headers_are) sound) in record { answer = r.0; state = r.1 }
+returns-in-Passed c =
+    let p = charts_passed _ _ c.judge_state-found.ensures c.in-Passed.is in
+    let s = state_passed _ _ _ _ p.are in
+    let ready = accepted_ready (heads_accepted s.0) p.headers_are in
+    record {
+      answer = rw (called_passed _ _ _ _ turn p.are) (c.take_turn.ensures.answer p.charts ready s.1);
+      state = rw (called_passed _ _ _ _ turn p.are) (c.take_turn.ensures.state p.charts ready s.1);
+    }

@@ -7,7 +7,6 @@ use Rattle.model.specs.Answer.{returned}
 use Rattle.analysis.specs.Analysing.{analysis_as}
 use Rattle.exports.specs.declared.chart_analysis.{chart_analysis}
 use Rattle.exports.specs.Exported.{analysis_of}
-use borrow.Author.Rules.{rules}
 use Rattle.exports.proofs.chart_analyse.Goals as goal
 
 -- the code's cast makes 1 of true and 0 of false
@@ -17,38 +16,15 @@ found : (u f : ℕ) (b : Bool) (n : ℕ)
 found u f true n = refl
 found u f false n = refl
 
-pub analyse-a-requires : goal.analyse-a-requires
-analyse-a-requires c = search rules
-
-pub enum_known-a : goal.enum_known-a
-enum_known-a c = search rules
-
-pub overflow_cast-result : goal.overflow_cast-result
-overflow_cast-result c = search rules
-
-pub overflow_cast-result-in-Found : goal.overflow_cast-result-in-Found
-overflow_cast-result-in-Found c = search rules
-
-pub overflow_cast-result-in-Found-2 : goal.overflow_cast-result-in-Found-2
-overflow_cast-result-in-Found-2 c = search rules
-
-pub overflow_cast-result-in-Found-3 : goal.overflow_cast-result-in-Found-3
-overflow_cast-result-in-Found-3 c = search rules
-
-pub enum_known-a-in-Refused-1 : goal.enum_known-a-in-Refused-1
-enum_known-a-in-Refused-1 c = search rules
-
-pub overflow_cast-result-in-Refused : goal.overflow_cast-result-in-Refused
-overflow_cast-result-in-Refused c = search rules
-
-pub shape_of-live-in-Found : goal.shape_of-live-in-Found
-shape_of-live-in-Found c = search rules
-
 pub returns-in-Found : goal.returns-in-Found
-returns-in-Found c = record { answer = found c.in-Found.used c.in-Found.floor c.in-Found.searched c.in-Found.rounds ∙ ap analysis_of (sym (ap analysis_as c.in-Found.is) ∙ c.analyse-a.ensures.answer); lent = c.analyse-a.ensures.lent }
-
-pub shape_of-live-in-Refused : goal.shape_of-live-in-Refused
-shape_of-live-in-Refused c = search rules
+returns-in-Found c = record {
+  answer = found c.in-Found.used c.in-Found.floor c.in-Found.searched c.in-Found.rounds
+      ∙ ap analysis_of (sym (ap analysis_as c.in-Found.is) ∙ c.analyse-a.ensures.answer);
+  lent = c.analyse-a.ensures.lent;
+}
 
 pub returns-in-Refused : goal.returns-in-Refused
-returns-in-Refused c = record { answer = ap analysis_of (sym (ap analysis_as c.in-Refused.is) ∙ c.analyse-a.ensures.answer); lent = c.analyse-a.ensures.lent }
+returns-in-Refused c = record {
+  answer = ap analysis_of (sym (ap analysis_as c.in-Refused.is) ∙ c.analyse-a.ensures.answer);
+  lent = c.analyse-a.ensures.lent;
+}

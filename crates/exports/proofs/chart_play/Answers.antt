@@ -7,7 +7,6 @@ use Rattle.model.specs.Answer.{returned}
 use Rattle.exports.specs.declared.chart_playing.{chart_playing}
 use Rattle.player.specs.Playing.{played_as}
 use Rattle.exports.specs.Exported.{playing_of}
-use borrow.Author.Rules.{rules}
 use Rattle.exports.proofs.chart_play.Goals as goal
 
 -- the code's cast makes 1 of true and 0 of false
@@ -16,26 +15,10 @@ arrived : (q t : ℕ) (b : Bool) → ◌≡◌ {A = chart_playing} (record { num
 arrived q t true = refl
 arrived q t false = refl
 
-pub play-a-requires : goal.play-a-requires
-play-a-requires c = search rules
-
-pub enum_known-a : goal.enum_known-a
-enum_known-a c = search rules
-
-pub overflow_cast-result : goal.overflow_cast-result
-overflow_cast-result c = search rules
-
-pub overflow_cast-result-in-Arrived : goal.overflow_cast-result-in-Arrived
-overflow_cast-result-in-Arrived c = search rules
-
-pub enum_known-a-in-Refused-1 : goal.enum_known-a-in-Refused-1
-enum_known-a-in-Refused-1 c = search rules
-
-pub overflow_cast-result-in-Refused : goal.overflow_cast-result-in-Refused
-overflow_cast-result-in-Refused c = search rules
-
 pub returns-in-Arrived : goal.returns-in-Arrived
-returns-in-Arrived c = arrived c.in-Arrived.location c.in-Arrived.time c.in-Arrived.accepting ∙ ap playing_of (sym (ap played_as c.in-Arrived.is) ∙ c.play-a.ensures)
+returns-in-Arrived c =
+    let answer = sym (ap played_as c.in-Arrived.is) ∙ c.play-a.ensures in
+    arrived c.in-Arrived.location c.in-Arrived.time c.in-Arrived.accepting ∙ ap playing_of answer
 
 pub returns-in-Refused : goal.returns-in-Refused
 returns-in-Refused c = ap playing_of (sym (ap played_as c.in-Refused.is) ∙ c.play-a.ensures)

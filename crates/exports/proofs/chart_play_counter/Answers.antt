@@ -7,7 +7,6 @@ use Rattle.model.specs.Answer.{returned}
 use Rattle.exports.specs.declared.chart_counter_playing.{chart_counter_playing}
 use Rattle.counter_player.specs.Playing.{counter_played_as}
 use Rattle.exports.specs.Exported.{counter_playing_of}
-use borrow.Author.Rules.{rules}
 use Rattle.exports.proofs.chart_play_counter.Goals as goal
 
 -- the code's cast makes 1 of true and 0 of false
@@ -15,24 +14,6 @@ arrived : (q : ℕ) (b : Bool) → ◌≡◌ {A = chart_counter_playing} (record
     (counter_playing_of (returned (record { location = q; accepting = b })))
 arrived q true = refl
 arrived q false = refl
-
-pub play_counter-a-requires : goal.play_counter-a-requires
-play_counter-a-requires c = search rules
-
-pub enum_known-a : goal.enum_known-a
-enum_known-a c = search rules
-
-pub overflow_cast-result : goal.overflow_cast-result
-overflow_cast-result c = search rules
-
-pub overflow_cast-result-in-Arrived : goal.overflow_cast-result-in-Arrived
-overflow_cast-result-in-Arrived c = search rules
-
-pub enum_known-a-in-Refused-1 : goal.enum_known-a-in-Refused-1
-enum_known-a-in-Refused-1 c = search rules
-
-pub overflow_cast-result-in-Refused : goal.overflow_cast-result-in-Refused
-overflow_cast-result-in-Refused c = search rules
 
 pub returns-in-Arrived : goal.returns-in-Arrived
 returns-in-Arrived c = let answer = sym (ap counter_played_as c.in-Arrived.is) ∙ c.play_counter-a.ensures in

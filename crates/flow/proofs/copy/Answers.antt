@@ -1,7 +1,7 @@
 -- `copy` overwrites a list by another of its length, from the front.
 use mathlib.Core.Path.{◌≡◌, refl, sym, ◌∙◌}
 use mathlib.Core.List.{List}
-use Prim.Native.Nat.{ℕ, suc, ◌-◌, ◌≤◌, ◌<◌}
+use Prim.Native.Nat.{ℕ, suc, ◌≤◌, ◌<◌}
 use native.Mathlib.Numerals.{add-one}
 use native.Mathlib.Omega.{arith}
 use lib.ListN.{length, get_or, set, take, length-set}
@@ -20,7 +20,9 @@ pub loop-i-init : goal.loop-i-init
 loop-i-init c = (c.requires, refl)
 
 pub loop-i-preserved : goal.loop-i-preserved
-loop-i-preserved c = (simp length-set c.loop-i.invariant.0, rw add-one (copied_more _ c.loop-i.to c.loop-i.i (omega arith) c.loop-i.invariant.0 c.loop-i.invariant.1))
+loop-i-preserved c =
+    let v = c.loop-i.invariant in
+    (simp length-set v.0, rw add-one (copied_more _ c.loop-i.to c.loop-i.i (omega arith) v.0 v.1))
 
 pub returns : goal.returns
 returns c = copied_all _ _ c.loop-i.i (omega arith) c.loop-i.invariant.0 c.loop-i.invariant.1

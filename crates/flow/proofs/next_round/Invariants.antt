@@ -9,7 +9,8 @@ use Rattle.flow.specs.Rounds.{LeavesOne}
 use Rattle.flow.proofs.next_round.Given as goal
 
 abbrev pub invariant-loop-i : goal.invariant-loop-i
-invariant-loop-i l = (length l.after ≡ length l.initial.after) × (length l.idle ≡ length l.initial.idle) × (length l.waiting ≡ length l.initial.waiting)
+invariant-loop-i l =
+    (length l.after ≡ length l.initial.after) × (length l.idle ≡ length l.initial.idle) × (length l.waiting ≡ length l.initial.waiting)
     × ((from : List ℕ) → Adjacency (length l.initial.after) from l.into l.cut l.first l.next
     → GoneOver from l.into l.cut (LeavesOne from l.changed l.i) (λ q. get_or l.sets q 0) l.initial.after l.initial.idle l.after l.idle)
     × Worklist (length l.initial.after) l.idle l.waiting l.depth × (l.depth + sum_of l.initial.after ≤ sum_of l.after) × (l.i ≤ l.count)

@@ -1,6 +1,6 @@
 -- `push_nonempty` looks at each location in turn: those passed that are idle have empty sets.
 use mathlib.Core.Path.{refl, sym, ◌∙◌}
-use Prim.Native.Nat.{ℕ, ◌-◌}
+use Prim.Native.Nat.{ℕ}
 use native.Mathlib.Omega.{arith}
 use lib.ListN.{length, length-replicate}
 use borrow.Author.Count.{below_more, below_none}
@@ -16,17 +16,21 @@ pub push-depth-requires : goal.push-depth-requires
 push-depth-requires c = (length c.args.sets.now, search rules, c.loop-i.invariant.3)
 
 pub loop-i-preserved-then-sets-q-ne0 : goal.loop-i-preserved-then-sets-q-ne0
-loop-i-preserved-then-sets-q-ne0 c = (
-  refl,
-  search rules,
-  search rules,
-  c.push-depth.ensures.worklist (length c.args.sets.now) (omega (arith, c.loop-i-test.true)) c.loop-i.invariant.3,
-  passed_more c.args.sets.now c.loop-i.idle _ c.loop-i.i (omega (arith, c.loop-i-test.true, c.loop-i.invariant.3.idles)) c.push-depth.ensures.idle c.loop-i.invariant.4,
-  (λ all. absurd (c.if-sets-q-ne0.true (all c.loop-i.i))),
-)
+loop-i-preserved-then-sets-q-ne0 c =
+    let v = c.loop-i.invariant in
+    let e = c.push-depth.ensures in (
+      refl,
+      search rules,
+      search rules,
+      e.worklist (length c.args.sets.now) (omega (arith, c.loop-i-test.true)) v.3,
+      passed_more c.args.sets.now c.loop-i.idle _ c.loop-i.i (omega (arith, c.loop-i-test.true, v.3.idles)) e.idle v.4,
+      (λ all. absurd (c.if-sets-q-ne0.true (all c.loop-i.i))),
+    )
 
 pub loop-i-preserved : goal.loop-i-preserved
-loop-i-preserved c = (refl, c.loop-i.invariant.1, c.loop-i.invariant.2, c.loop-i.invariant.3, below_more _ c.loop-i.i c.loop-i.invariant.4 (λ f. c.if-sets-q-ne0.false), c.loop-i.invariant.5)
+loop-i-preserved c =
+    let v = c.loop-i.invariant in
+    (refl, v.1, v.2, v.3, below_more _ c.loop-i.i v.4 (λ f. c.if-sets-q-ne0.false), v.5)
 
 pub returns : goal.returns
 returns c = record {

@@ -19,7 +19,9 @@ slice_bounds-merged-end c = let room = few c.requires.0.0 c.requires.0.1 c.requi
     search (rules, room)
 
 pub slice_bounds-find_floor-end : goal.slice_bounds-find_floor-end
-slice_bounds-find_floor-end c = sym (merged_part (reached_part c.requires.0.0) (part_are c.requires.0.0 c.requires.0.1) (c.number_chart-numbered.ensures c.requires.0.0 c.requires.0.1 c.requires.0.2 c.requires.0.3 c.requires.0.4).merged_are)
+slice_bounds-find_floor-end c =
+    let p = c.requires.0 in
+    sym (merged_part (reached_part p.0) (part_are p.0 p.1) (c.number_chart-numbered.ensures p.0 p.1 p.2 p.3 p.4).merged_are)
 
 pub slice_bounds-families_at-end : goal.slice_bounds-families_at-end
 slice_bounds-families_at-end c = let room = few c.requires.0.0 c.requires.0.1 c.requires.0.2 c.requires.0.3 in
@@ -39,7 +41,8 @@ find_floor-found-requires c = let room = few c.requires.0.0 c.requires.0.1 c.req
 pub returns : goal.returns
 returns c d e h b reached = let m = c.number_chart-numbered.ensures d e h b reached in
     let room = few d e h b in
-    let f = c.find_floor-found.ensures (reached_part d) (floor_asked (reached_part d) (part_are d e) (part_valid h.valid) m (search (rules, room))) in (
+    let asked = floor_asked (reached_part d) (part_are d e) (part_valid h.valid) m (search (rules, room)) in
+    let f = c.find_floor-found.ensures (reached_part d) asked in (
       ap returned (chart_numbers d e m.used_is f.0 f.1 m.rounds_is),
       record { width = h.width; valid = h.valid; live_are = m.live_are; cells_are = unfold reached_part in m.cells_are },
     )

@@ -8,13 +8,18 @@ use Rattle.numbering.proofs.FileNumbers.{part_header}
 use Rattle.numbering.proofs.number_part.Goals as goal
 
 pub reached_part-transitions-requires : goal.reached_part-transitions-requires
-reached_part-transitions-requires c = let few : c.args.header.transitions ≤ most_transitions = omega (arith, transitions_are c.requires.0.0 c.requires.0.1, c.requires.0.2.valid.few_transitions) in
-    (c.requires.0, few, few, few, few)
+reached_part-transitions-requires c =
+    let p = c.requires.0 in
+    let few : c.args.header.transitions ≤ most_transitions = omega (arith, transitions_are p.0 p.1, p.2.valid.few_transitions) in
+    (p, few, few, few, few)
 
 pub number_lists-requires : goal.number_lists-requires
-number_lists-requires c = let l = c.reached_part-transitions.ensures c.requires.0.0 c.requires.0.1 c.requires.0.2 c.requires.0.3 in
-    ((reached_part c.requires.0.0, part_header c.requires.0.0 c.requires.0.1 l.count, l.edges, l.tested-are), c.requires.1, c.requires.2, c.requires.3, c.requires.4)
+number_lists-requires c =
+    let p = c.requires.0 in
+    let l = c.reached_part-transitions.ensures p.0 p.1 p.2 p.3 in
+    ((reached_part p.0, part_header p.0 p.1 l.count, l.edges, l.tested_are), c.requires.1, c.requires.2, c.requires.3, c.requires.4)
 
 pub returns : goal.returns
-returns c chart is holds tested = let l = c.reached_part-transitions.ensures chart is holds tested in
-    c.number_lists.ensures (reached_part chart) (part_header chart is l.count) l.edges l.tested-are
+returns c chart is holds tested =
+    let l = c.reached_part-transitions.ensures chart is holds tested in
+    c.number_lists.ensures (reached_part chart) (part_header chart is l.count) l.edges l.tested_are

@@ -9,10 +9,19 @@ use Rattle.player.proofs.play_chart.Goals as goal
 
 pub returns-in-Refused : goal.returns-in-Refused
 unfolding judged_to13
-returns-in-Refused c = λ ch e held. after_inputs_lem ch _ _ _ (sym (ap judged_as c.in-Refused.is) ∙ c.judge_inputs-judged.ensures ch (timers_are ch e)) _ ∙ refl
+returns-in-Refused c = λ ch e held.
+    let told = sym (ap judged_as c.in-Refused.is) ∙ c.judge_inputs-judged.ensures ch (timers_are ch e) in
+    after_inputs_lem ch _ _ _ told _ ∙ refl
 
 pub play_steps-out-requires : goal.play_steps-out-requires
-play_steps-out-requires c = record { header_value = let e = (sym (ap judged_as c.in_default.is) ∙ c.judge_inputs-judged.ensures c.in_default.is.0 (timers_are c.in_default.is.0 c.in_default.is.1)) in (c.requires.0, c.requires.1, holds_steps c.requires.2); allowed = let e = (sym (ap judged_as c.in_default.is) ∙ c.judge_inputs-judged.ensures c.in_default.is.0 (timers_are c.in_default.is.0 c.in_default.is.1)) in allowed c.requires.0 _ _ _ e c.requires.2.valid.few_timers; times_len = let e = (sym (ap judged_as c.in_default.is) ∙ c.judge_inputs-judged.ensures c.in_default.is.0 (timers_are c.in_default.is.0 c.in_default.is.1)) in sym (one_length c.requires.0 _ _ _ e) }
+play_steps-out-requires c =
+    let p = c.requires in
+    let e = sym (ap judged_as c.in_default.is) ∙ c.judge_inputs-judged.ensures p.0 (timers_are p.0 p.1) in
+    record {
+      header_value = (p.0, p.1, holds_steps p.2);
+      allowed = allowed p.0 _ _ _ e p.2.valid.few_timers;
+      times_len = sym (one_length p.0 _ _ _ e);
+    }
 
 pub slice_bounds-arrived-end : goal.slice_bounds-arrived-end
 slice_bounds-arrived-end c = accepting_long c.requires.0 c.requires.1 c.requires.2

@@ -19,13 +19,13 @@ pub offset_bounds-first-q : goal.offset_bounds-first-q
 offset_bounds-first-q c = omega (arith, (c.type_inv.from (c.loop-i.i - 1)).fits)
 
 pub bounds-first-q : goal.bounds-first-q
-bounds-first-q c = let v = c.loop-i.invariant in source _ _ _ _ c.requires.3 v.1 c.loop-i-test.true v.0
+bounds-first-q c = let v = c.loop-i.invariant in source _ _ _ c.loop-i.i c.requires.3 v.1 (omega arith) v.0
 
 pub offset_bounds-first-q-in-loop-i : goal.offset_bounds-first-q-in-loop-i
 offset_bounds-first-q-in-loop-i c = omega (arith, (c.type_inv.from (c.loop-i.i - 1)).fits)
 
 pub bounds-first-q-in-loop-i : goal.bounds-first-q-in-loop-i
-bounds-first-q-in-loop-i c = let v = c.loop-i.invariant in source _ _ _ _ c.requires.3 v.1 c.loop-i-test.true v.0
+bounds-first-q-in-loop-i c = let v = c.loop-i.invariant in source _ _ _ c.loop-i.i c.requires.3 v.1 (omega arith) v.0
 
 pub loop-i-preserved : goal.loop-i-preserved
 loop-i-preserved c =
@@ -35,7 +35,7 @@ loop-i-preserved c =
       rw length-set v.1,
       rw length-set v.2,
       listed_more v.3 (c.loop-i.i - 1) (omega (arith, c.loop-i-test.true)) below
-          (source _ _ _ _ c.requires.3 v.1 c.loop-i-test.true v.0)
+          (source _ _ _ c.loop-i.i c.requires.3 v.1 (omega arith) v.0)
           (omega (arith, below, c.requires.1, v.2)),
     )
 

@@ -1,6 +1,5 @@
 -- `held_word` meets its contract: the locations of the family below s are looked at.
 use mathlib.Core.Path.{◌≡◌, sym, ap, ◌∙◌}
-use Prim.Native.Nat.{◌-◌}
 use native.Mathlib.Omega.{arith}
 use mathlib.Core.Bool.{Bool, ◌||◌}
 use Rattle.timer_set.proofs.Members.{member_empty, member_joined}

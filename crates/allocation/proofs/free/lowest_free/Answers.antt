@@ -1,5 +1,4 @@
 -- `lowest_free` meets its contract: the numbers below 64 w are all taken.
-use Prim.Native.Nat.{◌-◌}
 use native.Mathlib.Omega.{arith}
 use Rattle.allocation.specs.Rows.{taken}
 use Rattle.allocation.proofs.Rows.{word_found, word_full, all_full}

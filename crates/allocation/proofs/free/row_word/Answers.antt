@@ -1,6 +1,6 @@
 -- `row_word` meets its contract: the rows of the family's locations below s are looked at.
 use mathlib.Core.Path.{◌≡◌, sym, ap, ◌∙◌}
-use Prim.Native.Nat.{◌+◌, ◌*◌, ◌-◌}
+use Prim.Native.Nat.{◌+◌, ◌*◌}
 use native.Mathlib.Omega.{arith}
 use mathlib.Core.Bool.{Bool, ◌||◌}
 use Rattle.timer_set.proofs.Members.{member_empty}

@@ -1,6 +1,5 @@
 -- `with_row` meets its contract: the first i cells of the row are looked at.
 use mathlib.Core.Path.{◌≡◌}
-use Prim.Native.Nat.{◌-◌}
 use native.Mathlib.Omega.{arith}
 use Rattle.timer_set.specs.Members.{member}
 use Rattle.allocation.proofs.Rows.{row_none, row_yes, row_no}

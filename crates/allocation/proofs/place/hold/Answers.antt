@@ -1,6 +1,5 @@
 -- `hold` meets its contract: the words of the family's locations below s are done.
 use mathlib.Core.Path.{◌≡◌, refl, sym, ◌∙◌}
-use Prim.Native.Nat.{◌-◌}
 use native.Mathlib.Omega.{arith}
 use lib.ListN.{length-set}
 use Rattle.allocation.specs.Rows.{holding}

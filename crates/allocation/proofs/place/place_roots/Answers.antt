@@ -1,6 +1,6 @@
 -- `place_roots` meets its contract: the families of the timers below j have their numbers and are marked.
 use mathlib.Core.Path.{◌≡◌, sym, ◌∙◌, subst}
-use Prim.Native.Nat.{ℕ, ◌+◌, ◌*◌, ◌-◌}
+use Prim.Native.Nat.{ℕ, ◌+◌, ◌*◌}
 use native.Mathlib.Omega.{arith}
 use lib.ListN.{length}
 use Rattle.allocation.specs.Turns.{NumberedTo}

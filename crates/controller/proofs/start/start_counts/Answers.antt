@@ -9,16 +9,16 @@ use Rattle.controller.proofs.start.start_counts.Goals as goal
 
 pub loop-h-init : goal.loop-h-init
 unfolding start_counts
-loop-h-init c = (c.requires.0, omega arith, refl)
+loop-h-init c = (c.requires.n_bound, omega arith, refl)
 
 pub write_counts-next-requires : goal.write_counts-next-requires
-write_counts-next-requires c = counts_on_board c.requires.1 c.loop-h.h (omega arith) c.begin_of.ensures (part_between c.args.parts.lengths c.loop-h.h c.args.counts.now c.begin_of-begin.ensures c.end_of-end.ensures)
+write_counts-next-requires c = counts_on_board c.requires.counts_fit c.loop-h.h (omega arith) c.begin_of.ensures (part_between c.args.parts.lengths c.loop-h.h c.args.counts.now c.begin_of-begin.ensures c.end_of-end.ensures)
 
 pub loop-h-preserved : goal.loop-h-preserved
 loop-h-preserved c = (
   c.loop-h.invariant.0,
   omega arith,
-  next_counts c.requires.1 c.loop-h.h (omega arith) c.begin_of.ensures (part_between c.args.parts.lengths c.loop-h.h c.args.counts.now c.begin_of-begin.ensures c.end_of-end.ensures) c.loop-h.invariant.2 c.write_counts-next.ensures,
+  next_counts c.requires.counts_fit c.loop-h.h (omega arith) c.begin_of.ensures (part_between c.args.parts.lengths c.loop-h.h c.args.counts.now c.begin_of-begin.ensures c.end_of-end.ensures) c.loop-h.invariant.2 c.write_counts-next.ensures,
 )
 
 pub returns : goal.returns

@@ -18,16 +18,17 @@ sound_head-requires c = on_board c.requires.2 c.requires.3 c.loop-h.h (omega (ar
 
 pub returns-then-not-sound_head : goal.returns-then-not-sound_head
 returns-then-not-sound_head c = λ cs e are fits.
-    head_unsound _ cs _ (omega (arith, e, c.loop-h.invariant.2)) c.loop-h.h (omega (arith, e)) (sym (let looked' : c.sound_head.result ≡ sound_at x.blocks cs x.t1 c.loop-h.h = sound_at_lem are fits c.loop-h.h (omega (arith, e)) c.begin_of-o.ensures c.args.t1 c.sound_head.ensures in
-    looked') ∙ c.if-not-sound_head.true)
+    let looked = sound_at_lem are fits c.loop-h.h (omega (arith, e)) c.begin_of-o.ensures c.args.state c.sound_head.ensures in
+    head_unsound _ cs _ (omega (arith, e, c.loop-h.invariant.2)) c.loop-h.h (omega (arith, e)) (sym looked ∙ c.if-not-sound_head.true)
 
 pub loop-h-preserved : goal.loop-h-preserved
 loop-h-preserved c = (
   c.loop-h.invariant.0,
   omega arith,
   c.loop-h.invariant.2,
-  λ cs e are fits. pass_more _ c.loop-h.h (sym (let looked' : c.sound_head.result ≡ sound_at x.blocks cs x.t1 c.loop-h.h = sound_at_lem are fits c.loop-h.h (omega (arith, e)) c.begin_of-o.ensures c.args.t1 c.sound_head.ensures in
-      looked') ∙ c.if-not-sound_head.false) (c.loop-h.invariant.3 cs e are fits),
+  λ cs e are fits.
+      let looked = sound_at_lem are fits c.loop-h.h (omega (arith, e)) c.begin_of-o.ensures c.args.state c.sound_head.ensures in
+      pass_more _ c.loop-h.h (sym looked ∙ c.if-not-sound_head.false) (c.loop-h.invariant.3 cs e are fits),
 )
 
 pub returns : goal.returns

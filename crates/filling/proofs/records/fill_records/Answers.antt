@@ -11,10 +11,6 @@ use Rattle.file_judging.proofs.Loops.{counted_done, counted_refused}
 use Rattle.filling.proofs.RecordsLoop.{records_first, records_done, records_never, records_again, record_fits}
 use Rattle.filling.proofs.records.fill_records.Goals as goal
 
--- where the record is stored and all lists are back
-abbrev Back : Type 0
-Back = tie.After-slice-known16 invariant-loop decreases_loop
-
 -- a list that is as long as one with room has room
 has_room : {k n a l : ℕ} → k < n → n ≤ a → l ≡ a → k < l
 has_room h r e = omega arith
@@ -36,78 +32,30 @@ fill_record-a-requires c = record {
   record_fits = record_fits c.loop-k.invariant.8.read c.loop-k-test.true c.requires.tests_fit c.loop-k.invariant.5 c.loop-k.invariant.6 c.loop-k.invariant.7;
 }
 
-pub shape_of-sources-in_default : goal.shape_of-sources-in_default
-shape_of-sources-in_default c = omega (arith, c.loop-k.invariant.0, c.sources-1.given)
-
-pub shape_of-targets-in_default : goal.shape_of-targets-in_default
-shape_of-targets-in_default c = omega (arith, c.loop-k.invariant.1, c.targets-1.given)
-
-pub shape_of-events-in_default : goal.shape_of-events-in_default
-shape_of-events-in_default c = omega (arith, c.loop-k.invariant.2, c.events-1.given)
-
-pub shape_of-starts-in_default : goal.shape_of-starts-in_default
-shape_of-starts-in_default c = omega (arith, c.loop-k.invariant.3, c.starts-1.given)
-
-pub shape_of-test_counts-in_default : goal.shape_of-test_counts-in_default
-shape_of-test_counts-in_default c = omega (arith, c.loop-k.invariant.4, c.test_counts-1.given)
-
-pub shape_of-timers-in_default : goal.shape_of-timers-in_default
-shape_of-timers-in_default c = omega (arith, c.loop-k.invariant.5, c.timers-1.given)
-
-pub shape_of-codes-in_default : goal.shape_of-codes-in_default
-shape_of-codes-in_default c = omega (arith, c.loop-k.invariant.6, c.codes-1.given)
-
-pub shape_of-constants-in_default : goal.shape_of-constants-in_default
-shape_of-constants-in_default c = omega (arith, c.loop-k.invariant.7, c.constants-1.given)
-
 pub returns-in_default : goal.returns-in_default
-returns-in_default c = record { read = let h = told (field_as c.args.s.now) c.in_default.is c.fill_record-a.ensures.read in c.fill_record-a.ensures.read ∙ h ∙ counted_refused c.loop-k.invariant.8.read c.loop-k-test.taken h; stored = let h = told (field_as c.args.s.now) c.in_default.is c.fill_record-a.ensures.read in (λ rs e q. absurd (records_never c.loop-k.invariant.8 c.loop-k-test.taken h rs e q)) }
+returns-in_default c = record { read = let h = told (field_as c.args.s.now) c.in_default.is c.fill_record-a.ensures.read in c.fill_record-a.ensures.read ∙ h ∙ counted_refused c.loop-k.invariant.8.read c.loop-k-test.true h; stored = let h = told (field_as c.args.s.now) c.in_default.is c.fill_record-a.ensures.read in (λ rs e q. absurd (records_never c.loop-k.invariant.8 c.loop-k-test.true h rs e q)) }
 
 pub overflow_add-base : goal.overflow_add-base
-overflow_add-base c = omega (arith, skip_at_most _ _ _ _ _ (told (field_as c.args.s.now) c.in-Value.is c.fill_record-a.ensures.read), c.loop-k.invariant.8.read.few, c.loop-k-test.taken, c§Start.good)
+overflow_add-base c = omega (arith, skip_at_most _ _ _ _ _ (told (field_as c.args.s.now) c.in-Value.is c.fill_record-a.ensures.read), c.loop-k.invariant.8.read.few, c.loop-k-test.true, c.ranges.n)
 
 pub overflow_add-k : goal.overflow_add-k
-overflow_add-k c = omega (arith, c.loop-k-test.taken, c§Start.good)
+overflow_add-k c = omega (arith, c.loop-k-test.true, c.ranges.n)
 
 pub loop-k-smaller : goal.loop-k-smaller
-loop-k-smaller c = omega (arith, c.loop-k-test.taken)
+loop-k-smaller c = omega (arith, c.loop-k-test.true)
 
 pub loop-k-preserved : goal.loop-k-preserved
 loop-k-preserved c = (
-  omega (arith, c.loop-k.invariant.0, c.sources-1.given),
-  omega (arith, c.loop-k.invariant.1, c.targets-1.given),
-  omega (arith, c.loop-k.invariant.2, c.events-1.given),
-  omega (arith, c.loop-k.invariant.3, c.starts-1.given),
-  omega (arith, c.loop-k.invariant.4, c.test_counts-1.given),
-  omega (arith, c.loop-k.invariant.5, c.timers-1.given),
-  omega (arith, c.loop-k.invariant.6, c.codes-1.given),
-  omega (arith, c.loop-k.invariant.7, c.constants-1.given),
-  records_again c.loop-k.invariant.8 c.loop-k-test.taken c.requires.limit_bound.1 c.requires.limit_bound.2 c.requires.limit_bound.3 c.requires.limit_bound.4 c.requires.limit_bound.5 c.fill_record-a.ensures.stored (told (field_as c.args.s.now) c.in-Value.is c.fill_record-a.ensures.read),
+  omega (arith, c.loop-k.invariant.0),
+  omega (arith, c.loop-k.invariant.1),
+  omega (arith, c.loop-k.invariant.2),
+  omega (arith, c.loop-k.invariant.3),
+  omega (arith, c.loop-k.invariant.4),
+  omega (arith, c.loop-k.invariant.5),
+  omega (arith, c.loop-k.invariant.6),
+  omega (arith, c.loop-k.invariant.7),
+  records_again c.loop-k.invariant.8 c.loop-k-test.true c.requires.limit_bound.1 c.requires.limit_bound.2 c.requires.limit_bound.3 c.requires.limit_bound.4 c.requires.limit_bound.5 c.fill_record-a.ensures.stored (told (field_as c.args.s.now) c.in-Value.is c.fill_record-a.ensures.read),
 )
-
-pub shape_of-sources : goal.shape_of-sources
-shape_of-sources c = c.loop-k.invariant.0
-
-pub shape_of-targets : goal.shape_of-targets
-shape_of-targets c = c.loop-k.invariant.1
-
-pub shape_of-events : goal.shape_of-events
-shape_of-events c = c.loop-k.invariant.2
-
-pub shape_of-starts : goal.shape_of-starts
-shape_of-starts c = c.loop-k.invariant.3
-
-pub shape_of-test_counts : goal.shape_of-test_counts
-shape_of-test_counts c = c.loop-k.invariant.4
-
-pub shape_of-timers : goal.shape_of-timers
-shape_of-timers c = c.loop-k.invariant.5
-
-pub shape_of-codes : goal.shape_of-codes
-shape_of-codes c = c.loop-k.invariant.6
-
-pub shape_of-constants : goal.shape_of-constants
-shape_of-constants c = c.loop-k.invariant.7
 
 pub returns : goal.returns
 returns c = record { read = counted_done c.loop-k.invariant.8.read c.loop-k-test.false; stored = records_done c.loop-k.invariant.8 c.loop-k-test.false }

@@ -6,9 +6,9 @@ use Rattle.filling.proofs.RecordsLoop.{RecordsFilled}
 use Rattle.filling.proofs.records.fill_records.Given as goal
 
 abbrev pub invariant-loop-k : goal.invariant-loop-k
-invariant-loop-k l = (length l.b₁ ≡ length l.a₁) × (length l.b₂ ≡ length l.a₂) × (length l.b₃ ≡ length l.a₃) × (length l.b₄ ≡ length l.a₄) × (length l.b₅ ≡ length l.a₅)
-    × (length l.b₆ ≡ length l.a₆) × (length l.b₇ ≡ length l.a₇) × (length l.b₈ ≡ length l.a₈)
-    × RecordsFilled (width_of l.version) l.locations l.limit l.n l.k l.base (drop l.at l.s) (drop l.here l.s) l.a₁ l.a₂ l.a₃ l.a₄ l.a₅ l.a₆ l.a₇ l.a₈ l.b₁ l.b₂ l.b₃ l.b₄ l.b₅ l.b₆ l.b₇ l.b₈
+invariant-loop-k l = (length l.sources ≡ length l.initial.sources) × (length l.targets ≡ length l.initial.targets) × (length l.events ≡ length l.initial.events) × (length l.starts ≡ length l.initial.starts) × (length l.test_counts ≡ length l.initial.test_counts)
+    × (length l.timers ≡ length l.initial.timers) × (length l.codes ≡ length l.initial.codes) × (length l.constants ≡ length l.initial.constants)
+    × RecordsFilled (width_of l.version) l.locations l.limit l.n l.k l.base (drop l.at l.s) (drop l.here l.s) l.initial.sources l.initial.targets l.initial.events l.initial.starts l.initial.test_counts l.initial.timers l.initial.codes l.initial.constants l.sources l.targets l.events l.starts l.test_counts l.timers l.codes l.constants
 
 abbrev pub decreases-loop-k : goal.decreases-loop-k
 decreases-loop-k l = l.n - l.k

@@ -9,10 +9,6 @@ use Rattle.file_judging.proofs.TestsLoop as skipping
 use Rattle.filling.proofs.TestsLoop.{tests_begin, tests_done, tests_never, tests_again}
 use Rattle.filling.proofs.records.fill_tests.Goals as goal
 
--- where a test was read
-abbrev Read : Type 0
-Read = tie.After-test-at invariant-loop decreases_loop
-
 pub loop-k-init : goal.loop-k-init
 loop-k-init c = (refl, refl, refl, tests_begin (width_of c.args.version) c.args.limit c.args.place c.args.s.now c.args.at c.args.g c.args.base _ _ _ c.requires.0 c.requires.1 c.requires.2)
 

@@ -29,7 +29,9 @@ pub slice_bounds-settle-end-4 : goal.slice_bounds-settle-end-4
 slice_bounds-settle-end-4 c = sym (length-take-le _ _ c.requires.1)
 
 pub settle-requires : goal.settle-requires
-settle-requires c = record { safe_edges = settle_safe c.requires.0.0 c.requires.0.1 c.requires.0.2 c.requires.0.3; sets_len = length-take-le _ _ c.requires.1 ∙ sym (own_length c.requires.0.0 c.requires.0.1 c.requires.0.2 c.requires.0.3) }
+settle-requires c =
+    let p = c.requires.0 in
+    record { safe_edges = settle_safe p.0 p.1 p.2 p.3; sets_len = length-take-le _ _ c.requires.1 ∙ sym (own_length p.0 p.1 p.2 p.3) }
 
 pub returns : goal.returns
 returns c chart is holds tested = live_found chart is holds tested _ c.settle.ensures.sets c.settle.ensures.count

@@ -19,7 +19,9 @@ pub slice_bounds-number_live-end-3 : goal.slice_bounds-number_live-end-3
 slice_bounds-number_live-end-3 c = sym (each_part c.requires.0.0 c.requires.0.1 (starts_each c.requires.0.0) c.requires.0.2.starts)
 
 pub slice_bounds-number_live-end-5 : goal.slice_bounds-number_live-end-5
-slice_bounds-number_live-end-5 c = sym (live_part c.requires.0.0 (locations_are c.requires.0.0 c.requires.0.1) (c.live_chart-rounds.ensures c.requires.0.0 c.requires.0.1 c.requires.0.2 c.requires.0.3).0)
+slice_bounds-number_live-end-5 c =
+    let p = c.requires.0 in
+    sym (live_part p.0 (locations_are p.0 p.1) (c.live_chart-rounds.ensures p.0 p.1 p.2 p.3).0)
 
 pub slice_bounds-number_live-end-7 : goal.slice_bounds-number_live-end-7
 slice_bounds-number_live-end-7 c = sym (length-take-le _ _ c.requires.2)
