@@ -43,13 +43,13 @@ list_edges-requires c =
     )
 
 pub push-depth-requires : goal.push-depth-requires
-push-depth-requires c = (length c.args.sets.now, c.requires.0.inside, none_waits c.requires.0)
+push-depth-requires c = (length c.args.sets.now, omega (arith, c.requires.0.inside), none_waits c.requires.0)
 
 pub empty_list-requires : goal.empty_list-requires
 unfolding every_timer
 empty_list-requires c =
     let kept : length c.list_edges.new.first ≡ most_locations = search rules in
-    let w = c.push-depth.ensures.worklist _ c.requires.0.inside (none_waits c.requires.0) in
+    let w = c.push-depth.ensures.worklist _ (omega (arith, c.requires.0.inside)) (none_waits c.requires.0) in
     let e = c.list_edges.ensures in (
       c.args.initial,
       c.args.sources.now,
@@ -65,7 +65,7 @@ pub returns : goal.returns
 unfolding every_timer
 returns c =
     let kept : length c.list_edges.new.first ≡ most_locations = search rules in
-    let w = c.push-depth.ensures.worklist _ c.requires.0.inside (none_waits c.requires.0) in
+    let w = c.push-depth.ensures.worklist _ (omega (arith, c.requires.0.inside)) (none_waits c.requires.0) in
     let e = c.list_edges.ensures in
     let b = ready c.requires.0 e.firsts e.nexts kept w c.push-depth.ensures.idle c.requires.1 in
     rw length-set at (c.empty_list.ensures c.args.initial c.args.sources.now (rw length-set b))
