@@ -78,7 +78,8 @@ module _ {W : ℕ} {c : Chart} (valid : Valid W c) where
   live_flow_lem = mapped_flow _ _ starts_set tests_set c.transitions (replicate c.locations 0) c.locations (λ q. 0)
       (length-replicate {A = ℕ} c.locations 0) (get_d_zeros c.locations)
 
-  pub unstarted_flow_lem : flow_of (lists_of c).targets (lists_of c).sources (lists_of c).starts (none_each c) (initial_sets c every_timer) ≡ unstarted_flow c
+  pub unstarted_flow_lem : flow_of (lists_of c).targets (lists_of c).sources (lists_of c).starts (none_each c) (initial_sets c every_timer)
+      ≡ unstarted_flow c
   unfolding lists_of unstarted_flow
   unstarted_flow_lem = rw (nothing c.transitions)
       (mapped_flow _ _ starts_set (λ r. 0) c.transitions (initial_sets c every_timer) c.locations (at_initial c every_timer)

@@ -34,7 +34,8 @@ module _ {into from cut gain own : List ℕ} (safe : SafeEdges into from cut gai
   -- the sets after i + 1 rounds are gone over
   module _ (shaped : Shaped f) (i : ℕ) {changed : List ℕ} {n : ℕ} {idle after idleAfter : List ℕ}
       (listed : Listed f.locations (rounds_of f i) (rounds_of f (suc i)) changed n)
-      (over : GoneOver from into cut (LeavesOne from changed n) (λ q. get_or (rounds_of f (suc i)) q 0) (rounds_of f (suc i)) idle after idleAfter) where
+      (over : GoneOver from into cut (LeavesOne from changed n) (λ q. get_or (rounds_of f (suc i)) q 0)
+      (rounds_of f (suc i)) idle after idleAfter) where
     -- what has been brought, the next round has
     out : (j : ℕ) → Under j after (rounds_of f (suc (suc i)))
     unfolding rounds_of flow_of edge_at

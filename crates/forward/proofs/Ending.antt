@@ -49,7 +49,8 @@ module _ {initial locations : ℕ} {sources targets cut : List ℕ} (safe : Safe
     where
       -- nothing stands at the source of a transition that is idle
       empty : (j : ℕ) → LeavesIdle sources idle j → (b : ℕ) → member (get_or (own_sets initial locations) (get_or sources j 0) 0) b ≡ false
-      empty j f b = rw (get_or-set_other (replicate locations 0) initial (get_or sources j 0) every_timer 0 (λ e. f (rw e z)), get_d_zeros locations _)
+      empty j f b =
+          rw (get_or-set_other (replicate locations 0) initial (get_or sources j 0) every_timer 0 (λ e. f (rw e z)), get_d_zeros locations _)
           (member_empty b)
 
   pub between_start : {first next idle waiting sets : List ℕ} {depth : ℕ} → Firsts sources first → Nexts sources next → locations ≤ length first
@@ -70,15 +71,15 @@ module _ {initial locations : ℕ} {sources targets cut : List ℕ} (safe : Safe
         source : get_or sources j 0 < locations
         source = omega (arith, safe.edges.from_below j (omega (arith, l, safe.edges.froms)), long_own initial locations)
 
-    complete : (q b : ℕ) → Comes (forward_flow initial locations sources targets cut) b q → member (get_or sets q 0) b ≡ true
+    complete : (b q : ℕ) → Comes (forward_flow initial locations sources targets cut) b q → member (get_or sets q 0) b ≡ true
     unfolding edge_at flow_of
-    complete q b (owned o) = x.sound.owns q b o
-    complete q b (gained y g) =
+    complete b q (owned o) = x.sound.owns q b o
+    complete b q (gained y g) =
         let is = (edge_of targets sources cut (replicate (length sources) 0) (own_sets initial locations) y.number y.is_nth).1 in
         absurd (not_both (rw is at g) (rw (get_d_zeros (length sources) y.number) (member_empty b)))
-    complete q b (along {e = e} y n c) =
+    complete b q (along {e = e} y n c) =
         let is = edge_of targets sources cut (replicate (length sources) 0) (own_sets initial locations) y.number y.is_nth in
-        let m = complete e.from b c in
+        let m = complete b e.from c in
         let below : y.number < length sources = omega (arith, is.0, safe.edges.froms) in
         x.brought q b (record {
           edge = y.number;
@@ -98,4 +99,4 @@ module _ {initial locations : ℕ} {sources targets cut : List ℕ} (safe : Safe
     all_settled words = ext_get_or 0 sets _ (long ∙ sym (length_settled _)) (λ q h.
         member_ext 64 (get_or sets q 0) _ (words q) (settled_words _ shaped q) (λ b _.
         let s = settled_iff _ shaped q b (omega (arith, h, long)) in
-        same_bool _ _ (λ m. s.1 (x.sound.comes q b m)) (λ m. complete q b (s.0 m))))
+        same_bool _ _ (λ m. s.1 (x.sound.comes q b m)) (λ m. complete b q (s.0 m))))

@@ -108,7 +108,8 @@ filled_more f l x h below k lt = go (ℕ_discrete k x)
     go (no ne) = get_or-set_other l x k (f x) 0 ne ∙ below k (omega arith)
 
 -- what holds of the new entry, and of the others before, holds of all
-pub set_all : (P : ℕ → ℕ → Type 0) (l : List ℕ) (t v : ℕ) → t < length l → P t v → ((q : ℕ) → P q (get_or l q 0)) → (q : ℕ) → P q (get_or (set l t v) q 0)
+pub set_all : (P : ℕ → ℕ → Type 0) (l : List ℕ) (t v : ℕ) → t < length l → P t v → ((q : ℕ) → P q (get_or l q 0)) → (q : ℕ)
+    → P q (get_or (set l t v) q 0)
 set_all P l t v h here rest q = go (ℕ_discrete q t)
   where
     go : Dec (q ≡ t) → P q (get_or (set l t v) q 0)

@@ -70,7 +70,11 @@ module _ (f : Flow) (before : List ℕ) where
           → with_edge before q (with_edges before q (f.own q) (take i f.edges)) e
           ≡ get_or (set (round_to f before i) e.into (joined (get_or (round_to f before i) e.into 0) (brings before e))) q 0
       at q l (yes p) =
-          edge_here before q _ e (sym p) ∙ rw (← p, get_or-set_same (round_to f before i) q _ 0 (omega (arith, length_round_to i)), get_d_round_to i q l)
+          edge_here before q _ e (sym p) ∙ rw (
+            ← p,
+            get_or-set_same (round_to f before i) q _ 0 (omega (arith, length_round_to i)),
+            get_d_round_to i q l,
+          )
       at q l (no ne) =
           edge_elsewhere before q _ e (λ p. ne (sym p)) ∙ sym (get_or-set_other (round_to f before i) e.into q _ 0 ne ∙ get_d_round_to i q l)
 

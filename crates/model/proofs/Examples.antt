@@ -159,7 +159,8 @@ pub most_rounds_accepted : Storable loop_started × Accepted loop_started × (li
 most_rounds_accepted = let s = loops_storable.0 in (s, (accepted s.valid).0 loop_started_lem, loop_rounds.0)
 
 -- and one that a file can hold, but that is refused, with one round more
-pub most_rounds : Storable loop_not_started × (judged loop_not_started ≡ refused 10 1) × (live_rounds loop_not_started ≡ suc loop_not_started.locations)
+pub most_rounds : Storable loop_not_started × (judged loop_not_started ≡ refused 10 1)
+    × (live_rounds loop_not_started ≡ suc loop_not_started.locations)
 most_rounds = (loops_storable.1, loop_not_started_lem, loop_rounds.1)
 
 -- ---- charts with the same transitions: last-to-first (AnyOrder) is an example; here are two that have not

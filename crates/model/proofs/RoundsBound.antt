@@ -85,7 +85,8 @@ module _ (f : Flow) where
     pub none_added : (k : ℕ) → ((j : ℕ) → Still j k) → rounds_of f k ≡ rounds_of f (suc k)
     none_added k u =
         ext_get_or 0 (rounds_of f k) (rounds_of f (suc k)) (length_rounds f k ∙ sym (length_rounds f (suc k)))
-        (λ q l. member_ext 64 (get_or (rounds_of f k) q 0) (get_or (rounds_of f (suc k)) q 0) (rounds_words f shaped k q) (rounds_words f shaped (suc k) q)
+        (λ q l. member_ext 64 (get_or (rounds_of f k) q 0) (get_or (rounds_of f (suc k)) q 0) (rounds_words f shaped k q)
+        (rounds_words f shaped (suc k) q)
         (λ j b. same_bool _ _ (rounds_grow f j k q) (u j q)))
 
     -- if at most L locations can have a timer, the round after L changes nothing

@@ -61,8 +61,8 @@ module _ (K room : ℕ) (c : Chart) where
   stopped at_room h =
       fitted_into_lem K room c ((enough K (used (reached_part c)) h.0 h.1).answer c refl) ∙ rw (lt-leb (length (file_of (rewritten c))) room h.2)
 
-  returned : K ≤ 64 → used (reached_part c) ≤ K → length (file_of (rewritten c)) ≤ room → fitted_into K room c ≡ returned (made c)
-  returned h l r = fitted_into_lem K room c ((enough K (used (reached_part c)) h l).answer c refl) ∙ rw (le-leb (length (file_of (rewritten c))) room r)
+  holds : K ≤ 64 → used (reached_part c) ≤ K → length (file_of (rewritten c)) ≤ room → fitted_into K room c ≡ returned (made c)
+  holds h l r = fitted_into_lem K room c ((enough K (used (reached_part c)) h l).answer c refl) ∙ rw (le-leb (length (file_of (rewritten c))) room r)
 
 -- ---- of a file
 
@@ -87,7 +87,7 @@ module _ (K room : ℕ) (bs : List ℕ) where
       of c e (inl h) l r = stop c at_limit e h
       of c e (inr h) (inl l) r = stop c at_used e (h, l)
       of c e (inr h) (inr l) (inl r) = stop c at_room e (h, l, r)
-      of c e (inr h) (inr l) (inr r) = is_returned (made c) (into_accepted K room bs e ∙ returned K room c h l r)
+      of c e (inr h) (inr l) (inr r) = is_returned (made c) (into_accepted K room bs e ∙ holds K room c h l r)
 
       go : (y : Answer Chart) → judged_in bs ≡ y → Outcome K room bs
       go (returned c) e = of c e (lt_or_le 64 K) (lt_or_le K (used (reached_part c))) (lt_or_le room (length (file_of (rewritten c))))

@@ -117,14 +117,14 @@ fn rewrite_judged<'a>(
 ) -> Rewritten
     requires { (bs : List ℕ)
         × JudgedInto bs answer (lists accepting.now sources.now targets.now events.now starts.old test_counts.old timers.old codes.old constants.old)
-            tested.now }
+        tested.now }
     ensures answer { ((bs : List ℕ)
         → JudgedInto bs answer (lists accepting.now sources.now targets.now events.now starts.old test_counts.old timers.old codes.old constants.old)
-            tested.now
+        tested.now
         → rewritten_as result ≡ rewrite_answer k (length out.old) bs) }
     ensures lent { ((bs : List ℕ)
         → JudgedInto bs answer (lists accepting.now sources.now targets.now events.now starts.old test_counts.old timers.old codes.old constants.old)
-            tested.now
+        tested.now
         → out.new ≡ overwritten new_file (rewrite_into k (length out.old) bs) out.old) }
 {
     match answer {

@@ -30,7 +30,8 @@ module _ (g : ℕ → ℕ) where
         → ((i j : ℕ) → memb i l ≡ true → memb j l ≡ true → g i ≡ g j → i ≡ j) → length l ≤ ones (set_of (map g l))
     enough limit lo [] r b a = omega arith
     enough limit lo (x ∷ l) r b a =
-        go (ones_grow n (set_of (map g l)) (set_of (map g (x ∷ l))) (small l (λ j m. b j (memb_tail j x l m))) (small (x ∷ l) b) (λ j h m. within j m))
+        go (ones_grow n (set_of (map g l)) (set_of (map g (x ∷ l))) (small l (λ j m. b j (memb_tail j x l m))) (small (x ∷ l) b)
+        (λ j h m. within j m))
         (enough limit (suc x) l r.1 (λ j m. b j (memb_tail j x l m)) (λ i j p q. a i j (memb_tail i x l p) (memb_tail j x l q)))
       where
         within : (j : ℕ) → member (set_of (map g l)) j ≡ true → member (set_of (map g (x ∷ l))) j ≡ true
@@ -43,7 +44,8 @@ module _ (g : ℕ → ℕ) where
             let same = a x y.0 (memb_head x x l refl) (memb_tail y.0 x l y.1) (sym y.2) in
             omega (arith, same, (rising_below limit (suc x) l r.1 y.0 y.1).0)
 
-        go : (set_of (map g l) ≡ set_of (map g (x ∷ l))) ⊎ (ones (set_of (map g l)) < ones (set_of (map g (x ∷ l)))) → length l ≤ ones (set_of (map g l))
+        go : (set_of (map g l) ≡ set_of (map g (x ∷ l))) ⊎ (ones (set_of (map g l)) < ones (set_of (map g (x ∷ l))))
+            → length l ≤ ones (set_of (map g l))
             → suc (length l) ≤ ones (set_of (map g (x ∷ l)))
         go (inl e) h =
             let in_both = ap (λ (w : ℕ). member w (g x)) e ∙ member_set_of (map g (x ∷ l)) (g x) ∙ memb_head (g x) (g x) (map g l) refl in

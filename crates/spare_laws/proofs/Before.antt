@@ -33,7 +33,7 @@ use Rattle.file_format.specs.File.{chart_in, file_of}
 use Rattle.file_format.proofs.File.{reads_storable, reads_valid}
 use Rattle.file_format.proofs.Versions.{version_first, reads_as_before}
 use Rattle.chart_lists.specs.Lists.{overwritten}
-use Rattle.list_judging.proofs.Answers.{then_then}
+use Rattle.model.proofs.Answers.{then_then}
 use Rattle.judgement.specs.Judging.{judged_in}
 use Rattle.judgement.proofs.Corollaries.{judged_result}
 use Rattle.analysis.specs.Analysing.{analysed_chart, analysed_in, analyse_answer, values_of, analysed_sets}

@@ -70,7 +70,8 @@ either false b = b
 
 pub member_xor : (a b j : ℕ) → member (bit_xor a b) j ≡ either (member a j) (member b j)
 member_xor =
-    member_op bit_xor differ either xor_step xor_shr (two_digits (λ (x y : ℕ). differ x y < 2) (omega arith) (omega arith) (omega arith) (omega arith))
+    member_op bit_xor differ either xor_step xor_shr
+    (two_digits (λ (x y : ℕ). differ x y < 2) (omega arith) (omega arith) (omega arith) (omega arith))
     (two_digits _ refl refl refl refl)
 
 -- the complement of a word of k digits

@@ -155,7 +155,8 @@ members_rising w = pick_rising (member w) 64
 
 pub members_set_of : (n : ℕ) (l : List ℕ) → Rising n 0 l → n ≤ 64 → members (set_of l) ≡ l
 members_set_of n l r h =
-    rising_same 64 n 0 (members (set_of l)) l (members_rising (set_of l)) r (λ j. memb_members (set_of l) j (set_of_lt 64 l within) ∙ member_set_of l j)
+    rising_same 64 n 0 (members (set_of l)) l (members_rising (set_of l)) r
+    (λ j. memb_members (set_of l) j (set_of_lt 64 l within) ∙ member_set_of l j)
   where
     within : (j : ℕ) → memb j l ≡ true → j < 64
     within j m = omega (arith, (rising_below n 0 l r j m).1)

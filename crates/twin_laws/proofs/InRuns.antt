@@ -43,7 +43,8 @@ record Onward (c : Chart) (n : ℕ) (s : State) (e : Step) (es : List Step) (t :
   leaves : transition.source ≡ s.location
   onward : steps every_time c (suc n) (after transition s e.time) es ≡ returned t
 
-step_taken : (c : Chart) (n : ℕ) (s : State) (e : Step) (es : List Step) (t : State) → steps every_time c n s (e ∷ es) ≡ returned t → Onward c n s e es t
+step_taken : (c : Chart) (n : ℕ) (s : State) (e : Step) (es : List Step) (t : State) → steps every_time c n s (e ∷ es) ≡ returned t
+    → Onward c n s e es t
 unfolding steps
 step_taken c n s e es t h =
     let x = then_result (attempt every_time c n s e) _ h in
@@ -123,7 +124,8 @@ module _ {c : Chart} {j k : ℕ} (t : Twins c j k) where
   pub twins_counts : (v : Counts) (es : List Step) (s : State) → Run c v es s → StartedIn c j es → s.counts j ≡ s.counts k
   twins_counts = together_counts c j k (always t)
 
-  pub twins_waited : (d : ℕ) (v : Counts) (es : List Step) (s : State) → Run c v es s → StartedIn c j es → (waited d s).counts j ≡ (waited d s).counts k
+  pub twins_waited : (d : ℕ) (v : Counts) (es : List Step) (s : State) → Run c v es s → StartedIn c j es
+      → (waited d s).counts j ≡ (waited d s).counts k
   unfolding waited grown
   twins_waited d v es s run x = ap (λ (n : ℕ). n + d) (twins_counts v es s run x)
 

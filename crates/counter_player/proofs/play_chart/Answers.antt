@@ -7,11 +7,22 @@ use Rattle.counter_player.proofs.play_chart.Goals as goal
 
 pub returns-in-Refused : goal.returns-in-Refused
 unfolding judged_to13
-returns-in-Refused c = λ ch e held. after_inputs_lem ch _ _ _ (sym (ap judged_as c.in-Refused.is) ∙ c.judge_inputs-judged.ensures ch (timers_are ch e)) _ ∙ refl
+returns-in-Refused c = λ ch e held.
+    let told = sym (ap judged_as c.in-Refused.is) ∙ c.judge_inputs-judged.ensures ch (timers_are ch e) in
+    after_inputs_lem ch _ _ _ told _ ∙ refl
 
 pub play_steps-requires : goal.play_steps-requires
-play_steps-requires c = record { header_value = let e = (sym (ap judged_as c.in_default.is) ∙ c.judge_inputs-judged.ensures c.in_default.is.0 (timers_are c.in_default.is.0 c.in_default.is.1)) in c.requires; counts_len_bound = let e = (sym (ap judged_as c.in_default.is) ∙ c.judge_inputs-judged.ensures c.in_default.is.0 (timers_are c.in_default.is.0 c.in_default.is.1)) in (allowed c.requires.0 _ _ _ e c.requires.2.valid.few_timers).few; readings_len = let e = (sym (ap judged_as c.in_default.is) ∙ c.judge_inputs-judged.ensures c.in_default.is.0 (timers_are c.in_default.is.0 c.in_default.is.1)) in sym (one_length c.requires.0 _ _ _ e) }
+play_steps-requires c =
+    let p = c.requires in
+    let e = sym (ap judged_as c.in_default.is) ∙ c.judge_inputs-judged.ensures p.0 (timers_are p.0 p.1) in
+    record {
+      header_value = p;
+      counts_len_bound = (allowed p.0 _ _ _ e p.2.valid.few_timers).few;
+      readings_len = sym (one_length p.0 _ _ _ e);
+    }
 
 pub returns : goal.returns
 unfolding judged_to13
-returns c = λ ch e held. c.play_steps.ensures ch e held ∙ after_inputs_lem ch _ _ _ (sym (ap judged_as c.in_default.is) ∙ c.judge_inputs-judged.ensures ch (timers_are ch e)) _ ∙ refl
+returns c = λ ch e held.
+    let told = sym (ap judged_as c.in_default.is) ∙ c.judge_inputs-judged.ensures ch (timers_are ch e) in
+    c.play_steps.ensures ch e held ∙ after_inputs_lem ch _ _ _ told _ ∙ refl

@@ -14,33 +14,40 @@ use Rattle.counter_player.proofs.RisenCounts.{starting_shows}
 use Rattle.counter_player.proofs.LargeConstants.{constants_room, constants_large}
 use Rattle.counter_player.proofs.play_steps.Goals as goal
 
--- what `find_firsts` says of a chart that they hold
-module _ (a : tie.After-find-firsts) (ch : Chart) (e : (entry a).args.header ≡ header_of ch) (h : Holds ch (lent a ch)) where
-  number : a.find-firsts.result ≡ length (all_tests ch.transitions)
-  number = a.find-firsts.ensures.1 ch (transitions_are ch e) (holds_counts h)
-
-  places : FirstTests ch a.find-firsts.last.1.1.0
-  places = a.find-firsts.ensures.0 ch (transitions_are ch e) (holds_counts h)
-
 pub find_firsts-tests-requires : goal.find_firsts-tests-requires
-find_firsts-tests-requires c = record { n_value = (c.requires.header_value.0, transitions_are c.requires.header_value.0 c.requires.header_value.1, holds_counts c.requires.header_value.2); n_in_bounds = omega (arith, transitions_are c.requires.header_value.0 c.requires.header_value.1, c.requires.header_value.2.valid.few_transitions) }
+find_firsts-tests-requires c =
+    let p = c.requires.header_value in
+    let number = transitions_are p.0 p.1 in
+    record { n_value = (p.0, number, holds_counts p.2); n_in_bounds = omega (arith, number, p.2.valid.few_transitions) }
 
 pub large_among-requires : goal.large_among-requires
-large_among-requires c = constants_room c.requires.header_value.2 (number c c.requires.header_value.0 c.requires.header_value.1 c.requires.header_value.2)
+large_among-requires c =
+    let p = c.requires.header_value in
+    constants_room p.2 (c.find_firsts-tests.ensures.number p.0 (transitions_are p.0 p.1) (holds_counts p.2))
 
 pub returns-then-large_among : goal.returns-then-large_among
-returns-then-large_among c = λ ch e h. rw ((constants_large h (number c ch e h) ∙ sym c.large_among.ensures) ∙ c.if-large_among.true) refl
+returns-then-large_among c = λ ch e h.
+    let number = c.find_firsts-tests.ensures.number ch (transitions_are ch e) (holds_counts h) in
+    rw ((constants_large h number ∙ sym c.large_among.ensures) ∙ c.if-large_among.true) refl
 
 pub take_steps-out-requires : goal.take_steps-out-requires
-take_steps-out-requires c = record { n_value = (c.requires.header_value.0, transitions_are c.requires.header_value.0 c.requires.header_value.1, places c c.requires.header_value.0 c.requires.header_value.1 c.requires.header_value.2, holds_steps c.requires.header_value.2); readings_len = c.requires.readings_len }
+take_steps-out-requires c =
+    let p = c.requires.header_value in
+    let number = transitions_are p.0 p.1 in
+    record {
+      n_value = (p.0, number, c.find_firsts-tests.ensures.places p.0 number (holds_counts p.2), holds_steps p.2);
+      readings_len = c.requires.readings_len;
+    }
 
 pub slice_bounds-arrived-end : goal.slice_bounds-arrived-end
-slice_bounds-arrived-end c = accepting_long c.requires.header_value.0 c.requires.header_value.1 c.requires.header_value.2
+slice_bounds-arrived-end c = let p = c.requires.header_value in accepting_long p.0 p.1 p.2
 
 pub returns : goal.returns
 unfolding counter_answer_of counter_outcome
 returns c = λ ch e h.
+    let number = c.find_firsts-tests.ensures.number ch (transitions_are ch e) (holds_counts h) in
+    let firsts = c.find_firsts-tests.ensures.places ch (transitions_are ch e) (holds_counts h) in
     let begins = starting_shows c.starting_counts.ensures ch _ _ (initial_is ch e) in
-    let taken = c.take_steps-out.ensures ch (transitions_are ch e) (places c ch e h) (holds_steps h) _ begins in
+    let taken = c.take_steps-out.ensures ch (transitions_are ch e) firsts (holds_steps h) _ begins in
     let all = counter_outcome ch c.args.first (λ j. get_or c.args.counts.now j 0) c.args.transitions.now c.args.readings.now in
-    rw ((constants_large h (number c ch e h) ∙ sym c.large_among.ensures) ∙ c.if-large_among.false) (c.arrived.ensures ch all (accepting_front ch e h) taken)
+    rw ((constants_large h number ∙ sym c.large_among.ensures) ∙ c.if-large_among.false) (c.arrived.ensures ch all (accepting_front ch e h) taken)

@@ -1,5 +1,5 @@
 -- `judge_lists` answers 9, then 10, else the header. The sets are made over the front of an array and read there again.
-use mathlib.Core.Path.{◌≡◌, sym, ap, ◌∙◌}
+use mathlib.Core.Path.{sym, ap, ◌∙◌}
 use mathlib.Core.List.{List}
 use Prim.Native.Nat.{ℕ}
 use lib.ListN.{length}
@@ -7,10 +7,9 @@ use Rattle.lists.specs.Lists.{lowest}
 use Rattle.judgement.specs.Tested.{tests_at}
 use Rattle.judgement.specs.Places.{refused_in}
 use Rattle.forward.proofs.Lent.{none_cut, few_locations, lent_length, lent_safe, lent_empty, made_room, seen_length, seen_sets, sources_seen}
-use Rattle.judgement.proofs.Judging.{unstarted_in, answer_9, answer_10, answer_chart}
+use Rattle.judgement.proofs.Judging.{answer_9, answer_10, answer_chart}
 use Rattle.judgement.proofs.judge_lists.Goals as goal
 
--- ----
 pub slice_bounds-sets-end : goal.slice_bounds-sets-end
 slice_bounds-sets-end c = few_locations c.requires.0
 
@@ -30,11 +29,11 @@ pub first_refused-unreached-requires : goal.first_refused-unreached-requires
 first_refused-unreached-requires c = rw (seen_length c.requires.0 c.settle_forward.ensures _) (none_cut c.requires.0)
 
 pub returns-then-unreached-m : goal.returns-then-unreached-m
-returns-then-unreached-m c = answer_9 c.args.header _ _ _ c.args.tested.now (let unreached_are' : let f = c in let a = c.args in
-    c.first_refused-unreached.result ≡ refused_in a.header.version a.header.timers a.header.initial a.sources.now a.targets.now (let sets' : List ℕ = unstarted_in c.args.header c.args.sources.now c.args.targets.now c.args.starts.now c.args.tested.now in
-    sets') = let s = seen_sets c.requires.0 c.settle_forward.ensures _ in
-    c.first_refused-unreached.ensures ∙ ap (refused_in c.args.header.version c.args.header.timers c.args.header.initial c.args.sources.now c.args.targets.now) s in
-    unreached_are') c.if-unreached-m.true
+returns-then-unreached-m c =
+    let m = c.args.header in
+    let s = seen_sets c.requires.0 c.settle_forward.ensures _ in
+    let unreached = c.first_refused-unreached.ensures ∙ ap (refused_in m.version m.timers m.initial c.args.sources.now c.args.targets.now) s in
+    answer_9 m _ _ _ c.args.tested.now unreached c.if-unreached-m.true
 
 pub slice_bounds-sets-end-3 : goal.slice_bounds-sets-end-3
 slice_bounds-sets-end-3 c = made_room c.requires.0 c.settle_forward.ensures _
@@ -46,23 +45,19 @@ pub first_testing-unstarted-requires : goal.first_testing-unstarted-requires
 first_testing-unstarted-requires c = (c.requires.1, sources_seen c.requires.0 c.settle_forward.ensures _)
 
 pub returns-then-unstarted-n : goal.returns-then-unstarted-n
-returns-then-unstarted-n c = answer_10 c.args.header _ _ _ c.args.tested.now (let unreached_are' : let f = c in let a = c.args in
-    c.first_refused-unreached.result ≡ refused_in a.header.version a.header.timers a.header.initial a.sources.now a.targets.now (let sets' : List ℕ = unstarted_in c.args.header c.args.sources.now c.args.targets.now c.args.starts.now c.args.tested.now in
-    sets') = let s = seen_sets c.requires.0 c.settle_forward.ensures _ in
-    c.first_refused-unreached.ensures ∙ ap (refused_in c.args.header.version c.args.header.timers c.args.header.initial c.args.sources.now c.args.targets.now) s in
-    unreached_are') c.if-unreached-m.false (let unstarted_are' : let f = c in let a = c.args in
-    c.first_testing-unstarted.result ≡ lowest (tests_at a.sources.now a.tested.now (let sets' : List ℕ = unstarted_in c.args.header c.args.sources.now c.args.targets.now c.args.starts.now c.args.tested.now in
-    sets')) (length a.sources.now) = let s = seen_sets c.requires.0 c.settle_forward.ensures _ in
-    c.first_testing-unstarted.ensures ∙ ap (λ (s : List ℕ). lowest (tests_at c.args.sources.now c.args.tested.now s) (length c.args.sources.now)) s in
-    unstarted_are') c.if-unstarted-n.true
+returns-then-unstarted-n c =
+    let m = c.args.header in
+    let s = seen_sets c.requires.0 c.settle_forward.ensures _ in
+    let unreached = c.first_refused-unreached.ensures ∙ ap (refused_in m.version m.timers m.initial c.args.sources.now c.args.targets.now) s in
+    let first = λ (l : List ℕ). lowest (tests_at c.args.sources.now c.args.tested.now l) (length c.args.sources.now) in
+    let unstarted = c.first_testing-unstarted.ensures ∙ ap first s in
+    answer_10 m _ _ _ c.args.tested.now unreached c.if-unreached-m.false unstarted c.if-unstarted-n.true
 
 pub returns : goal.returns
-returns c = answer_chart c.args.header _ _ _ c.args.tested.now (let unreached_are' : let f = c in let a = c.args in
-    c.first_refused-unreached.result ≡ refused_in a.header.version a.header.timers a.header.initial a.sources.now a.targets.now (let sets' : List ℕ = unstarted_in c.args.header c.args.sources.now c.args.targets.now c.args.starts.now c.args.tested.now in
-    sets') = let s = seen_sets c.requires.0 c.settle_forward.ensures _ in
-    c.first_refused-unreached.ensures ∙ ap (refused_in c.args.header.version c.args.header.timers c.args.header.initial c.args.sources.now c.args.targets.now) s in
-    unreached_are') c.if-unreached-m.false (let unstarted_are' : let f = c in let a = c.args in
-    c.first_testing-unstarted.result ≡ lowest (tests_at a.sources.now a.tested.now (let sets' : List ℕ = unstarted_in c.args.header c.args.sources.now c.args.targets.now c.args.starts.now c.args.tested.now in
-    sets')) (length a.sources.now) = let s = seen_sets c.requires.0 c.settle_forward.ensures _ in
-    c.first_testing-unstarted.ensures ∙ ap (λ (s : List ℕ). lowest (tests_at c.args.sources.now c.args.tested.now s) (length c.args.sources.now)) s in
-    unstarted_are') c.if-unstarted-n.false
+returns c =
+    let m = c.args.header in
+    let s = seen_sets c.requires.0 c.settle_forward.ensures _ in
+    let unreached = c.first_refused-unreached.ensures ∙ ap (refused_in m.version m.timers m.initial c.args.sources.now c.args.targets.now) s in
+    let first = λ (l : List ℕ). lowest (tests_at c.args.sources.now c.args.tested.now l) (length c.args.sources.now) in
+    let unstarted = c.first_testing-unstarted.ensures ∙ ap first s in
+    answer_chart m _ _ _ c.args.tested.now unreached c.if-unreached-m.false unstarted c.if-unstarted-n.false

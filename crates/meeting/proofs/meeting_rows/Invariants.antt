@@ -8,7 +8,7 @@ use Rattle.meeting.proofs.meeting_rows.Given as goal
 
 abbrev pub invariant-loop-i : goal.invariant-loop-i
 invariant-loop-i l = (l.i ≤ l.n) × (l.n ≤ most_searched) × (length l.rows ≡ most_searched)
-    × ((k : ℕ) → k < l.i → (j : ℕ) → member (get_or l.rows k 0) j ≡ meet_at l.families-at k j)
+    × ((k : ℕ) → k < l.i → (j : ℕ) → member (get_or l.rows k 0) j ≡ meet_at l.families_at k j)
 
 abbrev pub decreases-loop-i : goal.decreases-loop-i
 decreases-loop-i l = l.n - l.i

@@ -26,8 +26,8 @@ loop-s-preserved-then-has c = (
   omega arith,
   c.loop-s.invariant.1,
   λ j. ap (λ (w : ℕ). member w j) c.join-row.ensures ∙ member_joined c.loop-s.row.bits _ j
-      ∙ ap (λ (b : Bool). b || in_family c.args.families-at.now j c.loop-s.s) (c.loop-s.invariant.2 j)
-      ∙ some_yes c.args.families-at.now c.args.i (λ s. in_family c.args.families-at.now j s) c.loop-s.s
+      ∙ ap (λ (b : Bool). b || in_family c.args.families_at.now j c.loop-s.s) (c.loop-s.invariant.2 j)
+      ∙ some_yes c.args.families_at.now c.args.i (λ s. in_family c.args.families_at.now j s) c.loop-s.s
       (sym c.has.ensures ∙ c.if-has.true),
 )
 
@@ -36,11 +36,11 @@ loop-s-preserved c = (
   omega arith,
   c.loop-s.invariant.1,
   λ j. c.loop-s.invariant.2 j
-      ∙ some_no c.args.families-at.now c.args.i (λ s. in_family c.args.families-at.now j s) c.loop-s.s (sym c.has.ensures ∙ c.if-has.false),
+      ∙ some_no c.args.families_at.now c.args.i (λ s. in_family c.args.families_at.now j s) c.loop-s.s (sym c.has.ensures ∙ c.if-has.false),
 )
 
 pub returns : goal.returns
 unfolding meet_at
-returns c = let e : c.loop-s.s ≡ length c.args.families-at.now = omega arith in
+returns c = let e : c.loop-s.s ≡ length c.args.families_at.now = omega arith in
     λ j. ap (λ (w : ℕ). member w j) c.without.ensures ∙ member_removed c.loop-s.row.bits c.args.i j
     ∙ ap (λ (b : Bool). b && not (eqb j c.args.i)) (rw e at (c.loop-s.invariant.2 j))

@@ -12,7 +12,7 @@ abbrev both : (at : List ℕ) → (i j locations : ℕ) → Bool
 both at i j locations = some_in at i (λ s. in_family at j s) locations
 
 abbrev pub invariant-loop-s : goal.invariant-loop-s
-invariant-loop-s l = (l.s ≤ length l.families-at) × (l.i < 64) × ((j : ℕ) → member l.row.bits j ≡ both l.families-at l.i j l.s)
+invariant-loop-s l = (l.s ≤ length l.families_at) × (l.i < 64) × ((j : ℕ) → member l.row.bits j ≡ both l.families_at l.i j l.s)
 
 abbrev pub decreases-loop-s : goal.decreases-loop-s
-decreases-loop-s l = length l.families-at - l.s
+decreases-loop-s l = length l.families_at - l.s

@@ -5,10 +5,16 @@ use Rattle.player.proofs.Inputs.{counts_first, lengths_refused, lengths_passed}
 use Rattle.player.proofs.judge_inputs.Goals as goal
 
 pub returns-in_default : goal.returns-in_default
-returns-in_default c = λ ch e. ap judged_as c.in_default.is ∙ counts_first ch _ _ _ (sym (ap judged_as c.in_default.is) ∙ c.judge_counts-judged.ensures ch e)
+returns-in_default c = λ ch e.
+    let was = ap judged_as c.in_default.is in
+    was ∙ counts_first ch _ _ _ (sym was ∙ c.judge_counts-judged.ensures ch e)
 
 pub returns-then-transitions-moments : goal.returns-then-transitions-moments
-returns-then-transitions-moments c = λ ch e. lengths_refused ch _ _ _ (sym (ap judged_as c.in-Passed.is) ∙ c.judge_counts-judged.ensures ch e) c.if-transitions-moments.true
+returns-then-transitions-moments c = λ ch e.
+    let passed = sym (ap judged_as c.in-Passed.is) ∙ c.judge_counts-judged.ensures ch e in
+    lengths_refused ch _ _ _ passed c.if-transitions-moments.true
 
 pub returns : goal.returns
-returns c = λ ch e. lengths_passed ch _ _ _ (sym (ap judged_as c.in-Passed.is) ∙ c.judge_counts-judged.ensures ch e) c.if-transitions-moments.false
+returns c = λ ch e.
+    let passed = sym (ap judged_as c.in-Passed.is) ∙ c.judge_counts-judged.ensures ch e in
+    lengths_passed ch _ _ _ passed c.if-transitions-moments.false

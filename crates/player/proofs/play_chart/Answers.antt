@@ -9,7 +9,9 @@ use Rattle.player.proofs.play_chart.Goals as goal
 
 pub returns-in-Refused : goal.returns-in-Refused
 unfolding judged_to13
-returns-in-Refused c = λ ch e held. after_inputs_lem ch _ _ _ (sym (ap judged_as c.in-Refused.is) ∙ c.judge_inputs-judged.ensures ch (timers_are ch e)) _ ∙ refl
+returns-in-Refused c = λ ch e held.
+    let told = sym (ap judged_as c.in-Refused.is) ∙ c.judge_inputs-judged.ensures ch (timers_are ch e) in
+    after_inputs_lem ch _ _ _ told _ ∙ refl
 
 pub play_steps-out-requires : goal.play_steps-out-requires
 play_steps-out-requires c =

@@ -31,8 +31,8 @@ reached : {d : Chart} → Storable d → judged d ≡ returned d → ReachedIfAs
 reached s e = ((accepted s.valid).0 e).reached
 
 -- what the judgement of the limit says
-limited : {k : ℕ} (d : Chart) {r l : Limit} → r ≡ l → limit_as r d ≡ fitted k d → limit_as l d ≡ fitted k d
-limited d e h = sym (ap (λ (l : Limit). limit_as l d) e) ∙ h
+limited : (k : ℕ) (d : Chart) {r l : Limit} → r ≡ l → limit_as r d ≡ fitted k d → limit_as l d ≡ fitted k d
+limited k d e h = sym (ap (λ (l : Limit). limit_as l d) e) ∙ h
 
 pub number_chart-numbered-requires : goal.number_chart-numbered-requires
 number_chart-numbered-requires c =
@@ -45,11 +45,12 @@ pub returns-in-Refused : goal.returns-in-Refused
 returns-in-Refused c = record {
   answer = λ d is e v h t.
       let x = c.number_chart-numbered.ensures d is (holds_edges h) t (reached v e) in
-      values_refused (fitted_into_lem c.args.k (length c.args.out.now) d (limited d c.in-Refused.is (c.judge_limit-limit.ensures.answer d x.used_is)));
+      let stops = limited c.args.k d c.in-Refused.is (c.judge_limit-limit.ensures.answer d x.used_is) in
+      values_refused (fitted_into_lem c.args.k (length c.args.out.now) d stops);
   lent = λ d is e v h t.
       let x = c.number_chart-numbered.ensures d is (holds_edges h) t (reached v e) in
-      buffer_refused (fitted_into_lem c.args.k (length c.args.out.now) d (limited d c.in-Refused.is (c.judge_limit-limit.ensures.answer d x.used_is)))
-          c.args.out.now;
+      let stops = limited c.args.k d c.in-Refused.is (c.judge_limit-limit.ensures.answer d x.used_is) in
+      buffer_refused (fitted_into_lem c.args.k (length c.args.out.now) d stops) c.args.out.now;
 }
 
 pub overflow_cast-used : goal.overflow_cast-used
@@ -67,19 +68,19 @@ returns-in-File c = record {
   answer = λ d is e v h t.
       let x = c.number_chart-numbered.ensures d is (holds_edges h) t (reached v e) in
       let u : c.number_chart-numbered.result.used ≤ 64 =
-          let f = c.judge_limit-limit.ensures.fits c.in_default.is in omega (arith, f.0, f.1) in
+      let f = c.judge_limit-limit.ensures.fits c.in_default.is in omega (arith, f.0, f.1) in
       let r = c.write_cleared-written.ensures.answer d (board_numbering (reached_part d)) is (reached v e) h (board_cells v e x u)
-          (board_storable v e x u) (board_used v e x) in
-      values_written c.args.k (length c.args.out.now) d (limited d c.in_default.is (c.judge_limit-limit.ensures.answer d x.used_is)) x.used_is
-          (sym (ap written_as c.in-File.is) ∙ r);
+      (board_storable v e x u) (board_used v e x) in
+      let fits = limited c.args.k d c.in_default.is (c.judge_limit-limit.ensures.answer d x.used_is) in
+      values_written c.args.k (length c.args.out.now) d fits x.used_is (sym (ap written_as c.in-File.is) ∙ r);
   lent = λ d is e v h t.
       let x = c.number_chart-numbered.ensures d is (holds_edges h) t (reached v e) in
       let u : c.number_chart-numbered.result.used ≤ 64 =
-          let f = c.judge_limit-limit.ensures.fits c.in_default.is in omega (arith, f.0, f.1) in
+      let f = c.judge_limit-limit.ensures.fits c.in_default.is in omega (arith, f.0, f.1) in
+      let fits = limited c.args.k d c.in_default.is (c.judge_limit-limit.ensures.answer d x.used_is) in
       c.write_cleared-written.ensures.lent d (board_numbering (reached_part d)) is (reached v e) h (board_cells v e x u)
-          (board_storable v e x u) (board_used v e x)
-          ∙ buffer_written c.args.k (length c.args.out.now) d (limited d c.in_default.is (c.judge_limit-limit.ensures.answer d x.used_is))
-          c.args.out.now;
+      (board_storable v e x u) (board_used v e x)
+      ∙ buffer_written c.args.k (length c.args.out.now) d fits c.args.out.now;
 }
 
 pub returns-in-Refused-written : goal.returns-in-Refused-written
@@ -87,17 +88,17 @@ returns-in-Refused-written c = record {
   answer = λ d is e v h t.
       let x = c.number_chart-numbered.ensures d is (holds_edges h) t (reached v e) in
       let u : c.number_chart-numbered.result.used ≤ 64 =
-          let f = c.judge_limit-limit.ensures.fits c.in_default.is in omega (arith, f.0, f.1) in
+      let f = c.judge_limit-limit.ensures.fits c.in_default.is in omega (arith, f.0, f.1) in
       let r = c.write_cleared-written.ensures.answer d (board_numbering (reached_part d)) is (reached v e) h (board_cells v e x u)
-          (board_storable v e x u) (board_used v e x) in
-      values_written c.args.k (length c.args.out.now) d (limited d c.in_default.is (c.judge_limit-limit.ensures.answer d x.used_is)) x.used_is
-          (sym (ap written_as c.in-Refused-written.is) ∙ r);
+      (board_storable v e x u) (board_used v e x) in
+      let fits = limited c.args.k d c.in_default.is (c.judge_limit-limit.ensures.answer d x.used_is) in
+      values_written c.args.k (length c.args.out.now) d fits x.used_is (sym (ap written_as c.in-Refused-written.is) ∙ r);
   lent = λ d is e v h t.
       let x = c.number_chart-numbered.ensures d is (holds_edges h) t (reached v e) in
       let u : c.number_chart-numbered.result.used ≤ 64 =
-          let f = c.judge_limit-limit.ensures.fits c.in_default.is in omega (arith, f.0, f.1) in
+      let f = c.judge_limit-limit.ensures.fits c.in_default.is in omega (arith, f.0, f.1) in
+      let fits = limited c.args.k d c.in_default.is (c.judge_limit-limit.ensures.answer d x.used_is) in
       c.write_cleared-written.ensures.lent d (board_numbering (reached_part d)) is (reached v e) h (board_cells v e x u)
-          (board_storable v e x u) (board_used v e x)
-          ∙ buffer_written c.args.k (length c.args.out.now) d (limited d c.in_default.is (c.judge_limit-limit.ensures.answer d x.used_is))
-          c.args.out.now;
+      (board_storable v e x u) (board_used v e x)
+      ∙ buffer_written c.args.k (length c.args.out.now) d fits c.args.out.now;
 }

@@ -6,7 +6,7 @@ pub rewrite_judged-requires : goal.rewrite_judged-requires
 rewrite_judged-requires c = (
   c.args.file.now,
   record {
-    bytes = bytes_are c.args.file.now (λ i. c.type_inv.file i);
+    bytes = bytes_are c.args.file.now (λ i. (c.type_inv.file i).fits);
     answers = c.judge-answer.ensures.answer;
     lists = c.judge-answer.ensures.lists;
     tested = c.judge-answer.ensures.tested;
@@ -14,14 +14,17 @@ rewrite_judged-requires c = (
 )
 
 pub returns : goal.returns
-returns c =
-    let judged = record {
-      bytes = bytes_are c.args.file.now (λ i. c.type_inv.file i);
-      answers = c.judge-answer.ensures.answer;
-      lists = c.judge-answer.ensures.lists;
-      tested = c.judge-answer.ensures.tested;
-    } in
-    record {
-      answer = c.rewrite_judged.ensures.answer c.args.file.now judged;
-      lent = c.rewrite_judged.ensures.lent c.args.file.now judged;
-    }
+returns c = record {
+  answer = c.rewrite_judged.ensures.answer c.args.file.now (record {
+    bytes = bytes_are c.args.file.now (λ i. (c.type_inv.file i).fits);
+    answers = c.judge-answer.ensures.answer;
+    lists = c.judge-answer.ensures.lists;
+    tested = c.judge-answer.ensures.tested;
+  });
+  lent = c.rewrite_judged.ensures.lent c.args.file.now (record {
+    bytes = bytes_are c.args.file.now (λ i. (c.type_inv.file i).fits);
+    answers = c.judge-answer.ensures.answer;
+    lists = c.judge-answer.ensures.lists;
+    tested = c.judge-answer.ensures.tested;
+  });
+}

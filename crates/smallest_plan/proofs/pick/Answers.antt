@@ -38,7 +38,8 @@ score-s-requires c =
 
 pub loop-unplaced-smaller-then-most-s : goal.loop-unplaced-smaller-then-most-s
 loop-unplaced-smaller-then-most-s c =
-    fewer _ _ c.loop-unplaced.invariant.0 (some_left c.loop-unplaced.left.bits _ c.is_empty.ensures c.loop-unplaced-test.true) c.without_lowest-left.ensures
+    fewer _ _ c.loop-unplaced.invariant.0 (some_left c.loop-unplaced.left.bits _ c.is_empty.ensures c.loop-unplaced-test.true)
+    c.without_lowest-left.ensures
 
 pub loop-unplaced-preserved-then-most-s : goal.loop-unplaced-preserved-then-most-s
 loop-unplaced-preserved-then-most-s c =
@@ -51,7 +52,8 @@ loop-unplaced-preserved-then-most-s c =
 
 pub loop-unplaced-smaller : goal.loop-unplaced-smaller
 loop-unplaced-smaller c =
-    fewer _ _ c.loop-unplaced.invariant.0 (some_left c.loop-unplaced.left.bits _ c.is_empty.ensures c.loop-unplaced-test.true) c.without_lowest-left.ensures
+    fewer _ _ c.loop-unplaced.invariant.0 (some_left c.loop-unplaced.left.bits _ c.is_empty.ensures c.loop-unplaced-test.true)
+    c.without_lowest-left.ensures
 
 pub loop-unplaced-preserved : goal.loop-unplaced-preserved
 loop-unplaced-preserved c =

@@ -7,7 +7,10 @@ use Rattle.smallest_plan.proofs.Whole.{ready_start, all_candidates, raised, enou
 use Rattle.smallest_plan.proofs.smallest.Goals as goal
 
 pub largest_clique-k-requires : goal.largest_clique-k-requires
-largest_clique-k-requires c = (omega (arith, c.requires.1, c.requires.3.least _ _ c.requires.3.plan), rw c.families_below-all.ensures (all_candidates c.requires.0 c.requires.2))
+largest_clique-k-requires c = (
+  omega (arith, c.requires.1, c.requires.3.least _ _ c.requires.3.plan),
+  rw c.families_below-all.ensures (all_candidates c.requires.0 c.requires.2),
+)
 
 pub loop-k-init : goal.loop-k-init
 loop-k-init c = raised c.requires.3 (rw c.families_below-all.ensures at c.largest_clique-k.ensures)

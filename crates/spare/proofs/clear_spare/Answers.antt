@@ -1,8 +1,9 @@
 -- `clear_spare` finds the reached sets, moves the tests up and clears the starts by them.
-use mathlib.Core.Path.{◌≡◌, sym, ◌∙◌}
+use mathlib.Core.Path.{◌≡◌, sym, ap, ◌∙◌}
 use mathlib.Core.Bool.{false}
 use Rattle.model.specs.Version.{allows_spare}
 use Rattle.chart_lists.specs.Header.{header_of}
+use Rattle.chart_lists.specs.declared.Header.{Header}
 use Rattle.chart_lists.proofs.Fronts.{transitions_are}
 use Rattle.spare.proofs.ReachedLists.{holds_ends}
 use Rattle.spare.proofs.ClearedLists.{holds_starts, holds_tests, cleared_holds, whole_holds}
@@ -11,7 +12,7 @@ use Rattle.spare.proofs.clear_spare.Goals as goal
 pub returns-then-not-allows_spare : goal.returns-then-not-allows_spare
 unfolding header_of
 returns-then-not-allows_spare c = λ chart e reached h. let none : allows_spare (header_of chart).version ≡ false =
-    rw (← e) (sym c.allows_spare.ensures ∙ c.if-not-allows_spare.true) in
+    sym (ap (λ (x : Header). allows_spare x.version) e) ∙ sym c.allows_spare.ensures ∙ c.if-not-allows_spare.true in
     whole_holds h (reached none)
 
 pub reached_sets-reached-requires : goal.reached_sets-reached-requires

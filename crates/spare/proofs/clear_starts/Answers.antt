@@ -1,7 +1,7 @@
 -- `clear_starts` meets its contract: the first i transitions are done, for whichever chart the lists are of; what a turn may read follows from the
 -- one that is given.
 use mathlib.Core.Path.{refl, sym, ◌∙◌}
-use Prim.Native.Nat.{◌-◌, ◌<◌}
+use Prim.Native.Nat.{◌<◌}
 use native.Mathlib.Omega.{arith}
 use lib.ListN.{length, length-set}
 use Rattle.chart_lists.proofs.Holds.{starts_each, test_counts_each}

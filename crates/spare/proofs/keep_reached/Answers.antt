@@ -1,7 +1,7 @@
 -- `keep_reached` meets its contract: the kept ones of the first i transitions stand over the fronts of the lists, for whichever chart the lists are
 -- of; what a turn may read follows from the one that is given.
 use mathlib.Core.Path.{refl, sym, ◌∙◌}
-use Prim.Native.Nat.{◌-◌, ◌<◌}
+use Prim.Native.Nat.{◌<◌}
 use native.Mathlib.Omega.{arith}
 use lib.ListN.{length}
 use Rattle.chart_lists.proofs.Holds.{targets_each, starts_each}

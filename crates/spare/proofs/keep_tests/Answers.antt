@@ -1,7 +1,7 @@
 -- `keep_tests` meets its contract: the tests of the first i transitions are gone over, for whichever chart the lists are of; what a turn may read
 -- follows from the one that is given.
 use mathlib.Core.Path.{refl, sym, ◌∙◌}
-use Prim.Native.Nat.{ℕ, ◌+◌, ◌-◌, ◌≤◌, ◌<◌}
+use Prim.Native.Nat.{ℕ, ◌+◌, ◌≤◌, ◌<◌}
 use native.Mathlib.Omega.{arith}
 use lib.ListN.{length, get_or}
 use Rattle.chart_lists.proofs.Holds.{test_counts_each, timers_each, codes_each, constants_each}

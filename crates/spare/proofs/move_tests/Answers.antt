@@ -1,6 +1,5 @@
 -- `move_tests` meets its contract: the first k tests are moved. Moved has what is hard.
 use mathlib.Core.Path.{◌≡◌, refl, ◌∙◌}
-use Prim.Native.Nat.{◌-◌}
 use native.Mathlib.Omega.{arith}
 use lib.ListN.{length-set}
 use Rattle.spare.proofs.Moved.{moved_none, moved_more, moved_same}

@@ -1,6 +1,6 @@
 -- `lowest_in_same` meets its contract: the timers that are left are in the same sets as timer j, of those gone over.
 use mathlib.Core.Path.{refl, sym, ◌∙◌}
-use Prim.Native.Nat.{◌+◌, ◌-◌}
+use Prim.Native.Nat.{◌+◌}
 use native.Mathlib.Omega.{arith}
 use Rattle.twins.proofs.Alike.{Alike, alike_first, alike_next, alike_own, alike_all, alike_low}
 use Rattle.twins.proofs.lowest_in_same.Goals as goal

@@ -1,12 +1,10 @@
 -- `lowest_twins` meets its contract: the timers below j are listed with their lowest twins.
 use mathlib.Core.Path.{◌≡◌, refl, sym, ap, ◌∙◌}
-use Prim.Native.Nat.{ℕ, ◌+◌, ◌-◌, ◌<◌}
 use native.Mathlib.Omega.{arith}
 use borrow.Author.Tests.{eq-eqb, ne_eqb}
-use lib.ListN.{set, length-set}
+use lib.ListN.{length-set}
 use Rattle.lists.proofs.Nth.{filled_more}
-use Rattle.model.specs.Twins.{lowest_in_same}
-use Rattle.twins.specs.LowestTwins.{lowest_at, own_lowest}
+use Rattle.twins.specs.LowestTwins.{own_lowest}
 use Rattle.twins.specs.LowestTwins.{own_below}
 use Rattle.twins.proofs.Own.{own_none, own_yes, own_no}
 use Rattle.twins.proofs.lowest_twins.Goals as goal

@@ -1,8 +1,7 @@
 -- `share_numbers` meets its contract: the rows below q are shared, and the others are as they were.
 use mathlib.Core.Path.{refl, sym, ◌∙◌}
-use Prim.Native.Nat.{◌-◌}
 use native.Mathlib.Omega.{arith}
-use borrow.Author.Tests.{eqb-true, not-false}
+use borrow.Author.Tests.{eqb-true}
 use Rattle.twins.proofs.Sharing.{shared_none, shared_kept, shared_row, shared_all}
 use Rattle.twins.proofs.share_numbers.Goals as goal
 

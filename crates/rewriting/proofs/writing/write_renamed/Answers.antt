@@ -33,6 +33,6 @@ returns c = record {
       let s = c.rename_starts.ensures d N is (holds_starts h) x in
       let t = c.rename_tests.ensures d N is (holds_tests h) x in
       c.write.ensures.lent
-          ∙ ap (λ (y : Answer Chart). overwritten file_of y c.args.out.now)
-          (write_into_lem N d x.numbered valid is h u _ _ s t (length c.args.out.now));
+      ∙ ap (λ (y : Answer Chart). overwritten file_of y c.args.out.now)
+      (write_into_lem N d x.numbered valid is h u _ _ s t (length c.args.out.now));
 }

@@ -1,9 +1,7 @@
 -- `number_live` meets its contract: each call is handed what the one before left. What is hard is only to name it.
 use mathlib.Core.Path.{sym, ap, ◌∙◌}
-use Prim.Native.Nat.{ℕ, ◌*◌, ◌≤◌}
+use Prim.Native.Nat.{ℕ, ◌*◌}
 use native.Mathlib.Omega.{arith}
-use lib.ListN.{length}
-use Rattle.twins.specs.LowestTwins.{LowestOf}
 use Rattle.twins.proofs.LiveNumbers.{few, asked, merged_safe, as_many, first_cells, only_merged, live_numbered}
 use Rattle.twins.proofs.live.number_live.Goals as goal
 
