@@ -11,6 +11,7 @@ use chart_lists::Read;
 use file_judging::JudgedFile;
 
 // Whether lists of these lengths have room for a accepting locations, n transitions and g tests.
+#[tactic(auto, using(std::proofs::lemmas::Bool::Decides::nat_tests), unfolding(crate::specs::Parts::enough))]
 fn room(
     a: u64,
     n: u64,

@@ -1,5 +1,5 @@
 -- `large_among` meets its contract: no entry before the turn's is over 65,535.
-use Prim.Native.Nat.{ℕ, ◌-◌, ◌≤◌, ◌<◌}
+use Prim.Native.Nat.{ℕ, ◌≤◌, ◌<◌}
 use native.Mathlib.Omega.{arith}
 use lib.ListN.{get_or}
 use borrow.Author.Count.{below_none, below_more}
@@ -17,7 +17,7 @@ returns-then-constants-k-gt-MOST_IN_TWO_BYTES c = sym
     (large_at c.args.constants.now c.args.n c.loop-k.k c.loop-k-test.true c.requires c.if-constants-k-gt-MOST_IN_TWO_BYTES.true)
 
 pub loop-k-preserved : goal.loop-k-preserved
-loop-k-preserved c = (search rules, below_more _ c.loop-k.k c.loop-k.invariant.1 c.if-constants-k-gt-MOST_IN_TWO_BYTES.false)
+loop-k-preserved c = (search rules, below_more _ c.loop-k.k c.loop-k.invariant.1 (omega arith))
 
 pub returns : goal.returns
 returns c = let small : (k : ℕ) → k < c.args.n

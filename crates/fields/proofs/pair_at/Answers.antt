@@ -10,7 +10,7 @@ pub returns-in_default-b : goal.returns-in_default-b
 returns-in_default-b c = second_refused 1 1 c.byte_at-a.ensures c.in-Value.is c.byte_at-b.ensures c.in_default-b.is
 
 pub overflow_mul-result : goal.overflow_mul-result
-overflow_mul-result c = record { fits = omega (arith, c.byte_at-a.ensures.small _ _ c.in-Value.is) }
+overflow_mul-result c = record { fits = omega (arith, c.byte_at-a.ensures.small _ _ c.in-Value.is, c.byte_at-b.ensures.small _ _ c.in-Value-b.is) }
 
 pub overflow_add-result : goal.overflow_add-result
 overflow_add-result c = record { fits = omega (arith, c.byte_at-a.ensures.small _ _ c.in-Value.is, c.byte_at-b.ensures.small _ _ c.in-Value-b.is) }

@@ -1,3 +1,4 @@
+use native.Mathlib.Omega.{arith}
 use Rattle.file_format.proofs.Frame.{end_at, more_at}
 use Rattle.filling.proofs.ended.Goals as goal
 
@@ -8,4 +9,4 @@ pub returns-then-end-s : goal.returns-then-end-s
 returns-then-end-s c = rw (c.in-Value.is, more_at _ _ c.if-end-s.true)
 
 pub returns : goal.returns
-returns c = rw (c.in-Value.is, end_at _ _ c.if-end-s.false)
+returns c = rw (c.in-Value.is, end_at c.args.s.now c.in-Value.end (omega arith))

@@ -1,11 +1,8 @@
 -- `fill_accepting` stores one accepting location after another. The hard part is the room where the list is not known to hold all n of them: the
 -- numbers rise, so that k of them and one more are all below the number of locations.
-use mathlib.Core.Path.{◌≡◌, refl, ◌∙◌}
-use Prim.Native.Nat.{◌-◌, ◌<◌}
+use mathlib.Core.Path.{refl, ◌∙◌}
 use native.Mathlib.Omega.{arith}
-use lib.ListN.{length, drop, length-set}
-use Rattle.model.specs.Answer.{nowhere}
-use Rattle.file_format.specs.Parse.{value, entry}
+use lib.ListN.{drop, length-set}
 use Rattle.fields.specs.Meaning.{field_as}
 use Rattle.fields.proofs.Answers.{told}
 use Rattle.file_judging.proofs.Loops.{entry_within, accepting_done, accepting_refused}

@@ -1,6 +1,5 @@
 -- `starts_at` puts one started timer after another into a set; each is above the one before it.
 use mathlib.Core.Path.{◌∙◌}
-use Prim.Native.Nat.{◌-◌}
 use native.Mathlib.Omega.{arith}
 use Rattle.file_format.proofs.Parsed.{below_limit}
 use Rattle.fields.specs.Meaning.{field_as}

@@ -57,4 +57,4 @@ returns-then-g-gt8 c = count_most (width_of c.args.version) c.args.length c.args
 pub returns : goal.returns
 returns c = count_whole (width_of c.args.version) c.args.length c.args.n c.args.place _ (told (field_as c.args.s.now) c.in-Value.is c.byte_at-a.ensures.reads) (c.if-length-n.false ∙ (let as_wide' : let a = c.args in let g = c.in-Value.g in
     7 + a.n + (2 + c.width_of-width.result) * g ≡ 7 + a.n + (2 + width_of a.version) * g = ap (λ (w : ℕ). 7 + c.args.n + (2 + w) * c.in-Value.g) c.width_of-width.ensures in
-    as_wide')) c.if-g-gt8.false
+    as_wide')) (omega arith)

@@ -1,4 +1,5 @@
 use mathlib.Core.Path.{sym, ◌∙◌}
+use native.Mathlib.Omega.{arith}
 use Rattle.file_format.proofs.Reading.{entry_refused, entry_in_lem, entry_low}
 use Rattle.fields.specs.Meaning.{field_as}
 use Rattle.fields.proofs.Answers.{told}
@@ -14,4 +15,4 @@ returns-then-x-lowest c = let h = told (field_as c.args.s.now) c.in-Value.is c.p
 
 pub returns : goal.returns
 returns c = let h = told (field_as c.args.s.now) c.in-Value.is c.pair_below-a.ensures in
-    sym (entry_in_lem _ _ _ _ _ _ h c.if-x-lowest.false)
+    sym (entry_in_lem _ _ _ _ _ _ h (omega arith))

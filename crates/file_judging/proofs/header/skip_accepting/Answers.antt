@@ -1,7 +1,6 @@
 -- `skip_accepting` reads one accepting location after another; each is above the one before it.
 use native.Mathlib.Omega.{arith}
 use Rattle.file_judging.proofs.Loops.{entry_within}
-use Prim.Native.Nat.{◌-◌}
 use mathlib.Core.Path.{◌∙◌}
 use lib.ListN.{drop}
 use Rattle.fields.specs.Meaning.{field_as}

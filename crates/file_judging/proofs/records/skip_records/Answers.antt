@@ -1,6 +1,5 @@
 -- `skip_records` reads one record after another and counts their tests: at most 8 of each, so that the sum fits.
 use native.Mathlib.Omega.{arith}
-use Prim.Native.Nat.{◌-◌}
 use mathlib.Core.Path.{◌∙◌}
 use lib.ListN.{drop}
 use Rattle.model.specs.Version.{width_of}

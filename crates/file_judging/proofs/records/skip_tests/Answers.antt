@@ -1,5 +1,4 @@
 -- `skip_tests` reads one test after another and keeps their number.
-use Prim.Native.Nat.{◌-◌}
 use Rattle.model.specs.Version.{width_of}
 use Rattle.fields.specs.Meaning.{test_as}
 use Rattle.fields.proofs.Answers.{told}

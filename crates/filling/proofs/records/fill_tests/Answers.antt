@@ -1,6 +1,5 @@
 -- `fill_tests` stores one test after another behind the first `base` entries.
 use mathlib.Core.Path.{refl}
-use Prim.Native.Nat.{◌-◌}
 use lib.ListN.{length-set}
 use Rattle.model.specs.Version.{width_of}
 use Rattle.fields.specs.Meaning.{test_as}

@@ -2,7 +2,6 @@ use mathlib.Core.Path.{◌≡◌}
 use Prim.Native.Nat.{◌-◌}
 use lib.ListN.{length}
 use Rattle.model.specs.Version.{width_of}
-use Rattle.file_judging.proofs.TestsLoop as skipping
 use Rattle.filling.proofs.TestsLoop.{TestsFilled}
 use Rattle.filling.proofs.records.fill_tests.Given as goal
 
