@@ -1,6 +1,5 @@
 -- `put_accepting` meets its contract: a pair of bytes a turn.
 use mathlib.Core.Path.{refl}
-use Prim.Native.Nat.{◌-◌}
 use native.Mathlib.Omega.{arith}
 use lib.ListN.{get_or}
 use Rattle.file_format.proofs.Lengths.{length_digits}

@@ -1,6 +1,5 @@
 -- `put_head` meets its contract: its fields stand one after another, the length of the record by the version.
 use mathlib.Core.List.{append_assoc}
-use Prim.Native.Nat.{◌+◌, ◌*◌, ◌≤◌}
 use native.Mathlib.Omega.{arith}
 use lib.ListN.{length-append}
 use borrow.Author.Rules.{rules}

@@ -1,7 +1,7 @@
 -- `write_records` meets its contract: a record a turn. What is hard is that the place of the next record and of its tests depends on those before it
 -- (proofs/RecordBytes).
 use mathlib.Core.Path.{ap}
-use Prim.Native.Nat.{ℕ, ◌+◌, ◌-◌}
+use Prim.Native.Nat.{ℕ, ◌+◌}
 use native.Mathlib.Omega.{arith}
 use Rattle.chart_lists.proofs.Part.{mid_room}
 use Rattle.writer.proofs.RecordBytes.{writing_first, writing_done, writing_next, writing_again}
