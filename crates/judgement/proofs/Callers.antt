@@ -21,7 +21,8 @@ pub judged_chart : (bs : List ℕ) {m : Header} → returned m ≡ judged_header
 unfolding judged_header judged_in
 judged_chart bs {m} e = go (chart_in bs) refl
   where
-    of : (c : Chart) → chart_in bs ≡ returned c → (y : Answer Chart) → judged c ≡ y → returned m ≡ then y (λ d. returned (header_of d)) → AcceptedChart bs m
+    of : (c : Chart) → chart_in bs ≡ returned c → (y : Answer Chart) → judged c ≡ y → returned m ≡ then y (λ d. returned (header_of d))
+        → AcceptedChart bs m
     of c f (returned d) g h =
         let same = judged_is c g in
         record { chart = c; reads = f; accepted = same; header_is = result_same h ∙ ap header_of (result_same (sym g ∙ same)) }

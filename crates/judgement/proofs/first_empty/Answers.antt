@@ -1,6 +1,5 @@
 -- `first_empty` returns the lowest place of an empty set: no set before it is empty.
 use mathlib.Core.Path.{refl, sym, ◌∙◌}
-use Prim.Native.Nat.{◌-◌}
 use native.Mathlib.Omega.{arith}
 use borrow.Author.Count.{below_more, below_none}
 use Rattle.model.specs.Live.{is_empty}

@@ -1,10 +1,8 @@
 -- `first_testing` returns the lowest transition that tests a timer of its source's set: none before it does.
 use mathlib.Core.Path.{refl, sym, ap, ◌∙◌}
 use mathlib.Core.Bool.{not}
-use Prim.Native.Nat.{◌-◌, ◌<◌}
 use native.Mathlib.Omega.{arith}
 use borrow.Author.Count.{below_more, below_none}
-use lib.ListN.{length, get_or}
 use Rattle.lists.proofs.Lowest.{lowest_is}
 use Rattle.judgement.proofs.Tested.{test_says}
 use Rattle.judgement.proofs.first_testing.Goals as goal

@@ -5,7 +5,7 @@ use Prim.Native.Nat.{ℕ, ◌<◌}
 use lib.ListN.{get_or}
 use Rattle.model.specs.Answer.{returned}
 use Rattle.model.specs.Chart.{Chart}
-use Rattle.chart_lists.specs.Lists.{Lists, lists, lists_of, put_lists}
+use Rattle.chart_lists.specs.Lists.{Lists, lists_of, put_lists}
 use Rattle.chart_lists.specs.Holds.{Holds}
 use Rattle.chart_lists.specs.Read.{read_as}
 use Rattle.chart_lists.proofs.Holds.{holds_put}

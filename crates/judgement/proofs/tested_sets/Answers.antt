@@ -1,8 +1,8 @@
 -- `tested_sets` makes the set of each transition's timers, one transition after another.
 use mathlib.Core.Path.{◌≡◌, refl, ◌∙◌}
-use Prim.Native.Nat.{◌+◌, ◌-◌, ◌≤◌, ◌<◌}
+use Prim.Native.Nat.{◌<◌}
 use native.Mathlib.Omega.{arith}
-use lib.ListN.{length, get_or, length-set}
+use lib.ListN.{length, length-set}
 use lib.Seq.{take-length}
 use Rattle.lists.specs.Lists.{sum_of}
 use Rattle.chart_lists.specs.Lists.{put}
@@ -20,10 +20,14 @@ set_of-requires c =
     (omega (arith, room, c.requires.0.enough), (λ i h. c.requires.0.small i (omega (arith, room))))
 
 pub overflow_cast-base : goal.overflow_cast-base
-overflow_cast-base c = record { fits = omega (arith, sum_room c.args.test_counts.now c.args.timers.now c.loop-i.i (omega arith), c.requires.0.enough) }
+overflow_cast-base c =
+    let room = sum_room c.args.test_counts.now c.args.timers.now c.loop-i.i (omega arith) in
+    record { fits = omega (arith, room, c.requires.0.enough) }
 
 pub overflow_add-base : goal.overflow_add-base
-overflow_add-base c = record { fits = omega (arith, sum_room c.args.test_counts.now c.args.timers.now c.loop-i.i (omega arith), c.requires.0.enough) }
+overflow_add-base c =
+    let room = sum_room c.args.test_counts.now c.args.timers.now c.loop-i.i (omega arith) in
+    record { fits = omega (arith, room, c.requires.0.enough) }
 
 pub loop-i-preserved : goal.loop-i-preserved
 loop-i-preserved c = let h : c.loop-i.i < length c.args.test_counts.now = omega arith in (
