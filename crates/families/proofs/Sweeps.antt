@@ -67,7 +67,8 @@ module _ (ones others linked : List ℕ) where
     }
       where
         go : (i : ℕ) → i < k + 1 → Dec (i ≡ k) → ((i : ℕ) → i < k → EndsAgree sets (get_or ones i 0) (get_or others i 0) (get_or linked i 0))
-            → EndsAgree sets (get_or ones k 0) (get_or others k 0) (get_or linked k 0) → EndsAgree sets (get_or ones i 0) (get_or others i 0) (get_or linked i 0)
+            → EndsAgree sets (get_or ones k 0) (get_or others k 0) (get_or linked k 0)
+            → EndsAgree sets (get_or ones i 0) (get_or others i 0) (get_or linked i 0)
         go i h (yes p) before here = rw p here
         go i h (no n) before here = before i (omega arith)
 

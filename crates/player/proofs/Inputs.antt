@@ -63,7 +63,8 @@ module _ (c : Chart) (counts : List ℕ) where
     pub after_inputs_lem : {y : Answer (Unit {0})} → y ≡ judged_to13 c counts n m (returned tt) → {A : Type 0} (x : Answer A)
         → then y (λ _. x) ≡ judged_to13 c counts n m x
     unfolding judged_to13
-    after_inputs_lem e x = rw e (counts_then _ (λ _. x) ∙ ap (counts_judged c counts) (then_unless (eqb n m) 13 nowhere (returned (tt {0})) (λ _. x)))
+    after_inputs_lem e x =
+        rw e (counts_then _ (λ _. x) ∙ ap (counts_judged c counts) (then_unless (eqb n m) 13 nowhere (returned (tt {0})) (λ _. x)))
 
     -- 12 refuses
     pub counts_first : {k p : ℕ} → refused k p ≡ counts_judged c counts (returned (tt {0})) → refused k p ≡ judged_to13 c counts n m (returned (tt {0}))

@@ -31,7 +31,7 @@ pub copy-requires : goal.copy-requires
 copy-requires c =
     let n = file_chart c.args.file.now (sym (ap file_numbered_as c.in-Chart.is) ∙ c.number_file-a.ensures.answer) in
     rw (live_part (reached_part n.chart) (part_are n.chart n.header_is) (c.number_file-a.ensures.lists n.chart n.judged).live_are)
-        c.if-live-m.false
+    c.if-live-m.false
 
 pub returns-in-Refused : goal.returns-in-Refused
 returns-in-Refused c =

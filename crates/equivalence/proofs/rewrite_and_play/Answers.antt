@@ -17,17 +17,17 @@ pub slice_bounds-board_file-end : goal.slice_bounds-board_file-end
 slice_bounds-board_file-end c =
     let answer = sym (ap rewritten_as c.in-File.is) ∙ c.rewrite-a.ensures.answer in
     let room : c.in-File.length ≤ length c.rewrite-a.new.out =
-        (left c.args.k c.args.file.now _ c.in-File.length c.rewrite-a.new.out answer c.rewrite-a.ensures.lent).room in
+    (left c.args.k c.args.file.now _ c.in-File.length c.rewrite-a.new.out answer c.rewrite-a.ensures.lent).room in
     simp length-take (omega arith)
 
 pub returns-in-Refused : goal.returns-in-Refused
 returns-in-Refused c =
     claim_of _ _ _ _ _ _ _ (bytes_are c.args.file.now (λ i. (c.type_inv.file i).fits)) c.play-drawn.ensures
-        (board_refused _ _ _ _ _ (sym (ap rewritten_as c.in-Refused.is) ∙ c.rewrite-a.ensures.answer))
+    (board_refused _ _ _ _ _ (sym (ap rewritten_as c.in-Refused.is) ∙ c.rewrite-a.ensures.answer))
 
 pub returns-in-File : goal.returns-in-File
 returns-in-File c =
     let answer = sym (ap rewritten_as c.in-File.is) ∙ c.rewrite-a.ensures.answer in
     let written = left c.args.k c.args.file.now _ c.in-File.length c.rewrite-a.new.out answer c.rewrite-a.ensures.lent in
     claim_of _ _ _ _ _ _ _ (bytes_are c.args.file.now (λ i. (c.type_inv.file i).fits)) c.play-drawn.ensures
-        (board_played _ _ _ _ _ written c.play.ensures)
+    (board_played _ _ _ _ _ written c.play.ensures)

@@ -32,7 +32,7 @@ put_chart-requires c =
     let f = j.fits refl in
     let few : used (reached_part n.chart) ≤ 64 = omega (arith, n.used_is, f.0, f.1) in
     text_asks l.valid few l.cells_are n.header_is n.used_is n.floor_is n.searched_is c.args.limit (length c.args.out.now) c.requires
-        (omega (arith, c.number_file-a.auto.cells))
+    (omega (arith, c.number_file-a.auto.cells))
 
 pub returns-in-Refused : goal.returns-in-Refused
 returns-in-Refused c =

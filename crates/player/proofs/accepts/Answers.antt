@@ -1,6 +1,5 @@
 -- `accepts` looks at one accepting location a turn; those that are left decide.
 use mathlib.Core.Path.{refl, sym, ◌∙◌}
-use Prim.Native.Nat.{◌-◌}
 use native.Mathlib.Omega.{arith}
 use Rattle.player.proofs.Accepting.{memb_here, memb_later, memb_end}
 use Rattle.player.proofs.accepts.Goals as goal

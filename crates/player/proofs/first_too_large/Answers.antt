@@ -1,6 +1,5 @@
 -- `first_too_large` looks at one count a turn.
 use mathlib.Core.Path.{refl}
-use Prim.Native.Nat.{◌-◌}
 use native.Mathlib.Omega.{arith}
 use Rattle.player.proofs.TooLarge.{small_none, small_more, large_here, large_none}
 use Rattle.player.proofs.first_too_large.Goals as goal

@@ -5,7 +5,8 @@ use Rattle.timer_set.specs.Members.{member}
 use Rattle.smallest_plan.proofs.pick.Given as goal
 
 abbrev pub invariant-loop-unplaced : goal.invariant-loop-unplaced
-invariant-loop-unplaced l = (l.left.bits < 2 ^ 64) × ((i : ℕ) → member l.left.bits i ≡ true → member l.unplaced.bits i ≡ true)
+invariant-loop-unplaced l =
+    (l.left.bits < 2 ^ 64) × ((i : ℕ) → member l.left.bits i ≡ true → member l.unplaced.bits i ≡ true)
     × (member l.unplaced.bits l.best ≡ true)
 
 abbrev pub decreases-loop-unplaced : goal.decreases-loop-unplaced

@@ -27,7 +27,7 @@ overflow_add-at c =
 pub loop-j-preserved : goal.loop-j-preserved
 loop-j-preserved c =
     put_loop_again c.loop-j.invariant c.loop-j-test.true refl c.put_entry-at.ensures.bytes_are c.put_entry-at.auto.out
-        (ap (λ (b : ℕ). c.loop-j.at + b) c.put_entry-at.ensures.size_is)
+    (ap (λ (b : ℕ). c.loop-j.at + b) c.put_entry-at.ensures.size_is)
 
 pub shape_of-out : goal.shape_of-out
 shape_of-out c = c.loop-j.invariant.long

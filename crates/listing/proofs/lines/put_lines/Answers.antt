@@ -29,7 +29,7 @@ overflow_add-at c =
 pub loop-q-preserved : goal.loop-q-preserved
 loop-q-preserved c =
     put_loop_again c.loop-q.invariant c.loop-q-test.true refl c.put_line-at.ensures.bytes_are c.put_line-at.auto.out
-        (ap (λ (b : ℕ). c.loop-q.at + b) c.put_line-at.ensures.size_is)
+    (ap (λ (b : ℕ). c.loop-q.at + b) c.put_line-at.ensures.size_is)
 
 pub shape_of-out : goal.shape_of-out
 shape_of-out c = c.loop-q.invariant.long
