@@ -3,7 +3,8 @@ use Rattle.file_format.proofs.Computing.{files_compute}
 use Rattle.chart_lists.specs.Lists.{put}
 use Rattle.judgement.specs.Judging.{judged_in}
 use Rattle.controller_model.specs.Parts.{offset, part_of, in_order, every_below, stretch, written}
-use Rattle.controller_model.specs.Heads.{allowed_number, charts_in, charts_judged, counts_in_order, long_enough, blocks_fit, set_up_judged, heads_judged}
+use Rattle.controller_model.specs.Heads.{allowed_number, charts_in, charts_judged, counts_in_order, long_enough, blocks_fit}
+use Rattle.controller_model.specs.Heads.{set_up_judged, heads_judged}
 use Rattle.controller_model.specs.Serving.{waits, state_of, can_take, lowest_to_take, left_by, report_of, next_turn, passed, leave, served, turned}
 use Rattle.controller_model.specs.Controlling.{start_head, start_counts, at_start, set_up, sound_waiting, sound_head, sound_at, sound_state}
 use Rattle.controller_model.specs.Controlling.{state_judged, receive, free, done_by, called, verdict_of, reported, step_of, turns_in}

@@ -148,13 +148,14 @@ unfolding called state_judged heads_of two_b head_input done_by
 turn_done s e = rw (two_b_judged, e, called) refl
 
 first_passes : called (files_of two_b) (heads_of two_b) 4 second_waits turn ≡ returned (passed 2 second_waits)
-unfolding sound_waiting sound_head sound_at sound_state every_below stretch offset sum_of lowest waits turned second_waits state_with waiting_at B drawn
+unfolding sound_waiting sound_head sound_at sound_state every_below stretch offset sum_of lowest waits turned second_waits state_with waiting_at
+    B drawn
 first_passes = turn_done second_waits refl
 
 -- the second turn serves it
 pub second_served : SecondServed 2 (turn ∷ turn ∷ [])
-unfolding sound_waiting sound_head sound_at sound_state every_below stretch offset sum_of lowest waits turned second_waits state_with waiting_at B drawn
-    after_calls turns_in passed next_turn served leave heads_of two_b head_input
+unfolding sound_waiting sound_head sound_at sound_state every_below stretch offset sum_of lowest waits turned second_waits state_with waiting_at
+    B drawn after_calls turns_in passed next_turn served leave heads_of two_b head_input
 second_served = record {
   before = turn ∷ [];
   rest = [];

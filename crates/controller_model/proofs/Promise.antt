@@ -39,7 +39,8 @@ use Rattle.controller_model.proofs.Fair.{some_distance, turned_turn, serves_soon
 
 -- ---- a head on its run, and the player
 
-on_its_run : {c : Chart} {file counts : List ℕ} {o : ℕ} {s : Controller} {h : ℕ} {es : List Step} → judged_in file ≡ returned c → CountsAllowed c counts
+on_its_run : {c : Chart} {file counts : List ℕ} {o : ℕ} {s : Controller} {h : ℕ} {es : List Step}
+    → judged_in file ≡ returned c → CountsAllowed c counts
     → Stands c o (λ j. get_or counts j 0) (head_at s h) s.counts es → OnItsRun c file counts o s h es
 unfolding every_time player_time answer_of
 on_its_run {c} {file} {counts} {o} {s} {h} {es} e a st = record {

@@ -168,7 +168,8 @@ module _ (files : List ℕ) (hs : Heads) (n p : ℕ) where
           three cs q (inr r) = by_heads (blocks_refused cs q (λ h c m. r.0 h h c (omega arith) m) r.1)
 
           two : (charts_judged files hs K ≡ refused n p)
-              ⊎ ((cs : List Chart) × (charts_judged files hs K ≡ returned cs) × (counts_in_order (head_counts counts ns) 0 cs (rest cs) ≡ refused n p))
+              ⊎ ((cs : List Chart) × (charts_judged files hs K ≡ returned cs)
+              × (counts_in_order (head_counts counts ns) 0 cs (rest cs) ≡ refused n p))
               → SetUpRefused
           two (inl q) = by_heads (by_charts (judged_refused q))
           two (inr q) = three q.0 q.1 (counts_refused (head_counts counts ns) 0 q.0 (rest q.0) q.2)

@@ -58,12 +58,14 @@ pub record Accepted (files : List ℕ) (hs : Heads) (K : ℕ) (cs : List Chart) 
   pub blocks : blocks_fit K hs.blocks cs ≡ true
 
 module _ (files : List ℕ) (hs : Heads) (K : ℕ) (cs : List Chart) where
-  pub charts_judged_lem : allowed_number hs.number ≡ true → charts_in files hs ≡ returned cs → leb K 64 ≡ true → charts_judged files hs K ≡ returned cs
+  pub charts_judged_lem : allowed_number hs.number ≡ true → charts_in files hs ≡ returned cs → leb K 64 ≡ true
+      → charts_judged files hs K ≡ returned cs
   unfolding charts_judged
   charts_judged_lem a b c = rw (a, b, c) refl
 
   -- and the other way round
-  pub judged_charts : charts_judged files hs K ≡ returned cs → (allowed_number hs.number ≡ true) × (charts_in files hs ≡ returned cs) × (leb K 64 ≡ true)
+  pub judged_charts : charts_judged files hs K ≡ returned cs
+      → (allowed_number hs.number ≡ true) × (charts_in files hs ≡ returned cs) × (leb K 64 ≡ true)
   unfolding charts_judged
   judged_charts e =
       let last : List Chart → Answer (List Chart) = λ ds. unless (leb K 64) 11 nowhere (returned ds) in

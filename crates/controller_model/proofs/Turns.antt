@@ -300,7 +300,8 @@ module _ (K : ℕ) (blocks : List ℕ) (cs : List Chart) (fits : Fits K blocks c
             subst (λ (y : Head). Stands c (offset blocks g) (λ j. get_or (counts g) j 0) y s.counts (es g))
             (sym (get_or-set_other s.heads h g _ (standing 0 0) d)) (a.each g c n)
 
-    pub call_stands : (k : Call) → AllStand blocks cs counts (state_after s (done_by blocks cs s k)) (λ h. es h ++ steps_in h s (done_by blocks cs s k))
+    pub call_stands : (k : Call)
+        → AllStand blocks cs counts (state_after s (done_by blocks cs s k)) (λ h. es h ++ steps_in h s (done_by blocks cs s k))
     unfolding done_by step_of
     call_stands turn = turned_stands
     call_stands (event h e t) = go (event_is blocks cs s h e t)

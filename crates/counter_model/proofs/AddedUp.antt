@@ -92,7 +92,8 @@ module _ (c : Chart) (small : large_constant c ≡ false) where
       match_then (StandsAt now t) Stands (counter_attempt c n x i now) (attempt every_time c n s (record { transition = i; time = t }))
       (λ y. counter_steps c (suc n) y is rs) (λ z. steps every_time c (suc n) z (steps_of is (times_of now t rs)))
       (λ y z h.
-      subst₂ (λ (last time : ℕ). Matching Stands (counter_steps c (suc n) y is rs) (steps every_time c (suc n) z (steps_of is (times_of last time rs))))
+      subst₂
+      (λ (last time : ℕ). Matching Stands (counter_steps c (suc n) y is rs) (steps every_time c (suc n) z (steps_of is (times_of last time rs))))
       h.1 h.2 (steps_as_run is rs (suc n) y z h.0))
       (attempt_as_run n i now x s st)
     where

@@ -41,7 +41,8 @@ time_unless false n p x = refl
 -- ---- from the same counts, whatever they are
 
 module _ (counts is : List ℕ) (first : ℕ) (ts : List ℕ) (below : first < counter_numbers) (spaced : Spaced ts) where
-  played_on_lem : (c : Chart) → large_constant c ≡ false → counter_played_on counts is first (readings_at first ts) c ≡ without_time (played_on counts is ts c)
+  played_on_lem : (c : Chart) → large_constant c ≡ false
+      → counter_played_on counts is first (readings_at first ts) c ≡ without_time (played_on counts is ts c)
   unfolding counts_judged readings_at
   played_on_lem c small =
       rw (length-map, small, chart_claim c small (λ j. get_or counts j 0) first below is ts spaced) (simp time_unless)
@@ -111,7 +112,8 @@ module _ {W : ℕ} (bs bs' : List ℕ) (c c' : Chart) (reads : chart_in bs ≡ r
           ∙ same_from_any c' valid' j' (sym sizes ∙ e) w w first first' is rs)
 
 -- one file, also where 9 or 10 refuse its chart: then both give that refusal
-pub file_claim : (bs : List ℕ) → Bytes bs → (c : Chart) → chart_in bs ≡ returned c → large_constant c ≡ false → CounterAsPlayer SpacedAfterFirst bs c bs c
+pub file_claim : (bs : List ℕ) → Bytes bs → (c : Chart) → chart_in bs ≡ returned c → large_constant c ≡ false
+    → CounterAsPlayer SpacedAfterFirst bs c bs c
 unfolding counter_answer judged_in play_answer without_time
 file_claim bs bytes c reads small =
     let valid = reads_valid bs c bytes reads in

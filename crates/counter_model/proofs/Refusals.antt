@@ -147,7 +147,8 @@ module _ (bs counts is : List ℕ) (first : ℕ) (rs : List ℕ) where
             }) h.1 h.2
         later c f (inr h) = by_step h
 
-        go : (inputs_judged bs counts same ≡ refused n p) ⊎ ((c : Chart) × (inputs_judged bs counts same ≡ returned c) × (after_inputs c ≡ refused n p))
+        go : (inputs_judged bs counts same ≡ refused n p)
+            ⊎ ((c : Chart) × (inputs_judged bs counts same ≡ returned c) × (after_inputs c ≡ refused n p))
             → Refused n p
         go (inl f) =
             let l = inputs_refused bs counts same bytes n p f in
@@ -207,7 +208,8 @@ module _ (bs counts is : List ℕ) (first : ℕ) (rs : List ℕ) where
         go (of_step h q) = not_both (any_memb_in (λ k. memb k never) n (14 ∷ 22 ∷ 24 ∷ []) h m) refl
 
     -- a file of version 1 is never refused 18: its constants have two bytes
-    pub version_1_never_18 : (c : Chart) → chart_in bs ≡ returned c → c.version ≡ 1 → (p : ℕ) → counter_answer bs counts is first rs ≡ refused 18 p → ⊥
+    pub version_1_never_18 : (c : Chart) → chart_in bs ≡ returned c → c.version ≡ 1
+        → (p : ℕ) → counter_answer bs counts is first rs ≡ refused 18 p → ⊥
     unfolding width_of
     version_1_never_18 c e v p f =
         let w = ((counter_18 p).0 f).1 in

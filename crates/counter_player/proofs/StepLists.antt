@@ -1,5 +1,6 @@
 -- The steps of a list on the counter board, one after another. What each leaves is said for every kind of state in `steps`.
-use Rattle.std.proofs.Common.{◌≡◌, ℕ, suc, ◌<◌, ◌≤◌, min, ◌⊎◌, List, [], ◌∷◌, length, get_or, drop, refl, inl, inr, arith, drop_of_length-le, drop-cons}
+use Rattle.std.proofs.Common.{◌≡◌, ℕ, suc, ◌<◌, ◌≤◌, min, ◌⊎◌, List, [], ◌∷◌, length, get_or, drop, refl, inl, inr, arith}
+use Rattle.std.proofs.Common.{drop_of_length-le, drop-cons}
 use Rattle.lists.proofs.Bools.{lt_or_le}
 use Rattle.model.specs.Answer.{Answer, returned, then}
 use Rattle.model.specs.Chart.{Chart}
