@@ -16,8 +16,9 @@ arrived q true = refl
 arrived q false = refl
 
 pub returns-in-Arrived : goal.returns-in-Arrived
-returns-in-Arrived c = let answer = sym (ap counter_played_as c.in-Arrived.is) ∙ c.play_counter-a.ensures in
-    arrived c.in-Arrived.end c.in-Arrived.accepts ∙ ap counter_playing_of answer
+returns-in-Arrived c =
+    let answer = sym (ap counter_played_as c.in-Arrived.is) ∙ c.play_counter-a.ensures in
+    record { answer = arrived c.in-Arrived.end c.in-Arrived.accepts ∙ ap counter_playing_of answer }
 
 pub returns-in-Refused : goal.returns-in-Refused
-returns-in-Refused c = ap counter_playing_of (sym (ap counter_played_as c.in-Refused.is) ∙ c.play_counter-a.ensures)
+returns-in-Refused c = record { answer = ap counter_playing_of (sym (ap counter_played_as c.in-Refused.is) ∙ c.play_counter-a.ensures) }
