@@ -68,7 +68,8 @@ module _ (f : ℕ → Answer Chart) where
     headers_are = record { number = l; few = omega arith; header = λ h c e. absurd (none-ne-some _ e) };
   }
 
-  pub next_judged : {h : ℕ} {headers : List Header} (j : FirstJudged f h headers) {c : Chart} {m : Header} → h < 8 → f h ≡ returned c → m ≡ header_of c
+  pub next_judged : {h : ℕ} {headers : List Header} (j : FirstJudged f h headers) {c : Chart} {m : Header}
+      → h < 8 → f h ≡ returned c → m ≡ header_of c
       → FirstJudged f (h + 1) (set headers h m)
   next_judged {h} {headers} j {c} {m} l d s =
       let q = j.headers_are in

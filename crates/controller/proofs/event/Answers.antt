@@ -12,8 +12,8 @@ returns-in_default c =
 
 pub receive-requires : goal.receive-requires
 receive-requires c =
-    let p = charts_passed _ _ c.judge_state-found.ensures c.in-Passed.is in
-    omega (arith, accepted_number (heads_accepted (state_passed _ _ _ _ p.are).0), p.headers_are.few)
+    omega (arith, accepted_number (heads_accepted (state_passed _ _ _ _ (charts_passed _ _ c.judge_state-found.ensures c.in-Passed.is).are).0),
+    (charts_passed _ _ c.judge_state-found.ensures c.in-Passed.is).headers_are.few)
 
 pub returns : goal.returns
 returns c =

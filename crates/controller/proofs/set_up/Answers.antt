@@ -11,8 +11,8 @@ returns-in_default c =
 
 pub start_heads-requires : goal.start_heads-requires
 start_heads-requires c =
-    let p = charts_passed _ _ c.judge_set_up-found.ensures c.in-Passed.is in
-    omega (arith, as_many_charts _ _ _ _ _ p.are, p.headers_are.few)
+    omega (arith, as_many_charts _ _ _ _ _ (charts_passed _ _ c.judge_set_up-found.ensures c.in-Passed.is).are,
+    (charts_passed _ _ c.judge_set_up-found.ensures c.in-Passed.is).headers_are.few)
 
 pub start_counts-requires : goal.start_counts-requires
 start_counts-requires c =

@@ -20,7 +20,10 @@ pub nonzero_rem-next : goal.nonzero_rem-next
 nonzero_rem-next c = some_head c.requires.1 c.args.state c.requires.2
 
 pub returns-then-head-eq0 : goal.returns-then-head-eq0
-returns-then-head-eq0 c = record { answer = λ cs r e. ap returned (passing_report r c.args.state e c.if-head-eq0.true); state = λ cs r e. passing_state r c.args.state e c.if-head-eq0.true }
+returns-then-head-eq0 c = record {
+  answer = λ cs r e. ap returned (passing_report r c.args.state e c.if-head-eq0.true);
+  state = λ cs r e. passing_state r c.args.state e c.if-head-eq0.true;
+}
 
 pub offset_bounds-headers-i : goal.offset_bounds-headers-i
 offset_bounds-headers-i c = record { fits = omega (arith, (turn_few c.requires.1 c.args.state c.requires.2)) }

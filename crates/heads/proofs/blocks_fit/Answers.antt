@@ -19,7 +19,11 @@ pub returns-then-block-rest : goal.returns-then-block-rest
 returns-then-block-rest c = λ cs e are. no_room _ _ cs c.loop-h.h c.loop-h.invariant.1 (omega (arith, e)) c.if-block-rest.true
 
 pub loop-h-preserved : goal.loop-h-preserved
-loop-h-preserved c = (omega arith, omega (arith, offset_next c.args.blocks c.loop-h.h), below_more _ c.loop-h.h c.loop-h.invariant.2 (omega (arith, c.wide.ensures)))
+loop-h-preserved c = (
+  omega arith,
+  omega (arith, offset_next c.args.blocks c.loop-h.h),
+  below_more _ c.loop-h.h c.loop-h.invariant.2 (omega (arith, c.wide.ensures)),
+)
 
 pub returns : goal.returns
 returns c = λ cs e are. blocks_fit_lem _ _ are c.loop-h.h (omega (arith, c.loop-h.invariant.1)) (omega (arith, e)) c.loop-h.invariant.2

@@ -5,4 +5,6 @@ use Rattle.heads.proofs.Lengths.{part_between}
 use Rattle.heads.proofs.judge_head.Goals as goal
 
 pub returns : goal.returns
-returns c = c.judge_file.ensures ∙ ap judged_header (part_between c.args.lengths c.args.h c.args.files.now c.begin_of-begin.ensures c.end_of-end.ensures)
+returns c =
+    c.judge_file.ensures
+    ∙ ap judged_header (part_between c.args.lengths c.args.h c.args.files.now c.begin_of-begin.ensures c.end_of-end.ensures)

@@ -10,9 +10,11 @@ pub blocks_fit-requires : goal.blocks_fit-requires
 blocks_fit-requires c = few_heads _ _ _ _ (all_passed _ _ _ _ c.judge_charts-judged.ensures c.in-Passed.is)
 
 pub returns-then-not-blocks_fit : goal.returns-then-not-blocks_fit
-returns-then-not-blocks_fit c = refused_as_lem _ c.refused.ensures
-    (blocks_answer _ _ _ _ (all_passed _ _ _ _ c.judge_charts-judged.ensures c.in-Passed.is) c.blocks_fit.ensures c.if-not-blocks_fit.true)
+returns-then-not-blocks_fit c =
+    let passed = all_passed _ _ _ _ c.judge_charts-judged.ensures c.in-Passed.is in
+    refused_as_lem _ c.refused.ensures (blocks_answer _ _ _ _ passed c.blocks_fit.ensures c.if-not-blocks_fit.true)
 
 pub returns : goal.returns
-returns c = passed_as _ c.in-Passed.is ((all_passed _ _ _ _ c.judge_charts-judged.ensures c.in-Passed.is)).headers_are
-    (blocks_answer _ _ _ _ (all_passed _ _ _ _ c.judge_charts-judged.ensures c.in-Passed.is) c.blocks_fit.ensures c.if-not-blocks_fit.false)
+returns c =
+    let passed = all_passed _ _ _ _ c.judge_charts-judged.ensures c.in-Passed.is in
+    passed_as _ c.in-Passed.is passed.headers_are (blocks_answer _ _ _ _ passed c.blocks_fit.ensures c.if-not-blocks_fit.false)

@@ -7,7 +7,9 @@ use Rattle.serving.proofs.Choosing.{event_within, other_source, other_event, tes
 use Rattle.serving.proofs.can_take.Goals as goal
 
 pub bounds-sources-i : goal.bounds-sources-i
-bounds-sources-i c = (transition_at c.requires.i_in_bounds.3 ((some_transition c.requires.i_in_bounds.0 c.args.i c.requires.i_in_bounds.1)).1).source_within
+bounds-sources-i c =
+    let q = c.requires.i_in_bounds in
+    (transition_at q.3 (some_transition q.0 c.args.i q.1).1).source_within
 
 pub overflow_cast-sources : goal.overflow_cast-sources
 overflow_cast-sources c = record { fits = omega (arith, c.type_inv.sources c.args.i) }
@@ -16,7 +18,9 @@ pub returns-then-sources-i : goal.returns-then-sources-i
 returns-then-sources-i c = λ ch f h r n x t at v. other_source h n x _ t at c.if-sources-i.true
 
 pub bounds-events-i : goal.bounds-events-i
-bounds-events-i c = event_within c.requires.i_in_bounds.3 ((some_transition c.requires.i_in_bounds.0 c.args.i c.requires.i_in_bounds.1)).1
+bounds-events-i c =
+    let q = c.requires.i_in_bounds in
+    event_within q.3 (some_transition q.0 c.args.i q.1).1
 
 pub overflow_cast-events : goal.overflow_cast-events
 overflow_cast-events c = record { fits = omega (arith, c.type_inv.events c.args.i) }
@@ -25,7 +29,9 @@ pub returns-then-events-i : goal.returns-then-events-i
 returns-then-events-i c = λ ch f h r n x t at v. other_event h n x _ t at c.if-events-i.true
 
 pub enabled-requires : goal.enabled-requires
-enabled-requires c = record { i_in_bounds = (c.requires.i_in_bounds.0, c.requires.i_in_bounds.1, c.requires.i_in_bounds.2, holds_tests c.requires.i_in_bounds.3); counts_len = c.requires.counts_len }
+enabled-requires c =
+    let q = c.requires.i_in_bounds in
+    record { i_in_bounds = (q.0, q.1, q.2, holds_tests q.3); counts_len = c.requires.counts_len }
 
 pub returns : goal.returns
 returns c = λ ch f h r n x t at v.

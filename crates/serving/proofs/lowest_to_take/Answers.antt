@@ -10,11 +10,14 @@ pub loop-i-init : goal.loop-i-init
 loop-i-init c = (omega arith, λ ch n f h x t at v. none_yet ch x _ t)
 
 pub can_take-requires : goal.can_take-requires
-can_take-requires c = record { i_in_bounds = (c.requires.n_value.0, omega (arith, c.requires.n_value.1), c.requires.n_value.2, c.requires.n_value.3); counts_len = c.requires.counts_len }
+can_take-requires c =
+    let q = c.requires.n_value in
+    record { i_in_bounds = (q.0, omega (arith, q.1), q.2, q.3); counts_len = c.requires.counts_len }
 
 pub returns-then-can_take : goal.returns-then-can_take
 returns-then-can_take c = λ ch n f h x t at v.
-    lowest_here ch x _ t c.loop-i.i (c.loop-i.invariant.1 ch n f h x t at v) (λ r m. c.can_take.ensures ch f h r m x t at v) (omega arith) c.if-can_take.true
+    lowest_here ch x _ t c.loop-i.i (c.loop-i.invariant.1 ch n f h x t at v) (λ r m. c.can_take.ensures ch f h r m x t at v)
+    (omega arith) c.if-can_take.true
 
 pub loop-i-preserved : goal.loop-i-preserved
 loop-i-preserved c = (

@@ -12,15 +12,17 @@ unfolding start_counts
 loop-h-init c = (c.requires.n_bound, omega arith, refl)
 
 pub write_counts-next-requires : goal.write_counts-next-requires
-write_counts-next-requires c = counts_on_board c.requires.counts_fit c.loop-h.h (omega arith) c.begin_of.ensures (part_between c.args.parts.lengths c.loop-h.h c.args.counts.now c.begin_of-begin.ensures c.end_of-end.ensures)
+write_counts-next-requires c =
+    let part = part_between c.args.parts.lengths c.loop-h.h c.args.counts.now c.begin_of-begin.ensures c.end_of-end.ensures in
+    counts_on_board c.requires.counts_fit c.loop-h.h (omega arith) c.begin_of.ensures part
 
 pub loop-h-preserved : goal.loop-h-preserved
-loop-h-preserved c = (
-  c.loop-h.invariant.0,
-  omega arith,
-  next_counts c.requires.counts_fit c.loop-h.h (omega arith) c.begin_of.ensures (part_between c.args.parts.lengths c.loop-h.h c.args.counts.now c.begin_of-begin.ensures c.end_of-end.ensures) c.loop-h.invariant.2 c.write_counts-next.ensures,
-)
+loop-h-preserved c =
+    let part = part_between c.args.parts.lengths c.loop-h.h c.args.counts.now c.begin_of-begin.ensures c.end_of-end.ensures in
+    let next = next_counts c.requires.counts_fit c.loop-h.h (omega arith) c.begin_of.ensures part in
+    (c.loop-h.invariant.0, omega arith, next c.loop-h.invariant.2 c.write_counts-next.ensures)
 
 pub returns : goal.returns
-returns c = let e : c.loop-h.h ≡ c.args.n = omega arith in
+returns c =
+    let e : c.loop-h.h ≡ c.args.n = omega arith in
     rw e at c.loop-h.invariant.2

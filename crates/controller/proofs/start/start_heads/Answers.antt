@@ -10,7 +10,11 @@ pub loop-h-init : goal.loop-h-init
 loop-h-init c = (c.requires, omega arith, none_stand _)
 
 pub loop-h-preserved : goal.loop-h-preserved
-loop-h-preserved c = (c.loop-h.invariant.0, omega arith, next_stands _ c.loop-h.h c.loop-h.heads (omega arith) c.start_head-head.ensures c.loop-h.invariant.2)
+loop-h-preserved c = (
+  c.loop-h.invariant.0,
+  omega arith,
+  next_stands _ c.loop-h.h c.loop-h.heads (omega arith) c.start_head-head.ensures c.loop-h.invariant.2,
+)
 
 pub returns : goal.returns
 returns c = λ cs e are.

@@ -23,10 +23,13 @@ pub loop-j-init : goal.loop-j-init
 loop-j-init c = (c.requires, omega arith, pass_none _)
 
 pub returns-then-counts-o : goal.returns-then-counts-o
-returns-then-counts-o c = fails_here _ _ c.loop-j.j (omega arith) (allowed_at c.args.o c.args.n c.args.bound c.args.counts c.loop-j.j (omega arith) (lt-leb _ _ c.if-counts-o.true))
+returns-then-counts-o c =
+    let here = allowed_at c.args.o c.args.n c.args.bound c.args.counts c.loop-j.j (omega arith) (lt-leb _ _ c.if-counts-o.true) in
+    fails_here _ _ c.loop-j.j (omega arith) here
 
 pub loop-j-preserved : goal.loop-j-preserved
-loop-j-preserved c = let here = allowed_at c.args.o c.args.n c.args.bound c.args.counts c.loop-j.j (omega arith) (le-leb _ _ c.if-counts-o.false) in
+loop-j-preserved c =
+    let here = allowed_at c.args.o c.args.n c.args.bound c.args.counts c.loop-j.j (omega arith) (le-leb _ _ c.if-counts-o.false) in
     (c.loop-j.invariant.0, omega arith, pass_more _ c.loop-j.j here c.loop-j.invariant.2)
 
 pub returns : goal.returns

@@ -9,7 +9,8 @@ pub returns-then-head-header : goal.returns-then-head-header
 returns-then-head-header c = λ ch e. wrong_location ch _ _ (omega (arith, locations_are ch e, c.if-head-header.true))
 
 pub returns-then-head-gt-LARGEST_TIME : goal.returns-then-head-gt-LARGEST_TIME
-returns-then-head-gt-LARGEST_TIME c = λ ch e. wrong_time ch _ _ (omega (arith, locations_are ch e, c.if-head-header.false)) c.if-head-gt-LARGEST_TIME.true
+returns-then-head-gt-LARGEST_TIME c = λ ch e.
+    wrong_time ch _ _ (omega (arith, locations_are ch e, c.if-head-header.false)) c.if-head-gt-LARGEST_TIME.true
 
 pub returns-then-not-sound_waiting : goal.returns-then-not-sound_waiting
 returns-then-not-sound_waiting c = λ ch e.
