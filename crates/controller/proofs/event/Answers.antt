@@ -12,14 +12,17 @@ returns-in_default c =
 
 pub receive-requires : goal.receive-requires
 receive-requires c =
-    omega (arith, accepted_number (heads_accepted (state_passed _ _ _ _ (charts_passed _ _ c.judge_state-found.ensures c.in-Passed.is).are).0),
-    (charts_passed _ _ c.judge_state-found.ensures c.in-Passed.is).headers_are.few)
+    omega (
+      arith,
+      accepted_number (heads_accepted (state_passed _ _ _ _ (charts_passed _ _ c.judge_state-found.ensures c.in-Passed.is).are).0),
+      (charts_passed _ _ c.judge_state-found.ensures c.in-Passed.is).headers_are.few,
+    )
 
 pub returns : goal.returns
 returns c =
     let p = charts_passed _ _ c.judge_state-found.ensures c.in-Passed.is in
     let n = accepted_number (heads_accepted (state_passed _ _ _ _ p.are).0) in
     let r =
-        passed_call _ c.receive.result (called_passed _ _ _ _ _ p.are) (c.receive.ensures.answer _ p.charts n)
-        (c.receive.ensures.state _ p.charts n) in
+    passed_call _ c.receive.result (called_passed _ _ _ _ _ p.are) (c.receive.ensures.answer _ p.charts n)
+    (c.receive.ensures.state _ p.charts n) in
     record { answer = r.0; state = r.1 }

@@ -16,18 +16,18 @@ returns-then-own-ne0 c =
 pub returns-then-time-gt-LARGEST_TIME : goal.returns-then-time-gt-LARGEST_TIME
 returns-then-time-gt-LARGEST_TIME c =
     let r = too_late _ _ _ _ _ c.if-head-n.false c.if-own-ne0.false
-        c.refused-then-time-gt-LARGEST_TIME.ensures c.if-time-gt-LARGEST_TIME.true in
+    c.refused-then-time-gt-LARGEST_TIME.ensures c.if-time-gt-LARGEST_TIME.true in
     record { answer = r.0; state = r.1 }
 
 pub returns-then-time-own : goal.returns-then-time-own
 returns-then-time-own c =
     let r = too_early _ _ _ _ _ c.if-head-n.false c.if-own-ne0.false c.if-time-gt-LARGEST_TIME.false
-        c.refused-then-time-own.ensures c.if-time-own.true in
+    c.refused-then-time-own.ensures c.if-time-own.true in
     record { answer = r.0; state = r.1 }
 
 pub returns : goal.returns
 unfolding receive
 returns c =
     let r = waits_now c.args.state c.args.n c.args.head c.args.event c.args.time
-        c.if-head-n.false c.if-own-ne0.false c.if-time-gt-LARGEST_TIME.false c.if-time-own.false in
+    c.if-head-n.false c.if-own-ne0.false c.if-time-gt-LARGEST_TIME.false c.if-time-own.false in
     record { answer = r.0; state = r.1 }

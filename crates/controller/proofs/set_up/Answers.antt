@@ -11,8 +11,11 @@ returns-in_default c =
 
 pub start_heads-requires : goal.start_heads-requires
 start_heads-requires c =
-    omega (arith, as_many_charts _ _ _ _ _ (charts_passed _ _ c.judge_set_up-found.ensures c.in-Passed.is).are,
-    (charts_passed _ _ c.judge_set_up-found.ensures c.in-Passed.is).headers_are.few)
+    omega (
+      arith,
+      as_many_charts _ _ _ _ _ (charts_passed _ _ c.judge_set_up-found.ensures c.in-Passed.is).are,
+      (charts_passed _ _ c.judge_set_up-found.ensures c.in-Passed.is).headers_are.few,
+    )
 
 pub start_counts-requires : goal.start_counts-requires
 start_counts-requires c =

@@ -1,5 +1,4 @@
 -- `blocks_fit` counts down what is left of the board, block after block.
-use Prim.Native.Nat.{◌-◌}
 use native.Mathlib.Omega.{arith}
 use borrow.Author.Count.{below_more, below_none}
 use Rattle.lists.specs.Lists.{sum_of}

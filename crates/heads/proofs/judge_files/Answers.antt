@@ -1,6 +1,5 @@
 -- `judge_files` judges one file after another and stores the headers of their charts.
 use mathlib.Core.Path.{◌≡◌, refl, sym, ap, ◌∙◌}
-use Prim.Native.Nat.{◌-◌}
 use native.Mathlib.Omega.{arith}
 use Rattle.chart_lists.specs.Read.{read_as}
 use Rattle.judgement.proofs.Callers.{judged_refused, judged_chart, accepted_in}

@@ -1,6 +1,5 @@
 -- `lowest_to_take` tries the transitions one after another, from the lowest on.
 use mathlib.Core.Path.{◌≡◌, sym, ◌∙◌}
-use Prim.Native.Nat.{◌-◌}
 use native.Mathlib.Omega.{arith}
 use lib.ListN.{length}
 use Rattle.serving.proofs.Choosing.{none_yet, none_more, lowest_here, lowest_none}

@@ -1,6 +1,5 @@
 -- `begin_of` goes from the end of one part to the end of the next, each cut where the list ends.
 use mathlib.Core.Path.{◌≡◌}
-use Prim.Native.Nat.{◌-◌}
 use native.Mathlib.Omega.{arith}
 use Rattle.lists.specs.Lists.{sum_of}
 use Rattle.controller_model.specs.Parts.{offset}
