@@ -31,4 +31,4 @@ module _ {W : ℕ} {c : Chart} (valid : Valid W c) (q : ℕ) (spare : Reached c 
   spare_line timers =
       ap (λ (es : List ℕ). at_word ++ (decimal q ++ (es ++ (line_feed ∷ []))))
       (gather_more (λ j. entry_text j ((board_numbering (reached_part c)).number q j)) 0 timers (omega arith)
-          (λ j h. ap (entry_text j) (spare_none j)))
+      (λ j h. ap (entry_text j) (spare_none j)))

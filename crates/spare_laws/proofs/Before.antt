@@ -19,7 +19,7 @@ use Rattle.model.specs.Valid.{Valid}
 use Rattle.model.specs.Version.{allows_spare}
 use Rattle.model.specs.Live.{live_sets, first_unreached, first_unstarted}
 use Rattle.model.specs.Places.{AllReached}
-use Rattle.model.specs.FirstFit.{board, used, used_by, blocked}
+use Rattle.model.specs.FirstFit.{board, used_by, blocked}
 use Rattle.model.specs.Floor.{floor, searched}
 use Rattle.model.specs.Rewrite.{rewritten_by, board_numbering, rewritten}
 use Rattle.model.specs.Judge.{Rewriting, judged, fitted}

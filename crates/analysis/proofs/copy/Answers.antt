@@ -1,6 +1,5 @@
 -- `copy`: after q turns the first q sets stand over the front.
 use mathlib.Core.Path.{refl}
-use Prim.Native.Nat.{◌-◌}
 use native.Mathlib.Omega.{arith}
 use Rattle.chart_lists.proofs.Copied.{copied_none, copied_more, copied_all}
 use Rattle.analysis.proofs.copy.Goals as goal

@@ -9,7 +9,6 @@ use Rattle.model.specs.FirstFit.{used}
 use Rattle.numbering.specs.FileNumbers.{file_numbered_as}
 use Rattle.numbering.specs.Limits.{LimitJudged}
 use Rattle.numbering.specs.declared.Limit.{Limit}
-use Rattle.numbering.specs.declared.Limit.TheVariants as limit
 use Rattle.numbering.proofs.FileNumbers.{file_chart, file_refused}
 use Rattle.listing.specs.Listing.{answer_text}
 use Rattle.listing.proofs.PutBytes.{bytes_as}

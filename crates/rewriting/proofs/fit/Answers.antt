@@ -11,7 +11,6 @@ use Rattle.model.specs.Places.{ReachedIfAsked}
 use Rattle.model.specs.Rewrite.{board_numbering}
 use Rattle.model.specs.Judge.{judged, fitted}
 use Rattle.model.proofs.Judgement.{accepted}
-use Rattle.chart_lists.specs.Lists.{overwritten}
 use Rattle.chart_lists.specs.Limits.{most_locations}
 use Rattle.chart_lists.proofs.Fronts.{locations_are}
 use Rattle.allocation.specs.Cells.{most_cells}
@@ -19,8 +18,6 @@ use Rattle.numbering.specs.Limits.{limit_as}
 use Rattle.numbering.specs.declared.Limit.{Limit}
 use Rattle.chart_lists.proofs.Partly.{holds_edges}
 use Rattle.writer.specs.Writing.{written_as}
-use Rattle.rewriting.specs.Rewriting.{new_file, values_of}
-use Rattle.rewriting.specs.Parts.{fitted_into}
 use Rattle.rewriting.proofs.Order.{fitted_into_lem, values_refused, buffer_refused}
 use Rattle.rewriting.proofs.Board.{board_used, board_cells, board_storable}
 use Rattle.rewriting.proofs.Written.{values_written, buffer_written}

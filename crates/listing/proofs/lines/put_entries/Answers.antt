@@ -1,6 +1,6 @@
 -- `put_entries`: after j turns the entries of the timers below j are put.
 use mathlib.Core.Path.{refl, ap}
-use Prim.Native.Nat.{ℕ, ◌+◌, ◌-◌}
+use Prim.Native.Nat.{ℕ, ◌+◌}
 use native.Mathlib.Omega.{arith}
 use Rattle.chart_lists.proofs.Part.{mid_room}
 use Rattle.chart_lists.proofs.PutLoop.{put_loop_first, put_loop_done, put_loop_size, put_loop_room, put_loop_again}

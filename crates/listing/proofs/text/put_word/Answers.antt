@@ -1,6 +1,5 @@
 -- `put_word`: after i turns the first i bytes of the word stand over the front.
 use mathlib.Core.Path.{refl}
-use Prim.Native.Nat.{◌-◌}
 use native.Mathlib.Omega.{arith}
 use Rattle.chart_lists.proofs.Copied.{copied_none, copied_more, copied_all}
 use Rattle.listing.proofs.text.put_word.Goals as goal
