@@ -40,7 +40,8 @@ module _ (version : ℕ) (c : Chart) (stored : Storable c) (stored' : Storable (
   read' = chart_survives (in_version version c) stored'
 
   -- the chart that is analysed is the same in that version
-  analysed : (room : ℕ) → analysed_in room (file_of (in_version version c)) ≡ then (analysed_in room (file_of c)) (λ d. returned (in_version version d))
+  analysed : (room : ℕ) → analysed_in room (file_of (in_version version c))
+      ≡ then (analysed_in room (file_of c)) (λ d. returned (in_version version d))
   unfolding analysed_in judged_in analysed_chart in_version
   analysed room = rw (read, read', judged_alike.same_judged) (go (judged c))
     where
@@ -58,7 +59,8 @@ module _ (version : ℕ) (c : Chart) (stored : Storable c) (stored' : Storable (
   unfolding analyse_answer
   analyses_alike room = rw (analysed room) (go (analysed_in room (file_of c)))
     where
-      go : (x : Answer Chart) → then (then x (λ d. returned (in_version version d))) (λ d. returned (values_of d)) ≡ then x (λ d. returned (values_of d))
+      go : (x : Answer Chart) → then (then x (λ d. returned (in_version version d))) (λ d. returned (values_of d))
+          ≡ then x (λ d. returned (values_of d))
       go (returned d) = ap returned (same_values version d)
       go (refused n p) = refl
 

@@ -70,7 +70,8 @@ module _ (K : ℕ) (bs : List ℕ) where
   unfolding rewrite_answer values_of
   left u n out e f = go (rewrite_into K largest_file bs) refl e f
     where
-      go : (y : Answer Rewriting) → rewrite_into K largest_file bs ≡ y → returned (record { used = u; length = n }) ≡ then y (λ x. returned (values_of x))
+      go : (y : Answer Rewriting) → rewrite_into K largest_file bs ≡ y
+          → returned (record { used = u; length = n }) ≡ then y (λ x. returned (values_of x))
           → out ≡ overwritten new_file y (replicate largest_file 0) → Left n out
       go (returned x) q e f =
           let l : n ≡ length (file_of x.chart) = ap (λ (y : RewritingValues). y.length) (result_same e) in

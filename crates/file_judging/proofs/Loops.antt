@@ -67,7 +67,8 @@ module _ {W locations timers n i tests : ℕ} {start bs : List ℕ} (p : TestsCo
   counted_done h = rw (turn_done p.turn h, p.count)
 
   module _ (h : i < n) where
-    pub counted_refused : {m q : ℕ} → skip_transition W locations timers i bs ≡ refusal m q → refusal m q ≡ skip_transitions W locations timers n start
+    pub counted_refused : {m q : ℕ} → skip_transition W locations timers i bs ≡ refusal m q → refusal m q ≡ skip_transitions W locations timers n
+        start
     unfolding skip_transition skip_transitions
     counted_refused e =
         let k = kept_refused (λ (r : Transition). length r.tests) (read_transition W locations timers i bs) e in

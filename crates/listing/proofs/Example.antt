@@ -66,7 +66,8 @@ lines_of_spare =
 
 -- used 3 floor 2 limit 16
 pub line_of_floor : List ℕ
-line_of_floor = 117 ∷ 115 ∷ 101 ∷ 100 ∷ 32 ∷ 51 ∷ 32 ∷ 102 ∷ 108 ∷ 111 ∷ 111 ∷ 114 ∷ 32 ∷ 50 ∷ 32 ∷ 108 ∷ 105 ∷ 109 ∷ 105 ∷ 116 ∷ 32 ∷ 49 ∷ 54 ∷ 10 ∷ []
+line_of_floor = 117 ∷ 115 ∷ 101 ∷ 100 ∷ 32 ∷ 51 ∷ 32 ∷ 102 ∷ 108 ∷ 111 ∷ 111 ∷ 114 ∷ 32 ∷ 50 ∷ 32
+    ∷ 108 ∷ 105 ∷ 109 ∷ 105 ∷ 116 ∷ 32 ∷ 49 ∷ 54 ∷ 10 ∷ []
 
 -- used 3 seen 2 limit 16
 pub line_of_seen : List ℕ
@@ -84,7 +85,8 @@ pub record Texts : Type 0 where
   pub line_of_seen_lem : first_line 3 2 false 16 ≡ line_of_seen
 
 pub texts : Texts
-unfolding files_compute bytes_of_a bytes_of_b bytes_of_spare started_together with_spare lines_of_a lines_of_b lines_of_twins lines_of_spare line_of_floor line_of_seen
+unfolding files_compute bytes_of_a bytes_of_b bytes_of_spare started_together with_spare lines_of_a lines_of_b lines_of_twins lines_of_spare
+    line_of_floor line_of_seen
     decimal_in decimal refused_word used_word floor_word seen_word limit_word at_word refused_text first_line line_of chart_text accepted text_of
 texts = record {
   text_of_A = refl;

@@ -30,4 +30,5 @@ module _ {W : ℕ} {c : Chart} (valid : Valid W c) (q : ℕ) (spare : Reached c 
   unfolding line_of gather
   spare_line timers =
       ap (λ (es : List ℕ). at_word ++ (decimal q ++ (es ++ (line_feed ∷ []))))
-      (gather_more (λ j. entry_text j ((board_numbering (reached_part c)).number q j)) 0 timers (omega arith) (λ j h. ap (entry_text j) (spare_none j)))
+      (gather_more (λ j. entry_text j ((board_numbering (reached_part c)).number q j)) 0 timers (omega arith)
+          (λ j h. ap (entry_text j) (spare_none j)))

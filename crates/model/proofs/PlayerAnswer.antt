@@ -1,6 +1,6 @@
 -- The player's answer is the step list's own answer, except that it is 15 at step n exactly when the steps before n are taken, step n names a
--- transition, and its time is the first over `largest_time`; nothing else is such an answer. Hard: both are stepped at once: up to the first late step
--- they go alike.
+-- transition, and its time is the first over `largest_time`; nothing else is such an answer. Hard: both are stepped at once: up to the first late
+-- step they go alike.
 use mathlib.Core.Path.{◌≡◌, refl, sym, ap, ◌∙◌, subst}
 use mathlib.Core.Logic.{◌⊎◌, inl, inr, ⊎_elim}
 use mathlib.Core.Bool.{true≢false}

@@ -13,7 +13,6 @@ use Rattle.model.specs.Spare.{reached_part}
 use Rattle.model.specs.Flow.{Flow, settled, rounds}
 use Rattle.model.specs.Live.{tested_sets, live_flow, live_sets, live_rounds}
 use Rattle.model.specs.Family.{families, live_pairs}
-use Rattle.model.specs.FirstFit.{used}
 use Rattle.model.proofs.ReachedPart.{part_whole}
 use Rattle.chart_lists.specs.Limits.{most_locations}
 use Rattle.chart_lists.specs.Header.{header_of}

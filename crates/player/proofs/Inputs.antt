@@ -67,7 +67,8 @@ module _ (c : Chart) (counts : List ℕ) where
         rw e (counts_then _ (λ _. x) ∙ ap (counts_judged c counts) (then_unless (eqb n m) 13 nowhere (returned (tt {0})) (λ _. x)))
 
     -- 12 refuses
-    pub counts_first : {k p : ℕ} → refused k p ≡ counts_judged c counts (returned (tt {0})) → refused k p ≡ judged_to13 c counts n m (returned (tt {0}))
+    pub counts_first : {k p : ℕ} → refused k p ≡ counts_judged c counts (returned (tt {0}))
+        → refused k p ≡ judged_to13 c counts n m (returned (tt {0}))
     unfolding judged_to13
     counts_first e = after_counts e _
 

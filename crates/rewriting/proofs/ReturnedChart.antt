@@ -197,7 +197,8 @@ module _ (c : Chart) where
           (subst (λ (y : Transition). Rising (used (reached_part c)) 0 y.starts) t.2 (new_rising t.0))
 
 -- the call: what it returns is the rewriting of the chart that the file holds
-pub answer_rewritten : (K room : ℕ) (bs : List ℕ) (c : Chart) (x : Rewriting) → Bytes bs → chart_in bs ≡ returned c → rewrite_into K room bs ≡ returned x
+pub answer_rewritten : (K room : ℕ) (bs : List ℕ) (c : Chart) (x : Rewriting) → Bytes bs → chart_in bs ≡ returned c
+    → rewrite_into K room bs ≡ returned x
     → RewrittenChart c x
 answer_rewritten K room bs c x bytes reads e =
     let o = rewriting_of_lem K room bs x e in

@@ -75,6 +75,7 @@ module _ (K room : ℕ) (c : Chart) (e : returned (made c) ≡ fitted K c) where
   buffer_written out = rw (fitted_into_lem K room c e) (go (leb (length (file_of (rewritten c))) room))
     where
       go : (b : Bool)
-          → overwritten file_of (unless b 21 nowhere (returned (rewritten c))) out ≡ overwritten new_file (unless b 21 nowhere (returned (made c))) out
+          → overwritten file_of (unless b 21 nowhere (returned (rewritten c))) out
+          ≡ overwritten new_file (unless b 21 nowhere (returned (made c))) out
       go true = refl
       go false = refl

@@ -13,13 +13,14 @@ pub loop-k-init : goal.loop-k-init
 loop-k-init c = (omega arith, below_none _)
 
 pub returns-then-constants-k-gt-MOST_IN_TWO_BYTES : goal.returns-then-constants-k-gt-MOST_IN_TWO_BYTES
-returns-then-constants-k-gt-MOST_IN_TWO_BYTES c = sym
-    (large_at c.args.constants.now c.args.n c.loop-k.k c.loop-k-test.true c.requires c.if-constants-k-gt-MOST_IN_TWO_BYTES.true)
+returns-then-constants-k-gt-MOST_IN_TWO_BYTES c =
+    sym (large_at c.args.constants.now c.args.n c.loop-k.k c.loop-k-test.true c.requires c.if-constants-k-gt-MOST_IN_TWO_BYTES.true)
 
 pub loop-k-preserved : goal.loop-k-preserved
 loop-k-preserved c = (search rules, below_more _ c.loop-k.k c.loop-k.invariant.1 (omega arith))
 
 pub returns : goal.returns
-returns c = let small : (k : ℕ) → k < c.args.n
-    → get_or c.args.constants.now k 0 ≤ most_in_two_bytes = λ k h. c.loop-k.invariant.1 k (omega (arith, c.loop-k-test.false)) in
+returns c =
+    let small : (k : ℕ) → k < c.args.n → get_or c.args.constants.now k 0 ≤ most_in_two_bytes = λ k h. c.loop-k.invariant.1 k
+    (omega (arith, c.loop-k-test.false)) in
     sym (large_none c.args.constants.now c.args.n small)

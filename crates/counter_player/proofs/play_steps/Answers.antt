@@ -1,11 +1,6 @@
 -- `play_steps` judges 18 and takes the steps from tick 0 on. Each callee is asked for the same chart.
-use Rattle.std.proofs.Common.{◌≡◌, length, get_or, sym, refl, ◌∙◌, arith}
-use Rattle.model.specs.Chart.{Chart}
-use Rattle.chart_lists.specs.Lists.{all_tests}
-use Rattle.chart_lists.specs.Header.{header_of}
-use Rattle.chart_lists.specs.Holds.{Holds}
+use Rattle.std.proofs.Common.{get_or, sym, refl, ◌∙◌, arith}
 use Rattle.chart_lists.proofs.Fronts.{transitions_are, initial_is}
-use Rattle.steps.specs.StepLists.{FirstTests}
 use Rattle.steps.proofs.Held.{holds_steps, holds_counts}
 use Rattle.player.proofs.Accepting.{accepting_front, accepting_long}
 use Rattle.counter_model.specs.CounterRun.{counter_outcome}

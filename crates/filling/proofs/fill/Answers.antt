@@ -13,7 +13,15 @@ use Rattle.filling.proofs.fill.Goals as goal
 
 -- ----
 pub returns-in_default : goal.returns-in_default
-returns-in_default c = record { answer = let e = judge_frame_lem c.args.file.now (sym c.frame-a.ensures ∙ ap (frame_as c.args.file.now) c.in_default.is) in rw (c.refusal_of.ensures, c.in_default.is) (refused_read c.args.file.now e); lists = let e = judge_frame_lem c.args.file.now (sym c.frame-a.ensures ∙ ap (frame_as c.args.file.now) c.in_default.is) in (λ x q. absurd (refused_none c.args.file.now e x q)) }
+returns-in_default c =
+    record {
+      answer =
+          let e = judge_frame_lem c.args.file.now (sym c.frame-a.ensures ∙ ap (frame_as c.args.file.now) c.in_default.is) in
+          rw (c.refusal_of.ensures, c.in_default.is) (refused_read c.args.file.now e);
+      lists =
+          let e = judge_frame_lem c.args.file.now (sym c.frame-a.ensures ∙ ap (frame_as c.args.file.now) c.in_default.is) in
+          (λ x q. absurd (refused_none c.args.file.now e x q));
+    }
 
 pub overflow_cast-version : goal.overflow_cast-version
 overflow_cast-version c = omega (arith, judge_version c.args.file.now (sym c.frame-a.ensures ∙ ap (frame_as c.args.file.now) c.in-Value.is))
@@ -22,15 +30,40 @@ pub fill_header-b-requires : goal.fill_header-b-requires
 fill_header-b-requires c = accepting_fit c.args.file.now (sym c.frame-a.ensures ∙ ap (frame_as c.args.file.now) c.in-Value.is) c.requires
 
 pub returns-in_default-b : goal.returns-in_default-b
-returns-in_default-b c = record { answer = let e = judge_header c.args.file.now (sym c.frame-a.ensures ∙ ap (frame_as c.args.file.now) c.in-Value.is) (told (header_as c.args.file.now) c.in_default-b.is c.fill_header-b.ensures.read) in rw (c.header_refusal.ensures, c.in_default-b.is) (refused_read c.args.file.now e); lists = let e = judge_header c.args.file.now (sym c.frame-a.ensures ∙ ap (frame_as c.args.file.now) c.in-Value.is) (told (header_as c.args.file.now) c.in_default-b.is c.fill_header-b.ensures.read) in (λ x q. absurd (refused_none c.args.file.now e x q)) }
+returns-in_default-b c =
+    record {
+      answer =
+          let e = judge_header c.args.file.now (sym c.frame-a.ensures ∙ ap (frame_as c.args.file.now) c.in-Value.is)
+          (told (header_as c.args.file.now) c.in_default-b.is c.fill_header-b.ensures.read) in
+          rw (c.header_refusal.ensures, c.in_default-b.is) (refused_read c.args.file.now e);
+      lists =
+          let e = judge_header c.args.file.now (sym c.frame-a.ensures ∙ ap (frame_as c.args.file.now) c.in-Value.is)
+          (told (header_as c.args.file.now) c.in_default-b.is c.fill_header-b.ensures.read) in
+          (λ x q. absurd (refused_none c.args.file.now e x q));
+    }
 
 pub fill_records-d-requires : goal.fill_records-d-requires
-fill_records-d-requires c = record { limit_bound = let f = heads_fit c.args.file.now (sym c.frame-a.ensures ∙ ap (frame_as c.args.file.now) c.in-Value.is) c.requires (told (header_as c.args.file.now) c.in-Found.is c.fill_header-b.ensures.read) in ((header_few _ _ (told (header_as c.args.file.now) c.in-Found.is c.fill_header-b.ensures.read)).timers, f.0, f.1, f.2, f.3, f.4); tests_fit = let f = heads_fit c.args.file.now (sym c.frame-a.ensures ∙ ap (frame_as c.args.file.now) c.in-Value.is) c.requires (told (header_as c.args.file.now) c.in-Found.is c.fill_header-b.ensures.read) in tests_fit c.args.file.now (sym c.frame-a.ensures ∙ ap (frame_as c.args.file.now) c.in-Value.is) c.requires (told (header_as c.args.file.now) c.in-Found.is c.fill_header-b.ensures.read) }
+fill_records-d-requires c =
+    record {
+      limit_bound =
+          let f = heads_fit c.args.file.now (sym c.frame-a.ensures ∙ ap (frame_as c.args.file.now) c.in-Value.is) c.requires
+          (told (header_as c.args.file.now) c.in-Found.is c.fill_header-b.ensures.read) in
+          ((header_few _ _ (told (header_as c.args.file.now) c.in-Found.is c.fill_header-b.ensures.read)).timers, f.0, f.1, f.2, f.3, f.4);
+      tests_fit =
+          let f = heads_fit c.args.file.now (sym c.frame-a.ensures ∙ ap (frame_as c.args.file.now) c.in-Value.is) c.requires
+          (told (header_as c.args.file.now) c.in-Found.is c.fill_header-b.ensures.read) in
+          tests_fit c.args.file.now (sym c.frame-a.ensures ∙ ap (frame_as c.args.file.now) c.in-Value.is) c.requires
+          (told (header_as c.args.file.now) c.in-Found.is c.fill_header-b.ensures.read);
+    }
 
 pub returns : goal.returns
-returns c = record {
-  answer = c.ended.ensures ∙ ended_read c.args.file.now (sym c.frame-a.ensures ∙ ap (frame_as c.args.file.now) c.in-Value.is) (told (header_as c.args.file.now) c.in-Found.is c.fill_header-b.ensures.read) c.fill_records-d.result c.fill_records-d.ensures.read;
-  lists = lists_filled c.args.file.now (sym c.frame-a.ensures ∙ ap (frame_as c.args.file.now) c.in-Value.is) (told (header_as c.args.file.now) c.in-Found.is c.fill_header-b.ensures.read) (let before' : Lists = lists c.args.accepting.now c.args.sources.now c.args.targets.now c.args.events.now c.args.starts.now c.args.test_counts.now c.args.timers.now
-      c.args.codes.now c.args.constants.now in
-      before') c.fill_header-b.ensures.stored c.fill_records-d.ensures.stored;
-}
+returns c =
+    let e = sym c.frame-a.ensures ∙ ap (frame_as c.args.file.now) c.in-Value.is in
+    let h = told (header_as c.args.file.now) c.in-Found.is c.fill_header-b.ensures.read in
+    let before : Lists =
+    lists c.args.accepting.now c.args.sources.now c.args.targets.now c.args.events.now c.args.starts.now
+    c.args.test_counts.now c.args.timers.now c.args.codes.now c.args.constants.now in
+    record {
+      answer = c.ended.ensures ∙ ended_read c.args.file.now e h c.fill_records-d.result c.fill_records-d.ensures.read;
+      lists = lists_filled c.args.file.now e h before c.fill_header-b.ensures.stored c.fill_records-d.ensures.stored;
+    }

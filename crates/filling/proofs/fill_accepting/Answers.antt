@@ -16,19 +16,35 @@ pub shape_of-accepting-in_default : goal.shape_of-accepting-in_default
 shape_of-accepting-in_default c = c.loop-k.invariant.0
 
 pub returns-in_default : goal.returns-in_default
-returns-in_default c = record { read = let h = told (field_as c.args.s.now) c.in_default.is c.entry_at-a.ensures in c.entry_at-a.ensures ∙ h ∙ accepting_refused (filled_read c.loop-k.invariant.1) c.loop-k-test.true h; stored = let h = told (field_as c.args.s.now) c.in_default.is c.entry_at-a.ensures in (λ xs t e. absurd (filled_never c.loop-k.invariant.1 c.loop-k-test.true h xs t e)) }
+returns-in_default c =
+    record {
+      read =
+          let h = told (field_as c.args.s.now) c.in_default.is c.entry_at-a.ensures in
+          c.entry_at-a.ensures ∙ h ∙ accepting_refused (filled_read c.loop-k.invariant.1) c.loop-k-test.true h;
+      stored =
+          let h = told (field_as c.args.s.now) c.in_default.is c.entry_at-a.ensures in
+          (λ xs t e. absurd (filled_never c.loop-k.invariant.1 c.loop-k-test.true h xs t e));
+    }
 
 pub overflow_cast-accepting : goal.overflow_cast-accepting
-overflow_cast-accepting c = omega (arith, (entry_within _ _ _ _ _ _ (told (field_as c.args.s.now) c.in-Value.is c.entry_at-a.ensures)).1, c.ranges.locations)
+overflow_cast-accepting c =
+    omega (arith, (entry_within _ _ _ _ _ _ (told (field_as c.args.s.now) c.in-Value.is c.entry_at-a.ensures)).1, c.ranges.locations)
 
 pub offset_bounds-accepting-k : goal.offset_bounds-accepting-k
-offset_bounds-accepting-k c = omega (arith, (filled_room c.loop-k.invariant.1 c.loop-k-test.true (told (field_as c.args.s.now) c.in-Value.is c.entry_at-a.ensures) c.requires))
+offset_bounds-accepting-k c =
+    omega (arith, (filled_room c.loop-k.invariant.1 c.loop-k-test.true (told (field_as c.args.s.now) c.in-Value.is c.entry_at-a.ensures) c.requires))
 
 pub bounds-accepting-k : goal.bounds-accepting-k
-bounds-accepting-k c = omega (arith, (filled_room c.loop-k.invariant.1 c.loop-k-test.true (told (field_as c.args.s.now) c.in-Value.is c.entry_at-a.ensures) c.requires), c.loop-k.invariant.0)
+bounds-accepting-k c =
+    omega (
+      arith,
+      (filled_room c.loop-k.invariant.1 c.loop-k-test.true (told (field_as c.args.s.now) c.in-Value.is c.entry_at-a.ensures) c.requires),
+      c.loop-k.invariant.0,
+    )
 
 pub overflow_add-lowest : goal.overflow_add-lowest
-overflow_add-lowest c = omega (arith, (entry_within _ _ _ _ _ _ (told (field_as c.args.s.now) c.in-Value.is c.entry_at-a.ensures)).1, c.ranges.locations)
+overflow_add-lowest c =
+    omega (arith, (entry_within _ _ _ _ _ _ (told (field_as c.args.s.now) c.in-Value.is c.entry_at-a.ensures)).1, c.ranges.locations)
 
 pub loop-k-preserved : goal.loop-k-preserved
 loop-k-preserved c = let h = told (field_as c.args.s.now) c.in-Value.is c.entry_at-a.ensures in (
@@ -40,4 +56,8 @@ pub shape_of-accepting : goal.shape_of-accepting
 shape_of-accepting c = c.loop-k.invariant.0
 
 pub returns : goal.returns
-returns c = record { read = accepting_done (filled_read c.loop-k.invariant.1) c.loop-k-test.false; stored = filled_done c.loop-k.invariant.1 c.loop-k-test.false }
+returns c =
+    record {
+      read = accepting_done (filled_read c.loop-k.invariant.1) c.loop-k-test.false;
+      stored = filled_done c.loop-k.invariant.1 c.loop-k-test.false;
+    }

@@ -30,13 +30,16 @@ overflow_add-base c =
     record { fits = omega (arith, room, c.requires.0.enough) }
 
 pub loop-i-preserved : goal.loop-i-preserved
-loop-i-preserved c = let h : c.loop-i.i < length c.args.test_counts.now = omega arith in (
-  omega arith,
-  refl,
-  length-set c.loop-i.tested c.loop-i.i c.set_of.result ∙ c.loop-i.invariant.2,
-  sum_more c.args.test_counts.now c.args.timers.now c.loop-i.i h c.loop-i.invariant.3,
-  sets_more c.args.test_counts.now c.args.timers.now c.loop-i.i h c.args.tested.now c.requires.1 c.loop-i.invariant.3 c.loop-i.invariant.4 c.set_of.ensures,
-)
+loop-i-preserved c =
+    let a = c.args in
+    let k = c.loop-i.invariant in
+    let h : c.loop-i.i < length a.test_counts.now = omega arith in (
+      omega arith,
+      refl,
+      length-set c.loop-i.tested c.loop-i.i c.set_of.result ∙ k.2,
+      sum_more a.test_counts.now a.timers.now c.loop-i.i h k.3,
+      sets_more a.test_counts.now a.timers.now c.loop-i.i h a.tested.now c.requires.1 k.3 k.4 c.set_of.ensures,
+    )
 
 pub returns : goal.returns
 returns c = let e : c.loop-i.i ≡ length c.args.test_counts.now = omega arith in

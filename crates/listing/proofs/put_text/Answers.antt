@@ -25,5 +25,7 @@ pub returns-then-input-eq0 : goal.returns-then-input-eq0
 returns-then-input-eq0 c = bytes_as c.put_refusal-then-input-eq0.ensures (sym (text_1 c.args.input.now c.if-input-eq0.true))
 
 pub returns : goal.returns
-returns c = let file = ap (λ (f : List ℕ). answer_text (get_or c.args.input.now 0 0) (accepted (get_or c.args.input.now 0 0) f)) (mid_all 1 c.args.input.now) in
+returns c =
+    let k = get_or c.args.input.now 0 0 in
+    let file = ap (λ (f : List ℕ). answer_text k (accepted k f)) (mid_all 1 c.args.input.now) in
     bytes_as c.put_file.ensures (file ∙ sym (text_file c.args.input.now c.if-input-eq0.false c.if-input-gt-LARGEST_INPUT.false))

@@ -37,5 +37,6 @@ fill-requires c =
 pub returns : goal.returns
 returns c =
     let h = chart_is (goal.at.returns c).In-Good in
-    let r = read_done c.args.file.now (before (goal.at.returns c).Start) h (sym c.room.ensures ∙ c.if-not-room.false) c.fill.ensures.answer c.fill.ensures.lists in
+    let r = read_done c.args.file.now (before (goal.at.returns c).Start) h (sym c.room.ensures ∙ c.if-not-room.false) c.fill.ensures.answer
+    c.fill.ensures.lists in
     record { answer = r.0; lists = r.1 }

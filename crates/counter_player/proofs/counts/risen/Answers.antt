@@ -1,5 +1,5 @@
 -- `risen` changes one count a turn.
-use Rattle.std.proofs.Common.{◌-◌, arith, rules}
+use Rattle.std.proofs.Common.{arith, rules}
 use Rattle.steps.proofs.MovedCounts.{changed_none, changed_more}
 use Rattle.counter_player.proofs.RisenCounts.{risen_all}
 use Rattle.counter_player.proofs.counts.risen.Goals as goal

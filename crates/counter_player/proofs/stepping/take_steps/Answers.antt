@@ -1,5 +1,5 @@
 -- `take_steps` takes one step after another. The laws of a list of steps say what each leaves.
-use Rattle.std.proofs.Common.{◌-◌, refl, arith}
+use Rattle.std.proofs.Common.{refl, arith}
 use Rattle.steps.proofs.StepLists.{reached_start, reached_next, reached_refused, reached_end}
 use Rattle.counter_player.proofs.stepping.take_steps.Goals as goal
 

@@ -15,16 +15,19 @@ returns-in_default c = let h = told (field_as c.args.s.now) c.in_default.is c.by
     (c.byte_below-a.ensures ∙ h) ∙ starts_refused c.loop-k.invariant c.loop-k-test.true h
 
 pub returns-then-x-lowest : goal.returns-then-x-lowest
-returns-then-x-lowest c = starts_low c.loop-k.invariant c.loop-k-test.true (told (field_as c.args.s.now) c.in-Value.is c.byte_below-a.ensures) c.if-x-lowest.true
+returns-then-x-lowest c =
+    starts_low c.loop-k.invariant c.loop-k-test.true (told (field_as c.args.s.now) c.in-Value.is c.byte_below-a.ensures) c.if-x-lowest.true
 
 pub with-set-requires : goal.with-set-requires
 with-set-requires c = omega (arith, below_limit _ _ _ _ _ (told (field_as c.args.s.now) c.in-Value.is c.byte_below-a.ensures), c.requires)
 
 pub overflow_cast-x : goal.overflow_cast-x
-overflow_cast-x c = record { fits = omega (arith, below_limit _ _ _ _ _ (told (field_as c.args.s.now) c.in-Value.is c.byte_below-a.ensures), c.requires) }
+overflow_cast-x c =
+    record { fits = omega (arith, below_limit _ _ _ _ _ (told (field_as c.args.s.now) c.in-Value.is c.byte_below-a.ensures), c.requires) }
 
 pub overflow_add-lowest : goal.overflow_add-lowest
-overflow_add-lowest c = record { fits = omega (arith, below_limit _ _ _ _ _ (told (field_as c.args.s.now) c.in-Value.is c.byte_below-a.ensures), c.requires) }
+overflow_add-lowest c =
+    record { fits = omega (arith, below_limit _ _ _ _ _ (told (field_as c.args.s.now) c.in-Value.is c.byte_below-a.ensures), c.requires) }
 
 pub loop-k-preserved : goal.loop-k-preserved
 loop-k-preserved c = rw c.with-set.ensures

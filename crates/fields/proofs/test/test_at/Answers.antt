@@ -24,18 +24,24 @@ overflow_cast-code c = record { fits = omega (arith, c.byte_at-b.ensures.small _
 
 pub returns-in_default-d : goal.returns-in_default-d
 returns-in_default-d c = let e = sym c.decode-d.ensures ∙ ap decoded_of c.in_default-d.is in
-    test_unknown (width_of c.args.version) c.args.timers c.args.place _ (told (field_as c.args.s.now) c.in-Value.is c.byte_below-a.ensures) (told (field_as c.args.s.now) c.in-Value-b.is c.byte_at-b.ensures.reads) e
+    test_unknown (width_of c.args.version) c.args.timers c.args.place _ (told (field_as c.args.s.now) c.in-Value.is c.byte_below-a.ensures)
+    (told (field_as c.args.s.now) c.in-Value-b.is c.byte_at-b.ensures.reads) e
 
 pub returns-in_default-e : goal.returns-in_default-e
 returns-in_default-e c = let e = turned c.args.s.now c.in_default-e.is c.refusal_of-in_default-e.ensures c.constant_at-e.ensures.reads in
-    test_constant (width_of c.args.version) c.args.timers c.args.place _ (told (field_as c.args.s.now) c.in-Value.is c.byte_below-a.ensures) (told (field_as c.args.s.now) c.in-Value-b.is c.byte_at-b.ensures.reads) (sym c.decode-d.ensures ∙ ap decoded_of c.in-Known.is) e
+    test_constant (width_of c.args.version) c.args.timers c.args.place _ (told (field_as c.args.s.now) c.in-Value.is c.byte_below-a.ensures)
+    (told (field_as c.args.s.now) c.in-Value-b.is c.byte_at-b.ensures.reads) (sym c.decode-d.ensures ∙ ap decoded_of c.in-Known.is) e
 
 pub overflow_cast-result : goal.overflow_cast-result
-overflow_cast-result c = record { fits = omega (arith, below_limit _ _ _ _ _ (told (field_as c.args.s.now) c.in-Value.is c.byte_below-a.ensures), c.ranges.timers) }
+overflow_cast-result c =
+    record { fits = omega (arith, below_limit _ _ _ _ _ (told (field_as c.args.s.now) c.in-Value.is c.byte_below-a.ensures), c.ranges.timers) }
 
 pub overflow_cast-result-2 : goal.overflow_cast-result-2
 overflow_cast-result-2 c = let most = width_fits c.args.version in
     record { fits = omega (arith, most, c.constant_at-e.ensures.small _ _ c.in-Value-e.is) }
 
 pub returns : goal.returns
-returns c = test_whole (width_of c.args.version) c.args.timers c.args.place _ (told (field_as c.args.s.now) c.in-Value.is c.byte_below-a.ensures) (told (field_as c.args.s.now) c.in-Value-b.is c.byte_at-b.ensures.reads) (sym c.decode-d.ensures ∙ ap decoded_of c.in-Known.is) (told (field_as c.args.s.now) c.in-Value-e.is c.constant_at-e.ensures.reads)
+returns c =
+    test_whole (width_of c.args.version) c.args.timers c.args.place _ (told (field_as c.args.s.now) c.in-Value.is c.byte_below-a.ensures)
+    (told (field_as c.args.s.now) c.in-Value-b.is c.byte_at-b.ensures.reads) (sym c.decode-d.ensures ∙ ap decoded_of c.in-Known.is)
+    (told (field_as c.args.s.now) c.in-Value-e.is c.constant_at-e.ensures.reads)

@@ -19,11 +19,13 @@ returns-in_default-b c = let e = turned c.args.s.now c.in_default-b.is c.refusal
 
 pub returns-in_default-d : goal.returns-in_default-d
 returns-in_default-d c = let e = turned c.args.s.now c.in_default-d.is c.refusal_of-in_default-d.ensures c.byte_below-d.ensures in
-    limits_timers _ (told (field_as c.args.s.now) c.in-Value.is c.pair_below-a.ensures) c.if-locations-lt1.false (told (field_as c.args.s.now) c.in-Value-b.is c.pair_below-b.ensures) e
+    limits_timers _ (told (field_as c.args.s.now) c.in-Value.is c.pair_below-a.ensures) c.if-locations-lt1.false
+    (told (field_as c.args.s.now) c.in-Value-b.is c.pair_below-b.ensures) e
 
 pub returns-in_default-e : goal.returns-in_default-e
 returns-in_default-e c = let e = turned c.args.s.now c.in_default-e.is c.refusal_of-in_default-e.ensures c.pair_at-e.ensures.reads in
-    limits_accepting _ (told (field_as c.args.s.now) c.in-Value.is c.pair_below-a.ensures) c.if-locations-lt1.false (told (field_as c.args.s.now) c.in-Value-b.is c.pair_below-b.ensures) (told (field_as c.args.s.now) c.in-Value-d.is c.byte_below-d.ensures) e
+    limits_accepting _ (told (field_as c.args.s.now) c.in-Value.is c.pair_below-a.ensures) c.if-locations-lt1.false
+    (told (field_as c.args.s.now) c.in-Value-b.is c.pair_below-b.ensures) (told (field_as c.args.s.now) c.in-Value-d.is c.byte_below-d.ensures) e
 
 pub overflow_cast-result : goal.overflow_cast-result
 overflow_cast-result c = omega (arith, below_limit _ _ _ _ _ (told (field_as c.args.s.now) c.in-Value.is c.pair_below-a.ensures))
@@ -40,4 +42,5 @@ overflow_cast-result-4 c = omega (arith, c.pair_at-e.ensures.small _ _ c.in-Valu
 
 pub returns : goal.returns
 returns c = let e = told (field_as c.args.s.now) c.in-Value-e.is c.pair_at-e.ensures.reads in
-    limits_found _ (told (field_as c.args.s.now) c.in-Value.is c.pair_below-a.ensures) c.if-locations-lt1.false (told (field_as c.args.s.now) c.in-Value-b.is c.pair_below-b.ensures) (told (field_as c.args.s.now) c.in-Value-d.is c.byte_below-d.ensures) e
+    limits_found _ (told (field_as c.args.s.now) c.in-Value.is c.pair_below-a.ensures) c.if-locations-lt1.false
+    (told (field_as c.args.s.now) c.in-Value-b.is c.pair_below-b.ensures) (told (field_as c.args.s.now) c.in-Value-d.is c.byte_below-d.ensures) e

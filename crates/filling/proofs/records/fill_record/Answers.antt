@@ -10,7 +10,15 @@ use Rattle.filling.proofs.RecordsLoop.{head_stored, tests_behind}
 use Rattle.filling.proofs.records.fill_record.Goals as goal
 
 pub returns-in_default : goal.returns-in_default
-returns-in_default c = record { read = let e = told (head_as c.args.s.now) c.in_default.is c.head_at-a.ensures in rw (c.head_refusal.ensures, c.in_default.is) (skip_head_refused (width_of c.args.version) c.args.locations c.args.limit c.args.k _ e); stored = let e = told (head_as c.args.s.now) c.in_default.is c.head_at-a.ensures in (λ r t q. absurd (value_refused q (transition_head_refused (width_of c.args.version) c.args.locations c.args.limit c.args.k _ e))) }
+returns-in_default c =
+    record {
+      read =
+          let e = told (head_as c.args.s.now) c.in_default.is c.head_at-a.ensures in
+          rw (c.head_refusal.ensures, c.in_default.is) (skip_head_refused (width_of c.args.version) c.args.locations c.args.limit c.args.k _ e);
+      stored =
+          let e = told (head_as c.args.s.now) c.in_default.is c.head_at-a.ensures in
+          (λ r t q. absurd (value_refused q (transition_head_refused (width_of c.args.version) c.args.locations c.args.limit c.args.k _ e)));
+    }
 
 pub fill_tests-requires : goal.fill_tests-requires
 fill_tests-requires c = let f = c.requires.record_fits.fits _ _ (told (head_as c.args.s.now) c.in-Found.is c.head_at-a.ensures) in
@@ -18,9 +26,12 @@ fill_tests-requires c = let f = c.requires.record_fits.fits _ _ (told (head_as c
 
 pub returns : goal.returns
 returns c = record {
-  read = c.fill_tests.ensures.read ∙ skip_tests_left (width_of c.args.version) c.args.locations c.args.limit c.args.k _ (told (head_as c.args.s.now) c.in-Found.is c.head_at-a.ensures);
+  read = c.fill_tests.ensures.read ∙ skip_tests_left (width_of c.args.version) c.args.locations c.args.limit c.args.k _
+      (told (head_as c.args.s.now) c.in-Found.is c.head_at-a.ensures);
   stored = (λ r t q. (
-    head_stored (width_of c.args.version) c.args.locations c.args.limit c.args.k _ (told (head_as c.args.s.now) c.in-Found.is c.head_at-a.ensures) r t q,
-    c.fill_tests.ensures.stored r.tests t (tests_behind (width_of c.args.version) c.args.locations c.args.limit c.args.k _ (told (head_as c.args.s.now) c.in-Found.is c.head_at-a.ensures) r t q),
+    head_stored (width_of c.args.version) c.args.locations c.args.limit c.args.k _ (told (head_as c.args.s.now) c.in-Found.is c.head_at-a.ensures) r
+        t q,
+    c.fill_tests.ensures.stored r.tests t (tests_behind (width_of c.args.version) c.args.locations c.args.limit c.args.k _
+        (told (head_as c.args.s.now) c.in-Found.is c.head_at-a.ensures) r t q),
   ));
 }

@@ -16,7 +16,8 @@ has_room : {k n a l : ℕ} → k < n → n ≤ a → l ≡ a → k < l
 has_room h r e = omega arith
 
 pub loop-k-init : goal.loop-k-init
-loop-k-init c = let f = records_first (width_of c.args.version) c.args.locations c.args.limit c.args.n (drop c.args.at c.args.s.now) _ _ _ _ _ _ _ _ in
+loop-k-init c =
+    let f = records_first (width_of c.args.version) c.args.locations c.args.limit c.args.n (drop c.args.at c.args.s.now) _ _ _ _ _ _ _ _ in
     (refl, refl, refl, refl, refl, refl, refl, refl, f)
 
 pub fill_record-a-requires : goal.fill_record-a-requires
@@ -29,14 +30,30 @@ fill_record-a-requires c = record {
     has_room c.loop-k-test.true c.requires.limit_bound.4 c.loop-k.invariant.3,
     has_room c.loop-k-test.true c.requires.limit_bound.5 c.loop-k.invariant.4,
   );
-  record_fits = record_fits c.loop-k.invariant.8.read c.loop-k-test.true c.requires.tests_fit c.loop-k.invariant.5 c.loop-k.invariant.6 c.loop-k.invariant.7;
+  record_fits = record_fits c.loop-k.invariant.8.read c.loop-k-test.true c.requires.tests_fit c.loop-k.invariant.5 c.loop-k.invariant.6
+      c.loop-k.invariant.7;
 }
 
 pub returns-in_default : goal.returns-in_default
-returns-in_default c = record { read = let h = told (field_as c.args.s.now) c.in_default.is c.fill_record-a.ensures.read in c.fill_record-a.ensures.read ∙ h ∙ counted_refused c.loop-k.invariant.8.read c.loop-k-test.true h; stored = let h = told (field_as c.args.s.now) c.in_default.is c.fill_record-a.ensures.read in (λ rs e q. absurd (records_never c.loop-k.invariant.8 c.loop-k-test.true h rs e q)) }
+returns-in_default c =
+    record {
+      read =
+          let h = told (field_as c.args.s.now) c.in_default.is c.fill_record-a.ensures.read in
+          c.fill_record-a.ensures.read ∙ h ∙ counted_refused c.loop-k.invariant.8.read c.loop-k-test.true h;
+      stored =
+          let h = told (field_as c.args.s.now) c.in_default.is c.fill_record-a.ensures.read in
+          (λ rs e q. absurd (records_never c.loop-k.invariant.8 c.loop-k-test.true h rs e q));
+    }
 
 pub overflow_add-base : goal.overflow_add-base
-overflow_add-base c = omega (arith, skip_at_most _ _ _ _ _ (told (field_as c.args.s.now) c.in-Value.is c.fill_record-a.ensures.read), c.loop-k.invariant.8.read.few, c.loop-k-test.true, c.ranges.n)
+overflow_add-base c =
+    omega (
+      arith,
+      skip_at_most _ _ _ _ _ (told (field_as c.args.s.now) c.in-Value.is c.fill_record-a.ensures.read),
+      c.loop-k.invariant.8.read.few,
+      c.loop-k-test.true,
+      c.ranges.n,
+    )
 
 pub overflow_add-k : goal.overflow_add-k
 overflow_add-k c = omega (arith, c.loop-k-test.true, c.ranges.n)
@@ -54,8 +71,11 @@ loop-k-preserved c = (
   omega (arith, c.loop-k.invariant.5),
   omega (arith, c.loop-k.invariant.6),
   omega (arith, c.loop-k.invariant.7),
-  records_again c.loop-k.invariant.8 c.loop-k-test.true c.requires.limit_bound.1 c.requires.limit_bound.2 c.requires.limit_bound.3 c.requires.limit_bound.4 c.requires.limit_bound.5 c.fill_record-a.ensures.stored (told (field_as c.args.s.now) c.in-Value.is c.fill_record-a.ensures.read),
+  records_again c.loop-k.invariant.8 c.loop-k-test.true c.requires.limit_bound.1 c.requires.limit_bound.2 c.requires.limit_bound.3
+      c.requires.limit_bound.4 c.requires.limit_bound.5 c.fill_record-a.ensures.stored
+      (told (field_as c.args.s.now) c.in-Value.is c.fill_record-a.ensures.read),
 )
 
 pub returns : goal.returns
-returns c = record { read = counted_done c.loop-k.invariant.8.read c.loop-k-test.false; stored = records_done c.loop-k.invariant.8 c.loop-k-test.false }
+returns c =
+    record { read = counted_done c.loop-k.invariant.8.read c.loop-k-test.false; stored = records_done c.loop-k.invariant.8 c.loop-k-test.false }

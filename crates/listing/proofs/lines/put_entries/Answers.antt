@@ -10,9 +10,13 @@ use Rattle.listing.proofs.lines.put_entries.Goals as goal
 pub loop-j-init : goal.loop-j-init
 loop-j-init c = put_loop_first _ _ _
 
+pub slice_bounds-put_entry-start : goal.slice_bounds-put_entry-start
+unfolding entries_in
+slice_bounds-put_entry-start c = omega (arith, c.loop-j.invariant.long, put_loop_room c.loop-j.invariant c.loop-j-test.true c.requires.1)
+
 pub slice_bounds-put_entry-count : goal.slice_bounds-put_entry-count
 unfolding entries_in
-slice_bounds-put_entry-count c = omega (arith, put_loop_room c.loop-j.invariant c.loop-j-test.true c.requires.1)
+slice_bounds-put_entry-count c = omega (arith, c.loop-j.invariant.long, put_loop_room c.loop-j.invariant c.loop-j-test.true c.requires.1)
 
 pub put_entry-at-requires : goal.put_entry-at-requires
 unfolding entries_in

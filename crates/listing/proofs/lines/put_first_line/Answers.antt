@@ -7,7 +7,7 @@ use native.Mathlib.Omega.{arith}
 use lib.ListN.{length, length-append}
 use Rattle.listing.specs.Text.{decimal, used_word, limit_word}
 use Rattle.listing.specs.Listing.{word_of, first_line}
-use Rattle.listing.proofs.PutBytes.{bytes_next, bytes_more, bytes_as, bytes_long, bytes_below, bytes_within, bytes_room}
+use Rattle.listing.proofs.PutBytes.{bytes_next, bytes_more, bytes_as, bytes_long, bytes_below, bytes_room, bytes_cover}
 use Rattle.listing.proofs.Parts.{first_parts, first_length}
 use Rattle.listing.proofs.lines.put_first_line.Goals as goal
 
@@ -23,8 +23,11 @@ module _ (u f : ℕ) (s : Bool) (k : ℕ) {n : ℕ} (h : length (first_line u f 
 pub put_number-at-requires : goal.put_number-at-requires
 put_number-at-requires c = omega (arith, room c.args.used c.args.floor c.args.searched c.args.limit c.requires)
 
+pub slice_bounds-put_floor-start : goal.slice_bounds-put_floor-start
+slice_bounds-put_floor-start c = bytes_cover c.put_number-at.ensures
+
 pub slice_bounds-put_floor-count : goal.slice_bounds-put_floor-count
-slice_bounds-put_floor-count c = omega (arith, room c.args.used c.args.floor c.args.searched c.args.limit c.requires)
+slice_bounds-put_floor-count c = bytes_cover c.put_number-at.ensures
 
 pub put_floor-requires : goal.put_floor-requires
 put_floor-requires c =
@@ -36,11 +39,13 @@ overflow_add-next c =
     let r = rest c.args.used c.args.floor c.args.searched c.args.limit c.requires c.put_number-at.ensures.size_is c.put_floor.ensures.size_is in
     omega (arith, r)
 
+pub slice_bounds-put_number-start : goal.slice_bounds-put_number-start
+unfolding used_word
+slice_bounds-put_number-start c = bytes_cover (bytes_next c.put_number-at.ensures c.put_floor.ensures)
+
 pub slice_bounds-put_number-count : goal.slice_bounds-put_number-count
 unfolding used_word
-slice_bounds-put_number-count c =
-    let r = rest c.args.used c.args.floor c.args.searched c.args.limit c.requires c.put_number-at.ensures.size_is c.put_floor.ensures.size_is in
-    bytes_within (bytes_next c.put_number-at.ensures c.put_floor.ensures) (omega (arith, r))
+slice_bounds-put_number-count c = bytes_cover (bytes_next c.put_number-at.ensures c.put_floor.ensures)
 
 pub put_number-requires : goal.put_number-requires
 unfolding used_word

@@ -5,7 +5,7 @@ use native.Mathlib.Omega.{arith}
 use lib.ListN.{length}
 use Rattle.listing.specs.Text.{decimal, at_word}
 use Rattle.listing.specs.Cells.{entries_in, line_in}
-use Rattle.listing.proofs.PutBytes.{bytes_next, bytes_more, bytes_as, bytes_long, bytes_below, bytes_room}
+use Rattle.listing.proofs.PutBytes.{bytes_next, bytes_more, bytes_as, bytes_long, bytes_below, bytes_room, bytes_cover}
 use Rattle.listing.proofs.Parts.{line_parts, line_length}
 use Rattle.listing.proofs.lines.put_line.Goals as goal
 
@@ -17,8 +17,11 @@ room cells timers q h = omega (arith, h, line_length cells timers q)
 pub put_number-at-requires : goal.put_number-at-requires
 put_number-at-requires c = omega (arith, room c.args.cells.now c.args.timers c.args.q c.requires.2)
 
+pub slice_bounds-put_entries-start : goal.slice_bounds-put_entries-start
+slice_bounds-put_entries-start c = bytes_cover c.put_number-at.ensures
+
 pub slice_bounds-put_entries-count : goal.slice_bounds-put_entries-count
-slice_bounds-put_entries-count c = omega (arith, room c.args.cells.now c.args.timers c.args.q c.requires.2)
+slice_bounds-put_entries-count c = bytes_cover c.put_number-at.ensures
 
 pub put_entries-requires : goal.put_entries-requires
 put_entries-requires c = (

@@ -10,9 +10,13 @@ use Rattle.listing.proofs.lines.put_lines.Goals as goal
 pub loop-q-init : goal.loop-q-init
 loop-q-init c = put_loop_first _ _ _
 
+pub slice_bounds-put_line-start : goal.slice_bounds-put_line-start
+unfolding lines_in
+slice_bounds-put_line-start c = omega (arith, c.loop-q.invariant.long, put_loop_room c.loop-q.invariant c.loop-q-test.true c.requires.3)
+
 pub slice_bounds-put_line-count : goal.slice_bounds-put_line-count
 unfolding lines_in
-slice_bounds-put_line-count c = omega (arith, put_loop_room c.loop-q.invariant c.loop-q-test.true c.requires.3)
+slice_bounds-put_line-count c = omega (arith, c.loop-q.invariant.long, put_loop_room c.loop-q.invariant c.loop-q-test.true c.requires.3)
 
 pub put_line-at-requires : goal.put_line-at-requires
 unfolding lines_in

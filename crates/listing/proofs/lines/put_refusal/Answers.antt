@@ -4,7 +4,7 @@ use native.Mathlib.Omega.{arith}
 use lib.ListN.{length}
 use Rattle.listing.specs.Text.{decimal, refused_word}
 use Rattle.listing.specs.Listing.{refused_text}
-use Rattle.listing.proofs.PutBytes.{bytes_next, bytes_more, bytes_as, bytes_long, bytes_below, bytes_room}
+use Rattle.listing.proofs.PutBytes.{bytes_next, bytes_more, bytes_as, bytes_long, bytes_below, bytes_room, bytes_cover}
 use Rattle.listing.proofs.Parts.{refused_parts, refused_length}
 use Rattle.listing.proofs.lines.put_refusal.Goals as goal
 
@@ -15,8 +15,11 @@ room n p h = omega (arith, h, refused_length n p)
 pub put_number-at-requires : goal.put_number-at-requires
 put_number-at-requires c = omega (arith, room c.args.f.number c.args.f.place c.requires)
 
+pub slice_bounds-put_number-start : goal.slice_bounds-put_number-start
+slice_bounds-put_number-start c = bytes_cover c.put_number-at.ensures
+
 pub slice_bounds-put_number-count : goal.slice_bounds-put_number-count
-slice_bounds-put_number-count c = omega (arith, room c.args.f.number c.args.f.place c.requires)
+slice_bounds-put_number-count c = bytes_cover c.put_number-at.ensures
 
 pub put_number-requires : goal.put_number-requires
 put_number-requires c = bytes_room c.put_number-at.ensures _ (omega (arith, room c.args.f.number c.args.f.place c.requires))

@@ -1,7 +1,7 @@
 -- `fullest`: the larger of the most so far and the fullest of the sets to come is the fullest of all.
 use mathlib.Core.Path.{◌≡◌, refl, sym, ap, ◌∙◌}
 use mathlib.Core.List.{List}
-use Prim.Native.Nat.{ℕ, max, ◌+◌, ◌-◌, ◌<◌}
+use Prim.Native.Nat.{ℕ, max, ◌+◌, ◌<◌}
 use native.Mathlib.Omega.{arith}
 use native.Mathlib.Numerals.{add-one}
 use lib.Count.{ones}
