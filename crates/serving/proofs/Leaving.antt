@@ -21,8 +21,8 @@ use Rattle.serving.specs.Served.{SoundServing, HeadShows, ServedAs}
 use Rattle.serving.proofs.Choosing.{lowest_most}
 
 -- a sound head's counts can grow to the time of its event
-pub room : {d : Head} {own : List ℕ} → SoundServing d own → Room own (d.waiting_time - d.time)
-room s = record { number = s.number; fits = λ j h. omega (arith, s.counts j h, s.later, s.small) }
+pub room : {d : Head} {own : List ℕ} → SoundServing d own → (p : ℕ) → p ≤ d.waiting_time - d.time → Room own p
+room s p e = record { number = s.number; fits = λ j h. omega (arith, s.counts j h, s.later, s.small) }
 
 module _ (d : Head) {own : List ℕ} {x : State} (w : HeadShows d own x) {g : List ℕ} (grows : MovedOn 0 (d.waiting_time - d.time) own g) where
   abbrev t : ℕ

@@ -14,7 +14,7 @@ find_firsts-requires c =
     record { n_value = (q.0, n, holds_counts q.2); n_in_bounds = omega (arith, n, q.2.valid.few_transitions) }
 
 pub grown-counts-requires : goal.grown-counts-requires
-grown-counts-requires c = room c.requires.sound_serving
+grown-counts-requires c = room c.requires.sound_serving _ (omega arith)
 
 pub lowest_to_take-i-requires : goal.lowest_to_take-i-requires
 lowest_to_take-i-requires c =

@@ -1,6 +1,5 @@
 -- `write_counts` writes the entries one after another.
 use mathlib.Core.Path.{refl}
-use Prim.Native.Nat.{◌-◌}
 use native.Mathlib.Omega.{arith}
 use Rattle.controller.proofs.Written.{written_none, written_more, written_all}
 use Rattle.controller.proofs.counts.write_counts.Goals as goal

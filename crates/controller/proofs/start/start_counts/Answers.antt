@@ -1,6 +1,5 @@
 -- `start_counts` writes the counts of one head after another.
 use mathlib.Core.Path.{◌≡◌, refl}
-use Prim.Native.Nat.{◌-◌}
 use native.Mathlib.Omega.{arith}
 use Rattle.controller_model.specs.Controlling.{start_counts}
 use Rattle.heads.proofs.Lengths.{part_between}

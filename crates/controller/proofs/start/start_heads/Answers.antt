@@ -1,6 +1,5 @@
 -- `start_heads` sets one head after another.
 use mathlib.Core.Path.{◌≡◌}
-use Prim.Native.Nat.{◌-◌}
 use native.Mathlib.Omega.{arith}
 use lib.ListN.{length}
 use Rattle.controller.proofs.StartHeads.{none_stand, next_stands, all_stand}

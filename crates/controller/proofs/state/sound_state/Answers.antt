@@ -1,8 +1,6 @@
 -- `sound_state` looks at the turn, then at one head after another.
-use mathlib.Core.Path.{◌≡◌, sym, ◌∙◌}
-use Prim.Native.Nat.{◌-◌}
+use mathlib.Core.Path.{sym, ◌∙◌}
 use native.Mathlib.Omega.{arith}
-use Rattle.controller_model.specs.Controlling.{sound_at}
 use Rattle.controller.proofs.Every.{pass_none, pass_more}
 use Rattle.controller.proofs.SoundStates.{on_board, sound_at_lem, no_such_turn, head_unsound, all_sound}
 use Rattle.controller.proofs.state.sound_state.Goals as goal
