@@ -117,3 +117,7 @@ module _ (c : Chart) (N : Numbering) (P : Plan c N) (valid : Valid widest c) (fe
   -- so 18 comes of both charts or of neither, exactly unless all constants over 65,535 are on transitions that leave spare locations
   pub large_both_iff : (large_constant c ≡ large_constant (rewritten_by N (spare_cleared c))) ↔ (LargeSpare c → LargeReached c)
   large_both_iff = let i = large_same_iff valid in ((λ e. i.0 (sym large_kept ∙ sym e)), (λ f. sym (large_kept ∙ i.1 f)))
+
+  -- and wherever no transition that leaves a spare location has one
+  pub large_both : (LargeSpare c → ⊥) → large_constant c ≡ large_constant (rewritten_by N (spare_cleared c))
+  large_both none = large_both_iff.1 (λ x. absurd (none x))

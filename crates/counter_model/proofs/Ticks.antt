@@ -10,6 +10,10 @@ use Rattle.counter_model.specs.CounterClaim.{EachStepFrom, NeverFallFrom, FewTic
 
 -- ---- two readings
 
+pub ticks_few : (last now : ℕ) → ticks_passed last now < counter_numbers
+unfolding ticks_passed
+ticks_few last now = omega arith
+
 pub ticks_back : (first t t' : ℕ) → t ≤ t' → t' - t < counter_numbers → ticks_passed (reading_at first t) (reading_at first t') ≡ t' - t
 unfolding ticks_passed reading_at
 ticks_back first t t' up few = omega arith

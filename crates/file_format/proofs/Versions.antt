@@ -11,12 +11,12 @@ use native.Mathlib.Omega.{arith}
 use lib.Dec.{leb, eqb}
 use lib.ListN.{length, get_elem?}
 use borrow.Author.Tests.{leb-true, le-leb}
-use Rattle.lists.proofs.Bools.{and_left, same_bool, same_number}
+use Rattle.lists.proofs.Bools.{same_bool, same_number}
 use Rattle.model.specs.Answer.{Answer, returned, then, unless, nowhere}
 use Rattle.model.specs.Chart.{Chart}
 use Rattle.model.specs.Version.{known_version, width_of, in_version, widest, large_constant}
 use Rattle.model.specs.Valid.{Valid, Storable}
-use Rattle.model.proofs.Versions.{known_most, storable_iff, narrowed, narrow_small, valid_in}
+use Rattle.model.proofs.Versions.{known_some, known_most, storable_iff, narrowed, narrow_small, valid_in}
 use Rattle.file_format.specs.Parse.{Bytes, Parsed, value, refusal, number, digits}
 use Rattle.file_format.specs.Body.{read_body}
 use Rattle.file_format.specs.File.{Frame, Versioned, read_frame, judge_frame, answered, read_file, write_file, chart_in, file_of}
@@ -110,10 +110,6 @@ pub reads_alike : (known known' : ℕ → Bool) (width width' : ℕ → ℕ) (bs
     → read_file known width bs ≡ read_file known' width' bs
 unfolding read_file
 reads_alike known known' width width' bs h = alike known known' width width' (read_frame bs) (λ f body e. h f.version (first_byte bs e))
-
-known_some : (v : ℕ) → known_version v ≡ true → 1 ≤ v
-unfolding known_version
-known_some v e = leb-true 1 v (and_left (leb 1 v) (leb v 3) e)
 
 -- the only known version below 3 but 2 is 1
 known_1 : (v : ℕ) → (v ≡ 2 → ⊥) → (v ≡ 3 → ⊥) → known_version v ≡ eqb v 1

@@ -10,7 +10,7 @@ use native.Mathlib.Omega.{arith}
 use lib.Dec.{leb, eqb}
 use borrow.Author.Tests.{ne_eqb, leb-true, ltb-true, lt-ltb, ltb-false, le-ltb}
 use Rattle.lists.specs.Rising.{All}
-use Rattle.lists.proofs.Bools.{and_right, same_number}
+use Rattle.lists.proofs.Bools.{and_left, and_right, same_number}
 use Rattle.lists.proofs.All.{all_have, all_as, none_passes, each_fails}
 use Rattle.lists.proofs.Membership.{any_in, any_out}
 use Rattle.model.specs.Chart.{Test, Transition, Chart}
@@ -19,6 +19,10 @@ use Rattle.model.specs.Version.{large_constant, LargeConstant, large_in_version1
 use Rattle.model.specs.Valid.{ValidTest, ValidTransition, Valid, Storable, StorableBy}
 
 -- ---- versions and widths
+
+pub known_some : (v : ℕ) → known_version v ≡ true → 1 ≤ v
+unfolding known_version
+known_some v e = leb-true 1 v (and_left (leb 1 v) (leb v 3) e)
 
 pub known_most : (v : ℕ) → known_version v ≡ true → v ≤ 3
 unfolding known_version

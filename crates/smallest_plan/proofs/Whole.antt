@@ -75,3 +75,7 @@ module _ {rows : List ℕ} {n k : ℕ} where
   -- the bounds are one
   pub met : {high : ℕ} → Bounds rows n k high → high ≤ k → SmallestOf rows n high
   met B l = record { by = B.by; plan = B.plan; least = λ j f P. omega (arith, B.least j f P) }
+
+-- only one number is the smallest
+pub one_smallest : {rows : List ℕ} {n m k : ℕ} → SmallestOf rows n m → SmallestOf rows n k → m ≡ k
+one_smallest {m = m} {k = k} S T = omega (arith, S.least k T.by T.plan, T.least m S.by S.plan)
