@@ -166,7 +166,7 @@ fn rust_structs(name: &str) -> Vec<String> {
 fn structs() {
     let header = plain(&header());
     let in_rust = [rust_structs("src/ffi.rs"), rust_structs("src/controller.rs")].concat();
-    let structs = between(&library(), "#[repr(C)]\npub struct ", "}");
+    let structs = between(&library().replace("#[derive(Clone, Copy)]\n", ""), "#[repr(C)]\npub struct ", "}");
     assert!(!structs.is_empty());
     for text in &structs {
         let (name, fields) = text.split_once(" {").unwrap();
