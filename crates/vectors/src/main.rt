@@ -15,7 +15,7 @@
 
 mod calls;
 mod charts;
-mod heads;
+mod controllers;
 mod input;
 mod lent;
 mod show;
@@ -46,7 +46,7 @@ fn run_vector(vector: &[u8]) {
         b'k' => calls::rewrite(file, values),
         b'p' => calls::play(file, values, vector, false),
         b'b' => calls::play(file, values, vector, true),
-        b'h' => heads::drive(file, values, vector),
+        b'h' => controllers::drive(file, values, vector),
         _ => show::text(b"no such vector\n"),
     }
 }
