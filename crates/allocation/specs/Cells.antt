@@ -1,5 +1,5 @@
 -- The board numbers of all pairs as one list of cells.
-use Rattle.std.proofs.Math.Option.{Option, none, some}
+use mathlib.Core.Option.{Option, none, some}
 use Rattle.std.specs.Prelude.{List, ℕ, ◌*◌, ◌/◌, ◌%◌}
 use Rattle.lists.specs.Lists.{up_to}
 use Rattle.model.specs.Rewrite.{Numbering}

@@ -1,7 +1,7 @@
 -- The five comparisons of a count with a constant (document 01, "The chart").
 use Rattle.std.specs.Prelude.{◌≡◌, Bool, [], ◌∷◌, ℕ, ◌≤◌, ◌<◌, leb, ltb, eqb}
-use Rattle.std.proofs.Math.Option.{Option}
-use Rattle.std.proofs.Math.ListN.{get_elem?}
+use mathlib.Core.Option.{Option}
+use lib.ListN.{get_elem?}
 use Rattle.comparison.specs.declared.Comparison.{Comparison}
 use Rattle.comparison.specs.declared.Comparison.TheVariants.{AtMost, Below, AtLeast, Above, Equal}
 

@@ -1,5 +1,5 @@
 -- What the decoding of a code says: a comparison, or none.
-use Rattle.std.proofs.Math.Option.{Option, none, some}
+use mathlib.Core.Option.{Option, none, some}
 use Rattle.comparison.specs.declared.Comparison.{Comparison}
 use Rattle.comparison.specs.declared.Decoded.{Decoded}
 use Rattle.comparison.specs.declared.Decoded.TheVariants.{Known, Unknown}

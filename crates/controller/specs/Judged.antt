@@ -1,7 +1,7 @@
 -- What is asked of heads that are judged, and of the head whose turn it is.
 use Rattle.std.specs.Prelude.{◌≡◌, true, List, ℕ, ◌+◌, ◌≤◌, ◌<◌, length, get_or}
-use Rattle.std.proofs.Math.Option.{some}
-use Rattle.std.proofs.Math.ListN.{get_elem?}
+use mathlib.Core.Option.{some}
+use lib.ListN.{get_elem?}
 use Rattle.model.specs.Answer.{returned}
 use Rattle.model.specs.Chart.{Chart}
 use Rattle.chart_lists.specs.declared.Header.{Header}

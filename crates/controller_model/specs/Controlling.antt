@@ -1,8 +1,8 @@
 -- The calls of a controller: set-up, event and turn, with their refusals in order, and what a list of calls comes to (document 02, P4).
 use Rattle.std.specs.Prelude.{Bool, true, false, ◌&&◌, ◌||◌, not, List, [], ◌∷◌, ◌++◌, ℕ, zero, suc, ◌+◌, leb, ltb, eqb}
 use Rattle.std.specs.Prelude.{length, get_or, set, replicate}
-use Rattle.std.proofs.Math.Option.{none, some}
-use Rattle.std.proofs.Math.ListN.{get_elem?}
+use mathlib.Core.Option.{none, some}
+use lib.ListN.{get_elem?}
 use Rattle.lists.specs.Lists.{up_to}
 use Rattle.model.specs.Answer.{Answer, returned, refused, then, unless, nowhere}
 use Rattle.model.specs.Chart.{Chart}

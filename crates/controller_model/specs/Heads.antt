@@ -1,7 +1,7 @@
 -- How the heads are judged: their number, their files, the board, the starting counts, the blocks (document 02, P4: 25, 1 to 10, 11, 12, 25).
 use Rattle.std.specs.Prelude.{Bool, true, ◌&&◌, List, [], ◌∷◌, ℕ, suc, leb, length, get_or}
-use Rattle.std.proofs.Math.Option.{none, some}
-use Rattle.std.proofs.Math.ListN.{get_elem?}
+use mathlib.Core.Option.{none, some}
+use lib.ListN.{get_elem?}
 use Rattle.lists.specs.Lists.{up_to}
 use Rattle.model.specs.Answer.{Answer, returned, then, unless, nowhere}
 use Rattle.model.specs.Chart.{Chart}

@@ -1,8 +1,8 @@
 -- What a controller keeps from set-up on, over any list of calls (document 02, P4: "From set-up on, while nothing else changes charts, blocks or
 -- state, this holds").
 use Rattle.std.specs.Prelude.{◌≡◌, true, false, List, [], ◌∷◌, ◌++◌, map, ℕ, ◌+◌, ◌-◌, ◌≤◌, ◌<◌, length, get_or}
-use Rattle.std.proofs.Math.Option.{some}
-use Rattle.std.proofs.Math.ListN.{get_elem?}
+use mathlib.Core.Option.{some}
+use lib.ListN.{get_elem?}
 use Rattle.lists.specs.Lists.{memb}
 use Rattle.model.specs.Answer.{returned, refused, nowhere}
 use Rattle.model.specs.Chart.{Transition, Chart, Nth}

@@ -1,7 +1,7 @@
 -- The refusals of the controller's calls: their numbers and their places, and what each says of what is handed in (document 02, P4; versions: P7).
 use Rattle.std.specs.Prelude.{◌≡◌, ◌⊎◌, true, false, List, [], ◌∷◌, ℕ, ◌+◌, ◌≤◌, ◌<◌, length, get_or}
-use Rattle.std.proofs.Math.Option.{some}
-use Rattle.std.proofs.Math.ListN.{get_elem?}
+use mathlib.Core.Option.{some}
+use lib.ListN.{get_elem?}
 use Rattle.lists.specs.Lists.{memb}
 use Rattle.model.specs.Answer.{returned, refused, nowhere}
 use Rattle.model.specs.Chart.{Chart}

@@ -1,7 +1,7 @@
 -- What a turn does: the head whose turn it is serves the event that waits at it (document 02, P4).
 use Rattle.std.specs.Prelude.{Bool, true, false, ◌&&◌, not, List, ℕ, ◌+◌, ◌-◌, ◌%◌, eqb, length, get_or, set}
-use Rattle.std.proofs.Math.Option.{none, some}
-use Rattle.std.proofs.Math.ListN.{get_elem?}
+use mathlib.Core.Option.{none, some}
+use lib.ListN.{get_elem?}
 use Rattle.lists.specs.Lists.{first_of, up_to}
 use Rattle.model.specs.Chart.{Transition, Chart}
 use Rattle.model.specs.Run.{State, grown, enabled, after, waited}

@@ -1,7 +1,7 @@
 -- What a step list comes to on the counter board: each step has a transition number and the reading of the counter (document 02, P5).
-use Rattle.std.proofs.Math.Option.{none, some}
+use mathlib.Core.Option.{none, some}
 use Rattle.std.specs.Prelude.{List, [], ◌∷◌, ℕ, suc, eqb}
-use Rattle.std.proofs.Math.ListN.{get_elem?}
+use lib.ListN.{get_elem?}
 use Rattle.model.specs.Answer.{Answer, returned, refused, then, unless}
 use Rattle.model.specs.Chart.{Transition, Chart}
 use Rattle.model.specs.Run.{Counts, restarted, enabled}

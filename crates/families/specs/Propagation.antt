@@ -1,7 +1,7 @@
 -- The links that have timers, as three lists, and the families that begin at one location, as a set of timers at each location.
 use Rattle.std.specs.Prelude.{◌≡◌, ◌⊎◌, Bool, true, false, List, ℕ, ◌≤◌, ◌<◌, length, get_or, set}
-use Rattle.std.proofs.Math.Option.{some}
-use Rattle.std.proofs.Math.ListN.{get_elem?}
+use mathlib.Core.Option.{some}
+use lib.ListN.{get_elem?}
 use Rattle.lists.specs.Lists.{sum_of}
 use Rattle.timer_set.specs.Members.{member, joined, common}
 use Rattle.model.specs.Family.{Link, Pairs, Joined}

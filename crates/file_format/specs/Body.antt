@@ -1,7 +1,7 @@
 -- The body of a chart file, its constants in W bytes (document 01, "The chart file"): how it is read, with the refusals 3 to 8 and their places, and
 -- how it is written. The version is that of the chart; the body does not hold it.
 use Rattle.std.specs.Prelude.{Bool, true, false, List, [], ◌∷◌, ◌++◌, ℕ, suc, ◌+◌, ◌*◌, length, leb, eqb}
-use Rattle.std.proofs.Math.Option.{Option, none, some}
+use mathlib.Core.Option.{Option, none, some}
 use Rattle.comparison.specs.declared.Comparison.{Comparison}
 use Rattle.comparison.specs.Comparison.{comparison_of, code_of}
 use Rattle.model.specs.Answer.{nowhere}

@@ -1,8 +1,8 @@
 -- The chart file whose fields are the entries of nine lists, its constants in W bytes; it ends before the first field that no list has (document 01,
 -- "The chart file"). Of lists the writer refuses what the reader refuses of this file, if its constants fit: proofs/FieldOrder.
-use Rattle.std.proofs.Math.Option.{Option, none, some, map}
+use mathlib.Core.Option.{Option, none, some, map}
 use Rattle.std.specs.Prelude.{List, [], ◌∷◌, ◌++◌, ℕ, ◌+◌, length, take, get_or}
-use Rattle.std.proofs.Math.ListN.{get_elem?}
+use lib.ListN.{get_elem?}
 use Rattle.lists.specs.Lists.{gather, up_to, sum_of}
 use Rattle.timer_set.specs.Members.{members}
 use Rattle.model.specs.Version.{width_of}

@@ -1,8 +1,8 @@
 -- The chart that nine lists describe beside its header, or its refusal: 2, then 3 to 8 in the order of the file's fields, then 17 (document 01,
 -- "Turned down .."; document 02, P2).
 use Rattle.std.specs.Prelude.{not, List, [], ◌∷◌, ℕ, zero, suc, ◌+◌, leb, ltb, length}
-use Rattle.std.proofs.Math.Option.{Option, none, some}
-use Rattle.std.proofs.Math.ListN.{get_elem?}
+use mathlib.Core.Option.{Option, none, some}
+use lib.ListN.{get_elem?}
 use Rattle.timer_set.specs.Members.{members, all_below}
 use Rattle.comparison.specs.Comparison.{comparison_of}
 use Rattle.model.specs.Answer.{Answer, returned, refused, then, unless, nowhere}

@@ -1,6 +1,6 @@
 -- The lines of the text from the cells of board numbers.
 use Rattle.std.specs.Prelude.{true, false, List, [], ◌∷◌, ◌++◌, ℕ, ◌+◌, ◌*◌, eqb, get_or}
-use Rattle.std.proofs.Math.Option.{Option, none, some}
+use mathlib.Core.Option.{Option, none, some}
 use Rattle.lists.specs.Lists.{gather}
 use Rattle.allocation.specs.Cells.{no_number}
 use Rattle.listing.specs.Text.{decimal, line_feed, at_word}

@@ -1,7 +1,7 @@
 -- The program's whole output for its whole input (document 01, "What the four parts hand back"; document 02, P1 and P7): one byte K, then a chart
 -- file.
 use Rattle.std.specs.Prelude.{Bool, true, false, List, [], ◌∷◌, ◌++◌, ℕ, leb, length}
-use Rattle.std.proofs.Math.Option.{Option, none, some}
+use mathlib.Core.Option.{Option, none, some}
 use Rattle.lists.specs.Lists.{gather}
 use Rattle.model.specs.Answer.{Answer, returned, refused, then, nowhere}
 use Rattle.model.specs.Chart.{Chart}

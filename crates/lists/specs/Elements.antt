@@ -1,7 +1,7 @@
 -- An element of a list, by its place, and two lists related place by place.
 use Rattle.std.specs.Prelude.{◌≡◌, List, ℕ, length}
-use Rattle.std.proofs.Math.Option.{some}
-use Rattle.std.proofs.Math.ListN.{get_elem?}
+use mathlib.Core.Option.{some}
+use lib.ListN.{get_elem?}
 
 -- a is an element of the list
 pub record Element {A : Type 0} (l : List A) (a : A) : Type 0 where

@@ -1,8 +1,8 @@
 -- Which families of a list meet, by the families at each location, and what is asked for the fewest timers of any plan. A family is named by its
 -- place in the list.
 use Rattle.std.specs.Prelude.{◌≡◌, Bool, true, not, ◌&&◌, List, ℕ, ◌≤◌, ◌<◌, eqb, length, get_or}
-use Rattle.std.proofs.Math.Option.{some}
-use Rattle.std.proofs.Math.ListN.{get_elem?}
+use mathlib.Core.Option.{some}
+use lib.ListN.{get_elem?}
 use Rattle.timer_set.specs.Members.{member}
 use Rattle.lists.specs.Lists.{memb}
 use Rattle.model.specs.Family.{Family, meets}

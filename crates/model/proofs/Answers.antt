@@ -7,7 +7,7 @@ use Prim.Native.Nat.{ℕ, suc, ◌+◌}
 use native.Mathlib.Omega.{arith}
 use Rattle.lists.specs.Lists.{memb}
 use Rattle.model.specs.Answer.{Answer, returned, refused, then, unless}
-use Rattle.model.specs.Refusals.{Refuses, StepRefusal}
+use Rattle.model.specs.Refusals.{Refuses, NumberIn, StepRefusal}
 
 module _ {A : Type 0} where
   -- a result is no refusal
@@ -146,6 +146,18 @@ module _ {R : (n p : ℕ) → Type 0} {A : Type 0} where
 
   pub refuses_wider : {Q : (n p : ℕ) → Type 0} {x : Answer A} → ((n p : ℕ) → R n p → Q n p) → Refuses R x → Refuses Q x
   refuses_wider f h = record { only = λ n p e. f n p (h.only n p e) }
+
+-- ---- the number of a refusal is one of a list
+
+module _ (l : List ℕ) {A : Type 0} where
+  pub number_unless : (b : Bool) (n p : ℕ) (x : Answer A) → (b ≡ false → memb n l ≡ true) → NumberIn l x → NumberIn l (unless b n p x)
+  number_unless b n p x m h = refuses_unless b n p x m (λ e. h)
+
+  pub number_then : {B : Type 0} (x : Answer A) (f : A → Answer B) → NumberIn l x → ((a : A) → NumberIn l (f a)) → NumberIn l (then x f)
+  number_then x f m h = refuses_then x f m (λ a e. h a)
+
+  pub number_is : {n p : ℕ} (x : Answer A) → NumberIn l x → x ≡ refused n p → memb n l ≡ true
+  number_is {n = n} {p = p} x h e = h.only n p e
 
 -- ---- of steps, each refused at its number
 

@@ -1,7 +1,7 @@
 -- A chart: locations, timers and transitions, all numbered from 0 (document 01, "The chart").
 use Rattle.std.specs.Prelude.{◌≡◌, Bool, List, ℕ, eqb}
-use Rattle.std.proofs.Math.Option.{some}
-use Rattle.std.proofs.Math.ListN.{get_elem?}
+use mathlib.Core.Option.{some}
+use lib.ListN.{get_elem?}
 use Rattle.comparison.specs.declared.Comparison.{Comparison}
 use Rattle.lists.specs.Lists.{any_of}
 

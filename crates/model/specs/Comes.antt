@@ -1,8 +1,8 @@
 -- How a timer comes to a location along the edges of a flow, and flows whose locations and sets are in range. That the rounds find just this is shown
 -- in proofs/.
 use Rattle.std.specs.Prelude.{◌≡◌, true, false, ℕ, ◌<◌, ◌^◌}
-use Rattle.std.proofs.Math.Option.{some}
-use Rattle.std.proofs.Math.ListN.{get_elem?}
+use mathlib.Core.Option.{some}
+use lib.ListN.{get_elem?}
 use Rattle.timer_set.specs.Members.{member}
 use Rattle.model.specs.Flow.{Edge, Flow}
 

@@ -1,7 +1,7 @@
 -- Demand 3 on charts: two charts behave alike.
 use Rattle.std.specs.Prelude.{◌≡◌, ◌⊎◌, ◌↔◌, Bool, true, List, [], ◌∷◌, ◌++◌, ℕ, length}
-use Rattle.std.proofs.Math.Option.{some}
-use Rattle.std.proofs.Math.ListN.{get_elem?}
+use mathlib.Core.Option.{some}
+use lib.ListN.{get_elem?}
 use Rattle.lists.specs.Lists.{memb}
 use Rattle.model.specs.Chart.{Test, Transition, Chart, Nth}
 use Rattle.model.specs.Run.{Counts, State, Step, Run, EndsAccepting, waited, every_time, player_time}

@@ -1,7 +1,7 @@
 -- Charts and numberings that differ from document 01's where a relation of demand 3 or of plans has to tell them apart, and charts with the most
 -- rounds.
 use Rattle.std.specs.Prelude.{true, false, List, [], ◌∷◌, ℕ, set}
-use Rattle.std.proofs.Math.Option.{none, some}
+use mathlib.Core.Option.{none, some}
 use Rattle.comparison.specs.declared.Comparison.TheVariants.{AtMost, AtLeast}
 use Rattle.model.specs.Chart.{Chart}
 use Rattle.model.specs.Run.{Step}

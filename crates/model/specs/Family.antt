@@ -1,8 +1,8 @@
 -- Families (document 01, "Live, born, family, board number"), over any pairs and links; those of a chart are formed with twins counted as one timer
 -- (document 02, P6).
 use Rattle.std.specs.Prelude.{◌≡◌, Bool, true, false, ◌&&◌, List, [], ◌∷◌, ◌++◌, map, ℕ, ◌+◌, ◌*◌, ◌^◌, ◌≤◌, ◌<◌, eqb, get_or}
-use Rattle.std.proofs.Math.ListN.{get_elem?}
-use Rattle.std.proofs.Math.Option.{some}
+use lib.ListN.{get_elem?}
+use mathlib.Core.Option.{some}
 use Rattle.timer_set.specs.Members.{member, common, minus, every_timer}
 use Rattle.lists.specs.Lists.{any_of, memb, lowest, gather, pick}
 use Rattle.model.specs.Chart.{Transition, Chart}

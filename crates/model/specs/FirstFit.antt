@@ -1,6 +1,6 @@
 -- Board numbers by first fit, used, and refusal 20 (document 01, "Live, born, family, board number").
 use Rattle.std.specs.Prelude.{Bool, true, false, not, ◌||◌, List, [], ◌∷◌, map, ℕ, eqb}
-use Rattle.std.proofs.Math.Option.{Option, none, some}
+use mathlib.Core.Option.{Option, none, some}
 use Rattle.lists.specs.Lists.{memb, lowest, top}
 use Rattle.model.specs.Chart.{Chart}
 use Rattle.model.specs.Family.{Pairs, Family, has, families, meets, live_pairs}

@@ -1,8 +1,8 @@
 -- First fit over any pairs and links: who holds a number, whose family a placed one is, which number a pair has. The rule on a chart is in
 -- `SharingRule`.
 use Rattle.std.specs.Prelude.{◌≡◌, true, List, ℕ}
-use Rattle.std.proofs.Math.Option.{some}
-use Rattle.std.proofs.Math.ListN.{get_elem?}
+use mathlib.Core.Option.{some}
+use lib.ListN.{get_elem?}
 use Rattle.model.specs.Family.{Pairs, is_pair, Family, family_of, meets}
 use Rattle.model.specs.FirstFit.{Placed, first_fit}
 

@@ -1,7 +1,7 @@
 -- What a numbering has to keep for the rewritten chart to behave as the drawn one. First fit keeps it; so would any other plan. The laws ask nothing
 -- of transitions that leave a location which no path reaches.
 use Rattle.std.specs.Prelude.{◌≡◌, true, false, List, ℕ, ◌<◌}
-use Rattle.std.proofs.Math.Option.{some}
+use mathlib.Core.Option.{some}
 use Rattle.lists.specs.Lists.{memb}
 use Rattle.model.specs.Chart.{Test, Transition, Chart, Nth, tested}
 use Rattle.model.specs.Path.{ReadAt, Reached}

@@ -1,6 +1,6 @@
 -- The chart rewritten by a numbering (document 01, "Live, born, family, board number"; document 02, P6 and P7).
 use Rattle.std.specs.Prelude.{◌≡◌, true, false, ℕ, ◌<◌, get_or}
-use Rattle.std.proofs.Math.Option.{Option, none, some}
+use mathlib.Core.Option.{Option, none, some}
 use mathlib.Core.List.{List, map, filter_map}
 use Rattle.timer_set.specs.Members.{member}
 use Rattle.lists.specs.Lists.{memb, pick}

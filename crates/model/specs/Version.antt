@@ -1,8 +1,8 @@
 -- The versions of a chart file, the bytes that a constant has in each, which charts version 1 does not hold (document 02, P2), and which versions
 -- allow locations that no path reaches (document 02, P7).
 use Rattle.std.specs.Prelude.{◌≡◌, Bool, true, false, ◌&&◌, ℕ, ◌<◌, leb, ltb, eqb}
-use Rattle.std.proofs.Math.Option.{some}
-use Rattle.std.proofs.Math.ListN.{get_elem?}
+use mathlib.Core.Option.{some}
+use lib.ListN.{get_elem?}
 use Rattle.lists.specs.Lists.{any_of}
 use Rattle.model.specs.Chart.{Test, Transition, Chart, Nth}
 

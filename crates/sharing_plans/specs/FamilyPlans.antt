@@ -1,7 +1,7 @@
 -- A plan for a list of families: each gets a number, and families that meet get different ones. The same in the words of paths is `SharingPlan`.
 use Rattle.std.specs.Prelude.{◌≡◌, true, List, ℕ, ◌<◌, length}
-use Rattle.std.proofs.Math.Option.{some}
-use Rattle.std.proofs.Math.ListN.{get_elem?}
+use mathlib.Core.Option.{some}
+use lib.ListN.{get_elem?}
 use Rattle.model.specs.Family.{Family, meets}
 
 -- a plan with k timers for the families of a list: family i gets the number f i

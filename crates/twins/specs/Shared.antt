@@ -1,6 +1,6 @@
 -- The numbers of lowest twins, handed to all timers of the sets.
 use Rattle.std.specs.Prelude.{◌≡◌, true, false, List, ℕ, ◌+◌, ◌*◌, ◌≤◌, ◌<◌, length, get_or}
-use Rattle.std.proofs.Math.Option.{none}
+use mathlib.Core.Option.{none}
 use Rattle.timer_set.specs.Members.{member}
 use Rattle.model.specs.Rewrite.{Numbering}
 use Rattle.allocation.specs.Cells.{no_number}
