@@ -9,6 +9,7 @@ use native.Mathlib.Decide.{ℕ_discrete}
 use native.Mathlib.Omega.{arith}
 use lib.ListN.{length}
 use Rattle.lists.proofs.Bools.{same_bool, is_no, or_cases, or_left, or_right, and_left, and_right, and_both}
+use Rattle.allocation.specs.declared.family.Family.{Family}
 use Rattle.allocation.specs.Rows.{any_below, in_family, some_in, Within}
 
 pub below_in : (f : ℕ → Bool) (n k : ℕ) → k < n → f k ≡ true → any_below f n ≡ true
@@ -30,6 +31,9 @@ below_out f (suc n) h = go (or_cases (any_below f n) h) (below_out f n)
     go (inr b) ih = (n, omega arith, b)
 
 -- ---- locations of a family
+
+pub within : (f : Family) → Within f.sets.now f.timer f.from f.end
+within f = record { low = f.low; high = f.high; ordered = f.ordered; inside = f.inside }
 
 module _ (sets : List ℕ) (j : ℕ) (f : ℕ → Bool) where
   pub some_in_lem : (n s : ℕ) → s < n → in_family sets j s ≡ true → f s ≡ true → some_in sets j f n ≡ true

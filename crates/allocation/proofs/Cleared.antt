@@ -4,12 +4,17 @@ use mathlib.Core.List.{List}
 use Prim.Native.Nat.{ℕ, ◌*◌, ◌≤◌, ◌<◌}
 use native.Mathlib.Omega.{arith}
 use lib.ListN.{length, get_or, take, replicate, length-replicate}
+use Rattle.std.proofs.lemmas.List.{get_or-replicate}
 use lib.Seq.{length-take-le}
 use Rattle.lists.proofs.Zeros.{get_d_zeros, take_zeros}
 use Rattle.allocation.specs.Cells.{no_number}
 use Rattle.allocation.specs.Turns.{Fresh}
 use Rattle.allocation.specs.Rows.{held_length}
 use Rattle.chart_lists.specs.Limits.{most_locations}
+
+-- a list filled with one number
+pub filled : {l : List ℕ} {m : ℕ} (n v : ℕ) → l ≡ replicate n v → n ≡ m → (x : ℕ) → x < m → get_or l x 0 ≡ v
+filled n v e long x h = rw e (get_or-replicate n x v 0 (omega arith))
 
 pub front_length : (m : ℕ) → m ≤ most_locations → length {A = ℕ} (take m (replicate most_locations 0)) ≡ m
 front_length m h = length-take-le m (replicate {A = ℕ} most_locations 0) (omega (arith, length-replicate {A = ℕ} most_locations 0))

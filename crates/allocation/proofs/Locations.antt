@@ -17,6 +17,7 @@ use Rattle.model.specs.Family.{Pairs, is_pair, Joined, Family, family_of, WellFo
 use Rattle.model.proofs.Joined.{joined_refl, joined_sym, joined_pair}
 use Rattle.model.proofs.Families.{family_has, first_least, first_joined, family_same}
 use Rattle.model.specs.Rewrite.{numbering}
+use Rattle.families.specs.declared.links.Link.{Link}
 use Rattle.families.specs.Propagation.{Propagated, EmptyFrom}
 use Rattle.allocation.specs.Cells.{cell}
 use Rattle.allocation.specs.Rows.{in_family, Lengths, WordsAgree, Within, Unnumbered, Ready}
@@ -31,7 +32,7 @@ placed_none e = record {
   only = λ s j m. absurd (not_both m (ap (λ (w : ℕ). member w j) (e s) ∙ member_empty j));
 }
 
-module _ {p : Pairs} {live ones others linked : List ℕ} (d : Described p live ones others linked) (q : ℕ) (here : q < length live) {placed : List ℕ}
+module _ {p : Pairs} {live : List ℕ} {links : List Link} (d : Described p live links) (q : ℕ) (here : q < length live) {placed : List ℕ}
     (so : PlacedTo p q placed) (roots : ℕ) (is : roots ≡ minus (get_or live q 0) (get_or placed q 0)) where
   formed : WellFormed p
   formed = d.formed

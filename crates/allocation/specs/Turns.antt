@@ -6,6 +6,7 @@ use Rattle.model.specs.Family.{Pairs, is_pair, Family, family_of, family_from, W
 use Rattle.model.specs.FirstFit.{Placed, place, used_by}
 use Rattle.model.specs.Rewrite.{numbering}
 use Rattle.families.specs.Propagation.{LinkLists}
+use Rattle.families.specs.declared.links.Link.{Link}
 use Rattle.allocation.specs.Cells.{no_number, cells_of}
 use Rattle.allocation.specs.FamiliesAt.{FamiliesAt}
 use Rattle.allocation.specs.Rows.{in_family, held_length}
@@ -42,11 +43,11 @@ pub record Roots (p : Pairs) (q roots : ℕ) (sets : List ℕ) : Type 0 where
 -- ---- the locations in turn
 
 -- the lists are of the pairs p: the set of each location, and the links that have timers
-pub record Described (p : Pairs) (live ones others linked : List ℕ) : Type 0 where
+pub record Described (p : Pairs) (live : List ℕ) (links : List Link) : Type 0 where
   pub formed : WellFormed p
   pub sets_are : p.sets ≡ live
   pub locations_are : p.locations ≡ length live
-  pub links_are : LinkLists p ones others linked
+  pub links_are : LinkLists p links
 
 -- the pairs whose family begins below location q
 pub record PlacedTo (p : Pairs) (q : ℕ) (placed : List ℕ) : Type 0 where

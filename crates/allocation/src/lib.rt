@@ -1,6 +1,7 @@
 // Board numbers by first fit over families, and which of the first 20 families contain each location.
 #![tactic(auto)]
 
+mod family;
 mod free;
 mod place;
 
@@ -9,12 +10,14 @@ ghost use Rattle.timer_set.specs.Members.{joined};
 ghost use Rattle.model.specs.Family.{Pairs, families as Family·families};
 ghost use Rattle.model.specs.FirstFit.{first_fit, used_by};
 ghost use Rattle.model.specs.Rewrite.{numbering};
-ghost use Rattle.families.specs.Pairs.{pairs_of, SafeTransitions};
+ghost use Rattle.families.specs.Pairs.{pairs_in, SafeChart};
 ghost use Rattle.families.specs.Propagation.{Ends, EmptyFrom};
 ghost use Rattle.allocation.specs.Cells.{cells_of, no_number};
 ghost use Rattle.allocation.specs.FamiliesAt.{FamiliesAt};
 ghost use Rattle.allocation.specs.Turns.{NumberedTo, Described, Fresh};
 
+use families::{Link, LiveChart};
+use family::Spread;
 use place::place_roots;
 use timer_set::TimerSet;
 
@@ -44,60 +47,47 @@ fn join_sets(sets: &[u64], end: usize, all: &mut [u64])
     ensures { (s : ℕ) → s < length sets.now
         → get_or all.new s 0 ≡ joined (get_or all.old s 0) (get_or sets.now s 0) }
 {
-    let mut s: usize = 0;
-    while s < end {
+    for s in 0..end {
         all[s] = TimerSet { bits: all[s] }
             .join(TimerSet { bits: sets[s] })
             .bits;
-        s += 1;
-    }
-}
-
-// No pair has a number.
-fn clear(cells: &mut [u16])
-    ensures { (x : ℕ) → x < length cells.old → get_or cells.new x 0 ≡ no_number }
-{
-    let mut x: usize = 0;
-    while x < cells.len() {
-        cells[x] = NO_NUMBER;
-        x += 1;
     }
 }
 
 // The locations in turn: the timers whose families begin there propagate at once, and then these families are placed and marked.
 // How many numbers are used, and how many families there are.
-fn number_locations<'a>(
-    ones: &'a [u16],
-    others: &'a [u16],
-    linked: &'a [u64],
-    live: &'a [u64],
+fn number_locations(
+    links: &[Link],
+    live: &[u64],
     sets: &mut [u64],
     placed: &mut [u64],
     cells: &mut [u16],
     held: &mut [u64],
     families_at: &mut [u64],
 ) -> Allocated
-    requires { ((p : Pairs) × Described p live.now ones.now others.now linked.now)
-        × Ends (length live.now) ones.now others.now linked.now
+    requires { ((p : Pairs) × Described p live.now links.now)
+        × Ends (length live.now) links.now
         × Fresh live.now sets.old placed.old cells.old held.old families_at.old }
-    ensures { (p : Pairs) → Described p live.now ones.now others.now linked.now
+    ensures { (p : Pairs) → Described p live.now links.now
         → NumberedTo p (64 * length live.now) cells.new families_at.new result.used result.families }
 {
-    let n = live.len();
     let mut counts = Allocated {
         used: 0,
         families: 0,
     };
-    let mut q: usize = 0;
-    while q < n {
-        let here = q;
+    for q in 0..live.len() {
         let own = TimerSet { bits: live[q] };
         let earlier = TimerSet { bits: placed[q] };
         let roots = own.minus(earlier);
-        q += 1;
         if !roots.is_empty() {
-            let end = families::propagate(ones, others, linked, here, roots, sets);
-            counts = place_roots(sets, roots, here, end, cells, held, families_at, counts);
+            let end = families::propagate(links, q, roots, sets);
+            let spread = Spread {
+                sets,
+                roots,
+                from: q,
+                end,
+            };
+            counts = place_roots(spread, cells, held, families_at, counts);
             join_sets(sets, end, placed);
         }
     }
@@ -106,52 +96,24 @@ fn number_locations<'a>(
 
 // The board number of each pair (q, j), at 64 q + j, and of each location, which of the first 20 families contain it, by their places in the order
 // of families. How many numbers are used, and how many families there are.
-pub fn allocate<'a>(
-    sources: &'a [u16],
-    targets: &'a [u16],
-    starts: &'a [u64],
-    live: &'a [u64],
-    timers: u8,
-    cells: &mut [u16],
-    families_at: &mut [u64],
-) -> Allocated
-    requires { SafeTransitions sources.now targets.now starts.now live.now timers × (length cells.old ≡ 64 * length live.now)
-        × (length families_at.old ≡ length live.now) }
+pub fn allocate(chart: LiveChart, cells: &mut [u16], families_at: &mut [u64]) -> Allocated
+    requires { SafeChart chart × (length cells.old ≡ 64 * length chart.live.now) × (length families_at.old ≡ length chart.live.now) }
     ensures cells { cells.new
-        ≡ cells_of (numbering (first_fit (pairs_of sources.now targets.now starts.now live.now timers)))
-        (length live.now) }
-    ensures used { result.used
-        ≡ used_by (first_fit (pairs_of sources.now targets.now starts.now live.now timers)) }
-    ensures families { result.families
-        ≡ length (Family·families (pairs_of sources.now targets.now starts.now live.now timers)) }
-    ensures at { FamiliesAt
-        (Family·families (pairs_of sources.now targets.now starts.now live.now timers))
-        families_at.new }
+        ≡ cells_of (numbering (first_fit (pairs_in chart.entry))) (length chart.entry.live.now) }
+    ensures used { result.used ≡ used_by (first_fit (pairs_in chart.entry)) }
+    ensures families { result.families ≡ length (Family·families (pairs_in chart.entry)) }
+    ensures at { FamiliesAt (Family·families (pairs_in chart.entry)) families_at.new }
 {
-    let mut ones = [0u16; chart_lists::MOST_TRANSITIONS];
-    let mut others = [0u16; chart_lists::MOST_TRANSITIONS];
-    let mut linked = [0u64; chart_lists::MOST_TRANSITIONS];
-    let k = families::find_links(
-        sources,
-        targets,
-        starts,
-        live,
-        timers,
-        &mut ones,
-        &mut others,
-        &mut linked,
-    );
-    clear(cells);
-    families::clear(families_at);
-    let n = live.len();
+    let links = families::find_links(chart);
+    cells.fill(NO_NUMBER);
+    families_at.fill(0);
+    let n = chart.live.len();
     let mut sets = [0u64; chart_lists::MOST_LOCATIONS];
     let mut placed = [0u64; chart_lists::MOST_LOCATIONS];
     let mut held = [0u64; HELD_LENGTH];
     number_locations(
-        &ones[..k],
-        &others[..k],
-        &linked[..k],
-        live,
+        links.as_slice(),
+        chart.live,
         &mut sets[..n],
         &mut placed[..n],
         cells,

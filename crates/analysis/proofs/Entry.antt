@@ -1,9 +1,9 @@
 -- What the analysis answers and leaves of a file, on plain values: by the judgement's answer, and by the room that is lent. By cases.
 use mathlib.Core.Path.{◌≡◌}
 use mathlib.Core.Bool.{Bool}
-use mathlib.Core.List.{List}
+use mathlib.Core.List.{List, ◌++◌}
 use Prim.Native.Nat.{ℕ, ◌≤◌, ◌<◌}
-use lib.ListN.{length}
+use lib.ListN.{length, drop}
 use borrow.Author.Tests.{le-leb, lt-leb}
 use Rattle.model.specs.Answer.{returned, refused, nowhere}
 use Rattle.model.specs.Chart.{Chart}
@@ -23,6 +23,11 @@ module _ (c : Chart) (room : ℕ) where
   pub long_enough_lem : c.locations ≤ room → analysed_chart room c ≡ returned c
   unfolding analysed_chart
   long_enough_lem h = rw (le-leb c.locations room h)
+
+-- sets that are copied to the front of the lent list stand over it
+pub copied : {sets front : List ℕ} (live : List ℕ) {m : ℕ} → length sets ≡ m → front ≡ sets → front ++ drop m live ≡ put sets live
+unfolding put
+copied live l e = rw (e, l)
 
 module _ (bs before : List ℕ) where
   -- a refusal of the judgement stands

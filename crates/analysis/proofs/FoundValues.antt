@@ -39,7 +39,8 @@ use Rattle.sharing_plans.proofs.Floor.{floor_fewest, floor_most, floor_reached, 
 use Rattle.chart_lists.specs.Lists.{put, overwritten}
 use Rattle.judgement.specs.Charts.{Accepts}
 use Rattle.judgement.proofs.Corollaries.{judged_result}
-use Rattle.analysis.specs.Analysing.{AnalysisValues, values_of, analysed_sets, analysed_in, analyse_answer}
+use Rattle.analysis.specs.declared.Analysis.{Analysis}
+use Rattle.analysis.specs.Analysing.{values_of, analysed_sets, analysed_in, analyse_answer}
 use Rattle.analysis.specs.Found.{FoundValues}
 use Rattle.families.proofs.ChartPairs.{live_each}
 use Rattle.analysis.proofs.Entry.{long_enough_lem}
@@ -83,7 +84,7 @@ part_rounds {c = c} valid a =
 -- ---- the call
 
 module _ (bs before : List ℕ) (bytes : Bytes bs) where
-  of_chart : (c : Chart) {f : AnalysisValues} → Accepts bs c → c.locations ≤ length before → f ≡ values_of c
+  of_chart : (c : Chart) {f : Analysis} → Accepts bs c → c.locations ≤ length before → f ≡ values_of c
       → FoundValues bs before (overwritten analysed_sets (analysed_in (length before) bs) before) f
   unfolding analysed_in values_of used
   of_chart c a h e =
@@ -111,7 +112,7 @@ module _ (bs before : List ℕ) (bytes : Bytes bs) where
         rounds_few = part_rounds valid a.accepted;
       }
 
-  pub found_values : {f : AnalysisValues} → analyse_answer (length before) bs ≡ returned f
+  pub found_values : {f : Analysis} → analyse_answer (length before) bs ≡ returned f
       → FoundValues bs before (overwritten analysed_sets (analysed_in (length before) bs) before) f
   found_values {f} e =
       let a = (analysis_result (length before) bs bytes f).0 e in
@@ -130,7 +131,7 @@ at_most : (m n : ℕ) → ((u : ℕ) → m ≡ suc u → u < n) → m ≤ n
 at_most zero n h = omega arith
 at_most (suc u) n h = omega (arith, h u refl)
 
-module _ {bs before after : List ℕ} {f : AnalysisValues} (bytes : Bytes bs) (v : FoundValues bs before after f) where
+module _ {bs before after : List ℕ} {f : Analysis} (bytes : Bytes bs) (v : FoundValues bs before after f) where
   abbrev c : Chart
   c = v.chart
 
@@ -190,7 +191,7 @@ module _ {bs before after : List ℕ} {f : AnalysisValues} (bytes : Bytes bs) (v
 -- ---- a spare location
 
 -- at a location that no path reaches nothing is live
-pub spare_empty : {bs before after : List ℕ} {f : AnalysisValues} (v : FoundValues bs before after f) (q : ℕ) → q < v.chart.locations
+pub spare_empty : {bs before after : List ℕ} {f : Analysis} (v : FoundValues bs before after f) (q : ℕ) → q < v.chart.locations
     → (Reached v.chart q → ⊥) → get_or after q 0 ≡ 0
 spare_empty v q h spare =
     members_equal _ _ (λ j. (λ m. absurd (spare ((v.words_are q j h).0 m).0), λ m. absurd (not_both m (member_empty j))))

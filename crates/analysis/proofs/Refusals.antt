@@ -19,7 +19,8 @@ use Rattle.judgement.specs.Judging.{judged_in}
 use Rattle.judgement.specs.Charts.{HoldsChart, Accepts}
 use Rattle.judgement.proofs.Corollaries.{judged_numbers, judged_9, judged_10, judged_1_to_8, judged_result, refusals_of_judged_in}
 use Rattle.judgement.proofs.Corollaries.{somewhere, unreached_in_lem, never_unreached}
-use Rattle.analysis.specs.Analysing.{AnalysisValues, values_of, analysed_in, analyse_answer}
+use Rattle.analysis.specs.declared.Analysis.{Analysis}
+use Rattle.analysis.specs.Analysing.{values_of, analysed_in, analyse_answer}
 use Rattle.analysis.specs.Found.{Analysed}
 use Rattle.analysis.specs.Refusals.{RefusalOfAnalysis, TooShort}
 use Rattle.analysis.specs.Refusals.RefusalOfAnalysis.{of_judgement, of_short_list}
@@ -108,7 +109,7 @@ module _ (room : ℕ) (bs : List ℕ) where
         back t (is_short c e l f) = f
         back t (is_found c e l f) = absurd (omega (arith, ap (λ (d : Chart). d.locations) (same_chart e t.accepts), t.more))
 
-    pub analysis_result : (g : AnalysisValues) → (analyse_answer room bs ≡ returned g) ↔ Analysed room bs g
+    pub analysis_result : (g : Analysis) → (analyse_answer room bs ≡ returned g) ↔ Analysed room bs g
     analysis_result g = (λ x. out x analysis_cases, λ a. back a analysis_cases)
       where
         out : analyse_answer room bs ≡ returned g → AnalysisOf room bs → Analysed room bs g

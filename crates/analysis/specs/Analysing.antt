@@ -1,16 +1,14 @@
 -- What the analysis of a chart file answers, and the live sets that it leaves in the lent list (`overwritten analysed_sets`): both of the part of the
 -- chart that counts (document 02, P7).
-use Rattle.std.specs.Prelude.{Bool, List, ℕ, leb}
+use Rattle.std.specs.Prelude.{List, ℕ, leb}
 use Rattle.model.specs.Answer.{Answer, returned, then, unless, nowhere}
 use Rattle.model.specs.Chart.{Chart}
 use Rattle.model.specs.Live.{live_sets, live_rounds}
 use Rattle.model.specs.Spare.{reached_part}
 use Rattle.model.specs.FirstFit.{used}
 use Rattle.model.specs.Floor.{floor, searched}
-use Rattle.refusal.specs.Refused.{refused_as}
 use Rattle.judgement.specs.Judging.{judged_in}
 use Rattle.analysis.specs.declared.Analysis.{Analysis}
-use Rattle.analysis.specs.declared.Analysis.TheVariants as analysis
 
 -- 21 if the lent list is shorter than the number of locations
 unfoldable pub analysed_chart : (room : ℕ) → Chart → Answer Chart
@@ -21,15 +19,8 @@ unfoldable pub analysed_in : (room : ℕ) → List ℕ → Answer Chart
 analysed_in room bs = then (judged_in bs) (analysed_chart room)
 
 -- how many timers the board numbers use; the floor; whether the floor is the smallest number of timers of any plan, else it is the count of the
--- fullest live set, twins counted once; and how many rounds find the live sets
-pub record AnalysisValues : Type 0 where
-  pub used : ℕ
-  pub floor : ℕ
-  pub searched : Bool
-  pub rounds : ℕ
-
--- those of a chart: of the part that counts
-unfoldable pub values_of : Chart → AnalysisValues
+-- fullest live set, twins counted once; and how many rounds find the live sets: of the part of the chart that counts
+unfoldable pub values_of : Chart → Analysis
 values_of c = let part = reached_part c in
     record { used = used part; floor = floor part; searched = searched part; rounds = live_rounds part }
 
@@ -38,10 +29,5 @@ unfoldable pub analysed_sets : Chart → List ℕ
 analysed_sets c = live_sets (reached_part c)
 
 -- what is answered
-unfoldable pub analyse_answer : (room : ℕ) → List ℕ → Answer AnalysisValues
+unfoldable pub analyse_answer : (room : ℕ) → List ℕ → Answer Analysis
 analyse_answer room bs = then (analysed_in room bs) (λ c. returned (values_of c))
-
--- what an answer of the code means
-abbrev pub analysis_as : Analysis → Answer AnalysisValues
-analysis_as (analysis.Found u f s r) = returned (record { used = u; floor = f; searched = s; rounds = r })
-analysis_as (analysis.Refused f) = refused_as f

@@ -5,7 +5,8 @@ use Rattle.model.specs.Answer.{Answer, returned, then}
 use Rattle.model.specs.Spare.{reached_part}
 use Rattle.model.specs.FirstFit.{used}
 use Rattle.model.specs.Floor.{floor, searched}
-use Rattle.analysis.specs.Analysing.{AnalysisValues, analysed_in}
+use Rattle.analysis.specs.declared.Analysis.{Analysis}
+use Rattle.analysis.specs.Analysing.{analysed_in}
 
 pub record ValuesBefore : Type 0 where
   pub used : ℕ
@@ -17,5 +18,5 @@ answer_before room bs = then (analysed_in room bs)
     (λ c. let part = reached_part c in returned (record { used = used part; floor = floor part; searched = searched part }))
 
 -- the values without the number of rounds
-unfoldable pub without_rounds : AnalysisValues → ValuesBefore
+unfoldable pub without_rounds : Analysis → ValuesBefore
 without_rounds f = record { used = f.used; floor = f.floor; searched = f.searched }

@@ -12,10 +12,11 @@ use Rattle.model.specs.Floor.{most_searched}
 use Rattle.sharing_plans.specs.SharingPlan.{FewestTimers, FamiliesAtMost}
 use Rattle.sharing_plans.specs.CountedOnce.{CountedOnce}
 use Rattle.judgement.specs.Charts.{Accepts}
-use Rattle.analysis.specs.Analysing.{AnalysisValues, values_of}
+use Rattle.analysis.specs.declared.Analysis.{Analysis}
+use Rattle.analysis.specs.Analysing.{values_of}
 
 -- the file holds an accepted chart, there is room, and these are its values
-pub record Analysed (room : ℕ) (bs : List ℕ) (f : AnalysisValues) : Type 0 where
+pub record Analysed (room : ℕ) (bs : List ℕ) (f : Analysis) : Type 0 where
   pub chart : Chart
   pub accepts : Accepts bs chart
   pub room_for : chart.locations ≤ room
@@ -27,7 +28,7 @@ pub record Analysed (room : ℕ) (bs : List ℕ) (f : AnalysisValues) : Type 0 w
 -- less than floor, is one more than the largest board number given, and 0 exactly where no timer is live at a reached location and so there is no
 -- family; rounds is one more than the least k such that paths of at most k transitions decide which timers are live, and at most the number of
 -- locations
-pub record FoundValues (bs before after : List ℕ) (f : AnalysisValues) : Type 0 where
+pub record FoundValues (bs before after : List ℕ) (f : Analysis) : Type 0 where
   pub chart : Chart
   pub accepts : Accepts bs chart
   pub words_are : (q j : ℕ) → q < chart.locations → (member (get_or after q 0) j ≡ true) ↔ (Reached chart q × Live chart q j)

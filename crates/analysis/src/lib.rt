@@ -2,67 +2,40 @@
 // number of timers of any plan.
 #![tactic(auto)]
 
-ghost use Rattle.std.specs.Prelude.{◌≡◌, ◌≤◌, length};
-ghost use Rattle.chart_lists.specs.Lists.{put, overwritten};
-ghost use Rattle.analysis.specs.Analysing.{analysed_in, analysed_sets, analyse_answer, analysis_as};
+ghost use Rattle.std.specs.Prelude.{◌≡◌, length};
+ghost use Rattle.refusal.specs.Refused.{answer_as};
+ghost use Rattle.chart_lists.specs.Lists.{overwritten};
+ghost use Rattle.analysis.specs.Analysing.{analysed_in, analysed_sets, analyse_answer};
 
-use numbering::FileNumbered;
 use refusal::Refusal;
 
-// Used, floor, whether the floor is the smallest number of timers of any plan, and the number of rounds; or a refusal.
+// Used, floor, whether the floor is the smallest number of timers of any plan, and the number of rounds.
 #[derive(Clone, Copy)]
-pub enum Analysis {
-    Found {
-        used: u32,
-        floor: u32,
-        searched: bool,
-        rounds: u32,
-    },
-    Refused(Refusal),
-}
-
-// The sets over the front of the list.
-fn copy(sets: &[u64], live: &mut [u64])
-    requires { length sets.now ≤ length live.old }
-    ensures { live.new ≡ put sets.now live.old }
-{
-    let n = sets.len();
-    let mut q: usize = 0;
-    while q < n {
-        live[q] = sets[q];
-        q += 1;
-    }
+pub struct Analysis {
+    pub used: u32,
+    pub floor: u32,
+    pub searched: bool,
+    pub rounds: u32,
 }
 
 // The live sets of the file's chart over the front of the list, with used, floor, searched and rounds; or a refusal, 1 to 10, then 21.
-pub fn analyse(file: &[u8], live: &mut [u64]) -> Analysis
-    ensures answer { analysis_as result ≡ analyse_answer (length live.old) file.now }
+pub fn analyse(file: &[u8], live: &mut [u64]) -> Result<Analysis, Refusal>
+    ensures answer { answer_as result ≡ analyse_answer (length live.old) file.now }
     ensures lent { live.new
         ≡ overwritten analysed_sets (analysed_in (length live.old) file.now) live.old }
 {
     let mut sets = [0u64; chart_lists::MOST_LOCATIONS];
     let mut cells = [0u16; allocation::MOST_CELLS];
-    let a = numbering::number_file(file, &mut sets, &mut cells);
-    match a {
-        FileNumbered::Refused(f) => Analysis::Refused(f),
-        FileNumbered::Chart {
-            header,
-            used,
-            floor,
-            searched,
-            rounds,
-        } => {
-            let m = header.locations as usize;
-            if live.len() < m {
-                return Analysis::Refused(refusal::NO_ROOM);
-            }
-            copy(&sets[..m], live);
-            Analysis::Found {
-                used,
-                floor,
-                searched,
-                rounds,
-            }
-        }
+    let numbers = numbering::number_file(file, &mut sets, &mut cells)?;
+    let m = numbers.header.locations as usize;
+    if live.len() < m {
+        return Err(refusal::NO_ROOM);
     }
+    live[..m].copy_from_slice(&sets[..m]);
+    Ok(Analysis {
+        used: numbers.used,
+        floor: numbers.floor,
+        searched: numbers.searched,
+        rounds: numbers.rounds,
+    })
 }

@@ -1,5 +1,5 @@
--- Whether one of the first entries of the list of constants is over 65,535, by its entries, and that this is whether some transition has such a
--- constant. What is hard is that the constants stand in one list, the tests of all transitions one after another.
+-- Whether one of the first entries of the list of constants is over 65,535 is whether some transition has such a constant. What is hard is that the
+-- constants stand in one list, the tests of all transitions one after another.
 use mathlib.Core.Path.{◌≡◌, refl, sym, ap, ◌∙◌}
 use mathlib.Core.Bool.{Bool, true, false, ◌||◌, or_assoc}
 use mathlib.Core.List.{List, [], ◌∷◌, ◌++◌}
@@ -8,6 +8,7 @@ use native.Mathlib.Omega.{arith}
 use lib.ListN.{length, get_or, take}
 use borrow.Author.Tests.{lt-ltb, le-ltb}
 use Rattle.lists.specs.Lists.{any_of}
+use Rattle.lists.proofs.Library.{any_of_list_any}
 use Rattle.lists.proofs.Bools.{or_left, or_right}
 use Rattle.model.specs.Chart.{Test, Transition}
 use Rattle.model.specs.Version.{most_in_two_bytes, is_large, large_test, large_transition}
@@ -15,21 +16,6 @@ use Rattle.chart_lists.specs.Lists.{all_tests, constants_of}
 use Rattle.chart_lists.specs.Begins.{Begins}
 use Rattle.chart_lists.specs.Large.{large_among}
 use Rattle.chart_lists.proofs.Begins.{begins_take}
-
--- ---- by entries
-
-pub large_at : (l : List ℕ) (n k : ℕ) → k < n → n ≤ length l → most_in_two_bytes < get_or l k 0 → large_among n l ≡ true
-unfolding large_among any_of is_large
-large_at l zero k h m o = absurd (omega arith)
-large_at [] (suc n) k h m o = absurd (omega arith)
-large_at (x ∷ l) (suc n) zero h m o = or_left (any_of is_large (take n l)) (lt-ltb most_in_two_bytes x o)
-large_at (x ∷ l) (suc n) (suc k) h m o = or_right (is_large x) (large_at l n k (omega arith) (omega arith) o)
-
-pub large_none : (l : List ℕ) (n : ℕ) → ((k : ℕ) → k < n → get_or l k 0 ≤ most_in_two_bytes) → large_among n l ≡ false
-unfolding large_among any_of is_large
-large_none l zero h = refl
-large_none [] (suc n) h = refl
-large_none (x ∷ l) (suc n) h = rw (le-ltb most_in_two_bytes x (h 0 (omega arith))) (large_none l n (λ k b. h (suc k) (omega arith)))
 
 -- ---- by transitions
 
@@ -53,5 +39,4 @@ large_all (r ∷ rs) = rw (large_all rs) (sym (any_append large_test r.tests (al
 -- the constants of transitions are the first entries of their list, as many as there are tests
 pub large_among_lem : (rs : List Transition) {l : List ℕ} {n : ℕ} → Begins (constants_of (all_tests rs)) l → n ≡ length (constants_of (all_tests rs))
     → any_of large_transition rs ≡ large_among n l
-unfolding large_among
-large_among_lem rs b e = large_all rs ∙ large_tests (all_tests rs) ∙ ap (any_of is_large) (sym (begins_take b e))
+large_among_lem rs b e = large_all rs ∙ large_tests (all_tests rs) ∙ ap (any_of is_large) (sym (begins_take b e)) ∙ any_of_list_any is_large _

@@ -3,7 +3,7 @@ pub mod Header
 pub mod Begins
 pub mod Holds
 pub mod Lent
-pub mod Read
 pub mod Limits
 pub mod Partly
 pub mod Large
+pub mod Stored

@@ -2,11 +2,11 @@
 #![tactic(auto)]
 
 ghost use Rattle.std.specs.Prelude.{◌≡◌};
-ghost use Rattle.comparison.specs.Comparison.{met, comparison_of, code_of};
+ghost use Rattle.comparison.specs.Comparison.{met};
 ghost use Rattle.comparison.specs.Order.{Order};
-ghost use Rattle.comparison.specs.Decoding.{decoded_of};
+ghost use Rattle.comparison.specs.Decoding.{Decodes, IsCodeOf};
 
-#[derive(Clone, Copy)]
+#[derive(Clone, Copy, Debug, PartialEq, Eq)]
 pub enum Comparison {
     AtMost,
     Below,
@@ -15,36 +15,40 @@ pub enum Comparison {
     Equal,
 }
 
-#[derive(Clone, Copy)]
-pub enum Decoded {
-    Known(Comparison),
-    Unknown,
-}
+// A code that no comparison has.
+#[derive(Clone, Copy, Debug, PartialEq, Eq)]
+pub struct UnknownCode(pub u8);
 
-#[tactic(auto, using(crate::proofs::Comparisons::comparison_past), unfolding(crate::specs::Comparison::comparison_of))]
-pub fn decode(code: u8) -> Decoded
-    ensures { decoded_of result ≡ comparison_of code }
-{
-    match code {
-        0 => Decoded::Known(Comparison::AtMost),
-        1 => Decoded::Known(Comparison::Below),
-        2 => Decoded::Known(Comparison::AtLeast),
-        3 => Decoded::Known(Comparison::Above),
-        4 => Decoded::Known(Comparison::Equal),
-        5..=255 => Decoded::Unknown,
+impl TryFrom<u8> for Comparison {
+    type Error = UnknownCode;
+
+    ghost try_from_gives = { Decodes };
+
+    #[tactic(auto, using(crate::proofs::Comparisons::comparison_past), unfolding(crate::specs::Comparison::comparison_of))]
+    fn try_from(code: u8) -> Result<Self, UnknownCode> {
+        match code {
+            0 => Ok(Comparison::AtMost),
+            1 => Ok(Comparison::Below),
+            2 => Ok(Comparison::AtLeast),
+            3 => Ok(Comparison::Above),
+            4 => Ok(Comparison::Equal),
+            5..=255 => Err(UnknownCode(code)),
+        }
     }
 }
 
-#[tactic(auto, unfolding(crate::specs::Comparison::code_of))]
-pub fn code_of(c: Comparison) -> u8
-    ensures { result ≡ code_of c }
-{
-    match c {
-        Comparison::AtMost => 0,
-        Comparison::Below => 1,
-        Comparison::AtLeast => 2,
-        Comparison::Above => 3,
-        Comparison::Equal => 4,
+impl From<Comparison> for u8 {
+    ghost from_gives = { IsCodeOf };
+
+    #[tactic(auto, unfolding(crate::specs::Comparison::code_of))]
+    fn from(c: Comparison) -> u8 {
+        match c {
+            Comparison::AtMost => 0,
+            Comparison::Below => 1,
+            Comparison::AtLeast => 2,
+            Comparison::Above => 3,
+            Comparison::Equal => 4,
+        }
     }
 }
 
@@ -73,7 +77,7 @@ fn order_of(count: u64, constant: u64) -> usize
 pub fn holds(c: Comparison, count: u64, constant: u64) -> bool
     ensures { result ≡ met c count constant }
 {
-    let code = code_of(c);
+    let code = u8::from(c);
     let order = order_of(count, constant);
     HOLDS[code as usize][order]
 }

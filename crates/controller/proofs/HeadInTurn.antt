@@ -4,7 +4,7 @@ use mathlib.Core.Logic.{◌⊎◌, inl, inr}
 use mathlib.Core.Bool.{Bool, true, ◌&&◌}
 use mathlib.Core.Option.{some}
 use mathlib.Core.List.{List}
-use Prim.Native.Nat.{ℕ, ◌+◌, ◌-◌, ◌≤◌, ◌<◌, min}
+use Prim.Native.Nat.{ℕ, ◌+◌, ◌-◌, ◌≤◌, ◌<◌}
 use native.Mathlib.Omega.{arith}
 use lib.Dec.{leb, ltb}
 use lib.ListN.{length, get_or, get_elem?, take, drop, length-take, get_or-eq_default}
@@ -21,12 +21,11 @@ use Rattle.judgement.proofs.Corollaries.{judged_reads}
 use Rattle.controller_model.specs.declared.Head.{Head}
 use Rattle.controller_model.specs.declared.Controller.{Controller}
 use Rattle.controller_model.specs.declared.Heads.{Heads}
-use Rattle.controller_model.specs.Parts.{offset, every_below, stretch}
+use Rattle.controller_model.specs.Parts.{offset, part_of, every_below, stretch}
 use Rattle.controller_model.specs.Serving.{head_at, waits, state_of}
 use Rattle.controller_model.specs.Controlling.{sound_waiting, sound_head, sound_at, sound_state}
 use Rattle.controller_model.proofs.ListParts.{offset_apart, every_out}
 use Rattle.controller_model.proofs.SetUp.{chart_of_lem}
-use Rattle.heads.proofs.Lengths.{part_between}
 use Rattle.heads.proofs.Blocks.{no_header, timers_of_lem}
 use Rattle.serving.specs.Served.{SoundServing, HeadShows}
 use Rattle.controller.specs.Judged.{Ready, InTurn}
@@ -43,10 +42,9 @@ unfolding stretch
 own_counts o n l {own} a = let e : (o + n) - o ≡ n = omega arith in subst (λ (k : ℕ). Starting (take k (drop o l)) own) e a
 
 module _ {files : List ℕ} {hs : Heads} {s : Controller} {o n : ℕ} {c : Chart} (w : InTurn files hs s o n c) where
-  -- the head's file lies between its two ends
-  pub own_file : {b e : ℕ} → b ≡ min (offset hs.lengths s.turn) (length files) → e ≡ min (b + get_or hs.lengths s.turn 0) (length files)
-      → chart_in (take (e - b) (drop b files)) ≡ returned c
-  own_file p q = ap chart_in (part_between hs.lengths s.turn files p q) ∙ judged_reads _ w.chart
+  -- the head's file has its chart
+  pub own_file : {file : List ℕ} → file ≡ part_of hs.lengths s.turn files → chart_in file ≡ returned c
+  own_file e = ap chart_in e ∙ judged_reads _ w.chart
 
   abbrev d : Head
   d = head_at s s.turn

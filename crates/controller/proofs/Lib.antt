@@ -8,4 +8,3 @@ pub mod StartCounts
 pub mod SetUps
 pub mod HeadInTurn
 pub mod Turns
-pub mod Written

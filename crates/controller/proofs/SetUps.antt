@@ -8,9 +8,11 @@ use Rattle.lists.specs.Lists.{up_to}
 use Rattle.lists.proofs.Nth.{nth_below}
 use Rattle.model.specs.Answer.{returned}
 use Rattle.model.specs.Chart.{Chart}
+use Rattle.std.specs.Prelude.{Result, Err}
+use Rattle.std.specs.Result.{IsErrAnd}
+use Rattle.std.proofs.lemmas.Result.{err_from_is_err_and}
 use Rattle.refusal.specs.declared.Refusal.{Refusal}
-use Rattle.player.specs.declared.Judged.TheVariants as judged
-use Rattle.player.specs.Playing.{judged_as}
+use Rattle.refusal.specs.Refused.{refused_as, answer_as}
 use Rattle.controller_model.specs.declared.Head.{Head}
 use Rattle.controller_model.specs.declared.Controller.{Controller}
 use Rattle.controller_model.specs.declared.Heads.{Heads}
@@ -18,19 +20,19 @@ use Rattle.controller_model.specs.declared.Parts.{Parts}
 use Rattle.controller_model.specs.Heads.{head_counts, set_up_judged}
 use Rattle.controller_model.specs.Controlling.{start_head, start_counts, at_start, set_up, state_set_up, verdict_of}
 use Rattle.controller_model.proofs.SetUp.{set_up_accepted, blocks_long}
-use Rattle.heads.specs.declared.JudgedHeads.{JudgedHeads}
-use Rattle.heads.specs.Judged.{JudgedAs}
 use Rattle.controller.specs.Judged.{CountsFit}
-use Rattle.controller.proofs.Judging.{refusal_stays, accepted_number, accepted_total}
+use Rattle.controller.proofs.Judging.{accepted_number, accepted_total}
 
 module _ (files : List ℕ) (hs : Heads) (K : ℕ) (counts : List ℕ) (ns : Parts) where
-  pub set_up_refused : (s : Controller) (r : JudgedHeads) {f : Refusal} → JudgedAs r (set_up_judged files hs K counts ns)
-      → r.verdict ≡ judged.Refused f
-      → (judged_as r.verdict ≡ verdict_of (set_up files hs K counts ns)) × (s ≡ state_set_up s (set_up files hs K counts ns))
+  pub set_up_refused : (s : Controller) (r : Result (Unit {0}) Refusal) (f : Refusal) → IsErrAnd r (λ g. g ≡ f)
+      → set_up_judged files hs K counts ns ≡ refused_as f
+      → (answer_as r ≡ verdict_of (set_up files hs K counts ns)) × (s ≡ state_set_up s (set_up files hs K counts ns))
   unfolding set_up verdict_of
-  set_up_refused s r is e =
-      let q = refusal_stays r (set_up_judged files hs K counts ns) is e (λ cs. returned (at_start hs.blocks (head_counts counts ns) cs)) in
-      rw q.is (q.says, refl)
+  set_up_refused s r f e q = go (err_from_is_err_and {Q = λ g. g ≡ f} r e)
+    where
+      go : (g : Refusal) × (r ≡ Err g) × (g ≡ f)
+          → (answer_as r ≡ verdict_of (set_up files hs K counts ns)) × (s ≡ state_set_up s (set_up files hs K counts ns))
+      go p = rw (p.1, p.2, q) (refl, refl)
 
   module _ {cs : List Chart} (e : set_up_judged files hs K counts ns ≡ returned cs) where
     pub as_many_charts : hs.number ≡ length cs

@@ -3,7 +3,7 @@ use mathlib.Core.Path.{◌≡◌}
 use mathlib.Core.Bool.{true, false}
 use mathlib.Core.List.{List}
 use Prim.Native.Nat.{ℕ, ◌+◌, ◌≤◌, ◌<◌}
-use lib.Dec.{leb}
+use lib.Dec.{leb, eqb}
 use lib.ListN.{get_or}
 use borrow.Author.Tests.{lt-ltb, le-ltb, le-leb, lt-leb, eq-eqb, ne_eqb}
 use Rattle.model.specs.Chart.{Chart}
@@ -16,12 +16,12 @@ use Rattle.controller_model.specs.Controlling.{sound_waiting, sound_head}
 -- ---- an event that waits
 
 module _ (d : Head) where
-  pub nothing_waits : d.waiting ≡ 0 → true ≡ sound_waiting d
+  pub nothing_waits : d.waiting ≡ 0 → eqb d.waiting 0 ≡ sound_waiting d
   unfolding sound_waiting waits
   nothing_waits e = rw (eq-eqb d.waiting 0 e)
 
   module _ (w : d.waiting ≡ 0 → ⊥) where
-    pub waits_too_late : largest_time < d.waiting_time → false ≡ sound_waiting d
+    pub waits_too_late : largest_time < d.waiting_time → leb d.waiting_time largest_time ≡ sound_waiting d
     unfolding sound_waiting waits
     waits_too_late h = rw (ne_eqb d.waiting 0 w, lt-leb d.waiting_time largest_time h)
 

@@ -1,27 +1,27 @@
 -- What the head whose turn it is leaves of the state, as the code makes it, is what the definition of a turn says.
 use mathlib.Core.Path.{◌≡◌, refl, sym, ap, ap₂, subst, subst₂, ◌∙◌}
-use mathlib.Core.Bool.{true, false, not}
+use mathlib.Core.Bool.{Bool, true, false, not}
 use mathlib.Core.Option.{Option, none, some}
 use mathlib.Core.List.{List}
 use Prim.Native.Nat.{ℕ, ◌+◌, ◌%◌, ◌≤◌, min}
 use native.Mathlib.Omega.{arith}
 use lib.ListN.{length, get_or, get_elem?, set, take}
 use lib.Seq.{ext_get_or, get_or-take, length-take-le}
-use borrow.Author.Tests.{ltb-true, ltb-false, eq-eqb, ne_eqb}
+use borrow.Author.Tests.{ltb-true, lt-ltb, eq-eqb, ne_eqb}
+use lib.Dec.{ltb}
+use Rattle.std.specs.Prelude.{Result, Err, Some, None}
+use Rattle.std.specs.Result.{IsErrAnd}
+use Rattle.std.proofs.lemmas.Result.{err_from_is_err_and}
 use Rattle.lists.specs.Lists.{up_to}
 use Rattle.lists.proofs.Gather.{length_up_to, get_d_up_to}
 use Rattle.lists.proofs.Nth.{nth_below, below_nth}
-use Rattle.model.specs.Answer.{Answer, refused}
+use Rattle.model.specs.Answer.{Answer}
 use Rattle.model.specs.Chart.{Transition, Chart}
 use Rattle.model.specs.Run.{State, after, waited}
-use Rattle.model.proofs.Answers.{refused_same}
 use Rattle.refusal.specs.declared.Refusal.{Refusal}
-use Rattle.refusal.specs.Refused.{refused_as}
+use Rattle.refusal.specs.Refused.{refused_as, answer_by}
 use Rattle.chart_lists.specs.declared.Header.{Header}
 use Rattle.steps.specs.Counts.{CountsAgree}
-use Rattle.player.specs.declared.Judged.{Judged}
-use Rattle.player.specs.declared.Judged.TheVariants as judged
-use Rattle.player.specs.Playing.{judged_as}
 use Rattle.controller_model.specs.declared.Head.{Head}
 use Rattle.controller_model.specs.declared.Controller.{Controller}
 use Rattle.controller_model.specs.declared.Heads.{Heads}
@@ -33,8 +33,9 @@ use Rattle.controller_model.proofs.Turns.{turned_passes, turned_serves}
 use Rattle.heads.proofs.Blocks.{no_header}
 use Rattle.serving.specs.declared.Served.{Served}
 use Rattle.serving.specs.Served.{ServedAs}
+use Rattle.controller.specs.declared.Report.{Report}
+use Rattle.controller.specs.Answers.{report_as}
 use Rattle.controller.specs.Judged.{Ready, InTurn}
-use Rattle.controller.proofs.Judging.{RefusedAs}
 use Rattle.controller.proofs.HeadInTurn.{event_later, chart_in_turn, head_in_turn}
 
 -- whichever transition is taken, or none, the head's time is the event's
@@ -108,19 +109,27 @@ module _ {files : List ℕ} {hs : Heads} {s : Controller} {n : ℕ} {c : Chart} 
         ap₂ (λ (h : Head) (l : List ℕ). record { turn = (s.turn + 1) % hs.number; heads = set s.heads s.turn h; counts = l })
         (ap₂ standing own.location time) (q ∙ ap₂ (λ (k : ℕ) (l : List ℕ). written k l s.counts) begins front)
 
-    pub report_taken : r.taken ≡ true → taken s.turn r.transition ≡ (served hs.number hs.blocks c s.turn s).report
+    pub report_taken : {j : ℕ} → r.transition ≡ Some j → taken s.turn j ≡ (served hs.number hs.blocks c s.turn s).report
     unfolding served report_of
-    report_taken q =
-        let m = nth_below c.transitions i (ltb-true i (length c.transitions) (sym own.taken ∙ q)) in
-        ap (taken s.turn) own.transition ∙ rw (m.1, report_of) refl
+    report_taken {j} q = go (ltb i (length c.transitions)) refl
+      where
+        go : (b : Bool) → ltb i (length c.transitions) ≡ b → taken s.turn j ≡ report_of c s.turn i
+        go true g =
+            let f : Some i ≡ Some j = sym (rw g at own.transition) ∙ q in
+            let m = nth_below c.transitions i (ltb-true i (length c.transitions) g) in
+            let same : j ≡ i = cc in
+            ap (taken s.turn) same ∙ rw (m.1, report_of) refl
+        go false g = let f : None ≡ Some j = sym (rw g at own.transition) ∙ q in cc
 
-    pub report_none : r.taken ≡ false → none_taken s.turn ≡ (served hs.number hs.blocks c s.turn s).report
+    pub report_none : r.transition ≡ None → none_taken s.turn ≡ (served hs.number hs.blocks c s.turn s).report
     unfolding served report_of
     report_none q = go (get_elem? c.transitions i) refl
       where
         go : (m : Option Transition) → get_elem? c.transitions i ≡ m → none_taken s.turn ≡ report_of c s.turn i
         go none f = rw (f, report_of) refl
-        go (some v) f = absurd (omega (arith, below_nth c.transitions i f, ltb-false i (length c.transitions) (sym own.taken ∙ q)))
+        go (some v) f =
+            let g : Some i ≡ None = sym (rw (lt-ltb i (length c.transitions) (below_nth c.transitions i f)) at own.transition) ∙ q in
+            cc
 
 -- ---- a turn
 
@@ -165,7 +174,10 @@ module _ {files : List ℕ} {hs : Heads} {headers : List Header} {cs : List Char
         }
 
 -- a turn that is refused changes nothing
-pub refused_turn : (s : Controller) {v : Judged} {f : Refusal} {x : Answer Done} → RefusedAs v x → v ≡ judged.Refused f
-    → (refused_as f ≡ reported x) × (s ≡ state_after s x)
+pub refused_turn : (s : Controller) (r : Result Report Refusal) (f : Refusal) {x : Answer Done} → IsErrAnd r (λ g. g ≡ f) → x ≡ refused_as f
+    → (answer_by report_as r ≡ reported x) × (s ≡ state_after s x)
 unfolding reported
-refused_turn s q e = let same = refused_same (sym (ap judged_as e) ∙ q.says) in rw q.is (ap₂ refused same.0 same.1, refl)
+refused_turn s r f {x} e q = go (err_from_is_err_and {Q = λ g. g ≡ f} r e)
+  where
+    go : (g : Refusal) × (r ≡ Err g) × (g ≡ f) → (answer_by report_as r ≡ reported x) × (s ≡ state_after s x)
+    go p = rw (p.1, p.2, q) (refl, refl)

@@ -2,7 +2,7 @@
 use Rattle.std.specs.Prelude.{◌≡◌, true, List, ℕ, ◌+◌, ◌≤◌, ◌<◌, length, get_or}
 use mathlib.Core.Option.{some}
 use lib.ListN.{get_elem?}
-use Rattle.model.specs.Answer.{returned}
+use Rattle.model.specs.Answer.{Answer, returned}
 use Rattle.model.specs.Chart.{Chart}
 use Rattle.chart_lists.specs.declared.Header.{Header}
 use Rattle.judgement.specs.Judging.{judged_in}
@@ -12,7 +12,10 @@ use Rattle.controller_model.specs.Parts.{offset, stretch}
 use Rattle.controller_model.specs.Heads.{head_file, charts_in}
 use Rattle.controller_model.specs.Headers.{HeadersOf}
 use Rattle.controller_model.specs.Serving.{head_at, waits}
-use Rattle.controller_model.specs.Controlling.{sound_head}
+use Rattle.controller_model.specs.Serving.{Done}
+use Rattle.controller_model.specs.Controlling.{Call, sound_head, set_up, state_judged, called}
+use Rattle.controller_model.specs.declared.Parts.{Parts}
+use Rattle.heads.specs.declared.Setting.{Setting}
 
 -- charts whose timers lie in their blocks, and the blocks on a board of 64 timers
 pub record TimersFit (blocks : List ℕ) (cs : List Chart) : Type 0 where
@@ -39,3 +42,13 @@ pub record InTurn (files : List ℕ) (hs : Heads) (s : Controller) (o n : ℕ) (
   pub room : o + n ≤ 64
   pub waiting : waits (head_at s s.turn) ≡ true
   pub sound : sound_head c (head_at s s.turn) (stretch o n s.counts) ≡ true
+
+-- what the calls come to on what they are handed
+abbrev pub set_up_in : Setting → (counts : List ℕ) → Parts → Answer Controller
+set_up_in x = set_up x.files.now x.heads x.k
+
+abbrev pub state_judged_in : Setting → Controller → Answer (List Chart)
+state_judged_in x = state_judged x.files.now x.heads x.k
+
+abbrev pub called_in : Setting → Controller → Call → Answer Done
+called_in x = called x.files.now x.heads x.k

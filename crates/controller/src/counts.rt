@@ -3,16 +3,9 @@ ghost use Rattle.std.specs.Prelude.{◌≡◌, ◌+◌, ◌≤◌, length};
 ghost use Rattle.controller_model.specs.Parts.{written};
 
 // The entries over those of all counts from o on.
-pub fn write_counts(all: [u32; 64], o: usize, entries: &[u32]) -> [u32; 64]
+pub fn write_counts(all: &mut [u32; 64], o: usize, entries: &[u32])
     requires { o + length entries.now ≤ 64 }
-    ensures { result ≡ written o entries.now all }
+    ensures { all.new ≡ written o entries.now all.old }
 {
-    let n = entries.len();
-    let mut next = all;
-    let mut j: usize = 0;
-    while j < n {
-        next[o + j] = entries[j];
-        j += 1;
-    }
-    next
+    all[o..o + entries.len()].copy_from_slice(entries);
 }

@@ -11,7 +11,7 @@ ghost use Rattle.controller.specs.Judged.{CountsFit};
 use crate::counts::write_counts;
 use chart_lists::Header;
 use controller_model::{Head, MOST_HEADS, Parts};
-use heads::parts::{begin_of, end_of};
+use heads::parts::{begin_of, part_of};
 
 // A head of which nothing is said yet, or that there is not.
 const NO_HEAD: Head = Head {
@@ -27,7 +27,7 @@ fn start_head(header: Header) -> Head
     ensures { result ≡ standing header.initial 0 }
 {
     Head {
-        location: header.initial as u64,
+        location: u64::from(header.initial),
         time: 0,
         waiting: 0,
         event: 0,
@@ -41,11 +41,8 @@ pub fn start_heads(n: usize, headers: [Header; MOST_HEADS]) -> [Head; MOST_HEADS
     ensures { (cs : List Chart) → n ≡ length cs → HeadersOf cs headers → result ≡ up_to (start_head cs) 8 }
 {
     let mut heads = [NO_HEAD; MOST_HEADS];
-    let mut h: usize = 0;
-    while h < n {
-        let head = start_head(headers[h]);
-        heads[h] = head;
-        h += 1;
+    for h in 0..n {
+        heads[h] = start_head(headers[h]);
     }
     heads
 }
@@ -56,15 +53,10 @@ pub fn start_counts(counts: &[u32], parts: Parts, n: usize, blocks: [u64; MOST_H
     requires counts_fit { CountsFit blocks (head_counts counts.now parts) n }
     ensures { result ≡ start_counts blocks (head_counts counts.now parts) n }
 {
-    let lengths = parts.lengths;
     let mut all = [0u32; 64];
-    let mut h: usize = 0;
-    while h < n {
-        let begin = begin_of(counts.len(), lengths, h);
-        let end = end_of(counts.len(), begin, lengths[h]);
-        let next = write_counts(all, begin_of(64, blocks, h), &counts[begin..end]);
-        all = next;
-        h += 1;
+    for h in 0..n {
+        let part = part_of(counts, parts.lengths, h);
+        write_counts(&mut all, begin_of(64, blocks, h), part);
     }
     all
 }

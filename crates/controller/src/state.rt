@@ -16,13 +16,7 @@ use model::LARGEST_TIME;
 fn sound_waiting(head: Head) -> bool
     ensures { result ≡ sound_waiting head }
 {
-    if head.waiting == 0 {
-        return true;
-    }
-    if head.waiting_time > LARGEST_TIME {
-        return false;
-    }
-    head.time <= head.waiting_time
+    head.waiting == 0 || (head.waiting_time <= LARGEST_TIME && head.time <= head.waiting_time)
 }
 
 // Whether none of n counts from o on is over the bound.
@@ -30,14 +24,9 @@ fn sound_counts(counts: [u32; 64], o: usize, n: usize, bound: u64) -> bool
     requires { o + n ≤ 64 }
     ensures { result ≡ every_below (λ j. leb (get_or (stretch o n counts) j 0) bound) n }
 {
-    let mut j: usize = 0;
-    while j < n {
-        if counts[o + j] as u64 > bound {
-            return false;
-        }
-        j += 1;
-    }
-    true
+    counts[o..o + n]
+        .iter()
+        .all(|count| u64::from(*count) <= bound)
 }
 
 // Whether a head stands at a location of its chart, its times are allowed, and its timers, which stand from o on, show counts that are.
@@ -45,16 +34,18 @@ fn sound_head(head: Head, counts: [u32; 64], o: usize, header: Header) -> bool
     requires { o + header.timers ≤ 64 }
     ensures { (c : Chart) → header ≡ header_of c → result ≡ sound_head c head (stretch o c.timers counts) }
 {
-    if head.location >= header.locations as u64 {
+    if head.location >= u64::from(header.locations)
+        || head.time > LARGEST_TIME
+        || !sound_waiting(head)
+    {
         return false;
     }
-    if head.time > LARGEST_TIME {
-        return false;
-    }
-    if !sound_waiting(head) {
-        return false;
-    }
-    sound_counts(counts, o, header.timers as usize, head.time + LARGEST_TIME)
+    sound_counts(
+        counts,
+        o,
+        usize::from(header.timers),
+        head.time + LARGEST_TIME,
+    )
 }
 
 // Whether the turn is one of the n heads', and every head is sound.
@@ -70,15 +61,11 @@ pub fn sound_state(
     if state.turn >= n as u64 {
         return false;
     }
-    let counts = state.counts;
-    let mut h: usize = 0;
-    while h < n {
-        let head = state.heads[h];
+    for h in 0..n {
         let o = begin_of(64, blocks, h);
-        if !sound_head(head, counts, o, headers[h]) {
+        if !sound_head(state.heads[h], state.counts, o, headers[h]) {
             return false;
         }
-        h += 1;
     }
     true
 }

@@ -1,9 +1,9 @@
-// The answers of the controller's calls as C sees them, on values: a struct whose number is 0 where the call is not refused, beside the state that it
-// leaves. The exported calls stand in crate exports.
+// The answers of the controller's calls as C sees them, a struct whose number is 0 where the call is not refused. The exported calls stand in crate
+// exports.
 #![tactic(auto)]
 
 ghost use Rattle.std.specs.Prelude.{◌≡◌};
-ghost use Rattle.player.specs.Playing.{judged_as};
+ghost use Rattle.refusal.specs.Refused.{answer_as, answer_by};
 ghost use Rattle.controller_model.specs.Controlling.{
   set_up,
   event as Call·event,
@@ -15,11 +15,12 @@ ghost use Rattle.controller_model.specs.Controlling.{
   reported,
 };
 ghost use Rattle.controller.specs.Answers.{report_as};
-ghost use Rattle.controller_answers.specs.Answered.{called_of, turned_of};
+ghost use Rattle.controller_answers.specs.Answered.{called_of, turned_of, IsCalled, IsTurned};
 
 use controller::Report;
 use controller_model::{Controller, Heads, Parts};
-use player::Judged;
+use heads::Setting;
+use refusal::Refusal;
 
 // A refusal's number and place, or 0 and 0.
 #[repr(C)]
@@ -42,6 +43,65 @@ pub struct chart_turned {
     pub transition: u64,
 }
 
+// stays: C reads a number, 0 where the call is not refused (include/chart.h), and the fields of a result beside it.
+impl From<Result<(), Refusal>> for chart_called {
+    ghost from_gives = { IsCalled };
+
+    fn from(done: Result<(), Refusal>) -> chart_called {
+        match done {
+            Ok(()) => chart_called {
+                number: 0,
+                place: 0,
+            },
+            Err(f) => chart_called {
+                number: u64::from(f.reason.number()),
+                place: f.place,
+            },
+        }
+    }
+}
+
+impl From<Result<Report, Refusal>> for chart_turned {
+    ghost from_gives = { IsTurned };
+
+    fn from(done: Result<Report, Refusal>) -> chart_turned {
+        match done {
+            Ok(Report::Nothing { head }) => chart_turned {
+                number: 0,
+                place: 0,
+                head,
+                served: 0,
+                taken: 0,
+                transition: 0,
+            },
+            Ok(Report::NoneTaken { head }) => chart_turned {
+                number: 0,
+                place: 0,
+                head,
+                served: 1,
+                taken: 0,
+                transition: 0,
+            },
+            Ok(Report::Taken { head, transition }) => chart_turned {
+                number: 0,
+                place: 0,
+                head,
+                served: 1,
+                taken: 1,
+                transition,
+            },
+            Err(f) => chart_turned {
+                number: u64::from(f.reason.number()),
+                place: f.place,
+                head: 0,
+                served: 0,
+                taken: 0,
+                transition: 0,
+            },
+        }
+    }
+}
+
 // What set-up or an event comes to: the state that it leaves, and the answer.
 #[derive(Clone, Copy)]
 pub struct CallOutcome {
@@ -56,59 +116,7 @@ pub struct TurnOutcome {
     pub answer: chart_turned,
 }
 
-fn call_answer(verdict: Judged) -> chart_called
-    ensures { result ≡ called_of (judged_as verdict) }
-{
-    match verdict {
-        Judged::Passed => chart_called {
-            number: 0,
-            place: 0,
-        },
-        Judged::Refused(f) => chart_called {
-            number: f.number as u64,
-            place: f.place,
-        },
-    }
-}
-
-fn turn_answer(report: Report) -> chart_turned
-    ensures { result ≡ turned_of (report_as report) }
-{
-    match report {
-        Report::Nothing { head } => chart_turned {
-            number: 0,
-            place: 0,
-            head,
-            served: 0,
-            taken: 0,
-            transition: 0,
-        },
-        Report::NoneTaken { head } => chart_turned {
-            number: 0,
-            place: 0,
-            head,
-            served: 1,
-            taken: 0,
-            transition: 0,
-        },
-        Report::Taken { head, transition } => chart_turned {
-            number: 0,
-            place: 0,
-            head,
-            served: 1,
-            taken: 1,
-            transition,
-        },
-        Report::Refused(f) => chart_turned {
-            number: f.number as u64,
-            place: f.place,
-            head: 0,
-            served: 0,
-            taken: 0,
-            transition: 0,
-        },
-    }
-}
+// stays: the three calls on values, a form of the project's (docs/DECISIONS.md, 134); the calls for C step the state in place by them.
 
 // Set-up.
 pub fn set_up(
@@ -122,13 +130,11 @@ pub fn set_up(
     ensures answer { result.answer ≡ called_of (verdict_of (set_up files.now heads k counts.now parts)) }
     ensures state { result.state ≡ state_set_up state (set_up files.now heads k counts.now parts) }
 {
-    let done = controller::set_up(state, files, heads, k, counts, parts);
-    let after = done.state;
-    let verdict = done.verdict;
-    let answer = call_answer(verdict);
+    let mut after = state;
+    let done = controller::set_up(&mut after, Setting { files, heads, k }, counts, parts);
     CallOutcome {
         state: after,
-        answer,
+        answer: chart_called::from(done),
     }
 }
 
@@ -145,13 +151,11 @@ pub fn event(
     ensures answer { result.answer ≡ called_of (verdict_of (called files.now heads k state (Call·event head event time))) }
     ensures state { result.state ≡ state_after state (called files.now heads k state (Call·event head event time)) }
 {
-    let done = controller::event(state, files, heads, k, head, event, time);
-    let after = done.state;
-    let verdict = done.verdict;
-    let answer = call_answer(verdict);
+    let mut after = state;
+    let done = controller::event(&mut after, Setting { files, heads, k }, head, event, time);
     CallOutcome {
         state: after,
-        answer,
+        answer: chart_called::from(done),
     }
 }
 
@@ -160,12 +164,10 @@ pub fn turn(state: Controller, files: &[u8], heads: Heads, k: u32) -> TurnOutcom
     ensures answer { result.answer ≡ turned_of (reported (called files.now heads k state Call·turn)) }
     ensures state { result.state ≡ state_after state (called files.now heads k state Call·turn) }
 {
-    let done = controller::turn(state, files, heads, k);
-    let after = done.state;
-    let report = done.report;
-    let answer = turn_answer(report);
+    let mut after = state;
+    let done = controller::turn(&mut after, Setting { files, heads, k });
     TurnOutcome {
         state: after,
-        answer,
+        answer: chart_turned::from(done),
     }
 }

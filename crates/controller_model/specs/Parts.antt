@@ -5,7 +5,7 @@ use Rattle.model.specs.Answer.{Answer, returned, then}
 use Rattle.chart_lists.specs.Lists.{put}
 
 -- n entries of the list from o on; they are cut where the list ends
-unfoldable pub stretch : (o n : ℕ) → List ℕ → List ℕ
+unfoldable pub stretch : {A : Type 0} → (o n : ℕ) → List A → List A
 stretch o n l = take n (drop o l)
 
 -- where part h begins: parts of these lengths lie end to end
@@ -13,7 +13,7 @@ unfoldable pub offset : (lengths : List ℕ) → (h : ℕ) → ℕ
 offset lengths h = sum_of (take h lengths)
 
 -- part h of the list
-unfoldable pub part_of : (lengths : List ℕ) → (h : ℕ) → List ℕ → List ℕ
+unfoldable pub part_of : {A : Type 0} → (lengths : List ℕ) → (h : ℕ) → List A → List A
 part_of lengths h l = stretch (offset lengths h) (get_or lengths h 0) l
 
 -- all results, or the first refusal

@@ -4,6 +4,7 @@
 // The most heads that a controller drives.
 pub const MOST_HEADS: usize = 8;
 
+// stays: C lays a head out so (include/chart.h): a number that says whether an event waits, and the event beside it.
 // Where a head stands and at what time. If waiting is 0 no event waits at it; else the event that waits, and its time.
 #[repr(C)]
 #[derive(Clone, Copy)]
@@ -24,6 +25,7 @@ pub struct Controller {
     pub counts: [u32; 64],
 }
 
+// stays: C lays the heads out so (include/chart.h): their number, and a list of eight for each thing that is said of them.
 // How many heads there are, and of each the length of its file and the length of its block of timers.
 #[repr(C)]
 #[derive(Clone, Copy)]

@@ -1,12 +1,12 @@
 -- Each way out of a step answers as the definition does: the tests of 14, 22 and 24 are passed one by one, and the state of the code that follows
 -- shows the definition's. Hard: every fact is one of the code's state and must be read as one of the definition's.
-use Rattle.std.proofs.Common.{◌≡◌, ℕ, ◌<◌, ◌≤◌, Bool, true, false, eqb, List, length, get_or, sym, refl, ap, ◌∙◌, subst, eq-eqb, ne_eqb}
+use Rattle.std.proofs.Common.{◌≡◌, ℕ, ◌<◌, ◌≤◌, Bool, true, false, eqb, List, length, get_or, Ok, sym, refl, ◌∙◌, subst, eq-eqb, ne_eqb}
 use Rattle.model.specs.Answer.{Answer, refused}
 use Rattle.model.specs.Chart.{Transition, Chart, Nth}
 use Rattle.model.specs.Run.{Counts, enabled}
 use Rattle.chart_lists.specs.Lists.{Lists}
 use Rattle.chart_lists.specs.Holds.{Holds}
-use Rattle.steps.specs.declared.Verdict.TheVariants as verdict
+use Rattle.steps.specs.Stepping.{Decided}
 use Rattle.steps.specs.Counts.{CountsAgree, MovedOn}
 use Rattle.steps.proofs.TransitionPlaces.{TransitionAt, no_transition, some_transition, transition_at}
 use Rattle.steps.proofs.MovedCounts.{started_agrees}
@@ -14,18 +14,13 @@ use Rattle.counter_model.specs.Counter.{ticks_passed}
 use Rattle.counter_model.specs.CounterRun.{CounterState, counts_at, counter_after, counter_attempt}
 use Rattle.counter_model.proofs.AddedUp.{counter_none, counter_some}
 use Rattle.counter_player.specs.declared.stepping.State.{State}
-use Rattle.counter_player.specs.declared.stepping.Stepped.{Stepped}
 use Rattle.counter_player.specs.Counts.{Risen}
-use Rattle.counter_player.specs.Stepping.{Shows, refused_at, Answered}
+use Rattle.counter_player.specs.Stepping.{Shows}
 use Rattle.counter_player.proofs.RisenCounts.{risen_agrees}
 
 -- the state after a step
 abbrev pub next_state : (target last : ℕ) → List ℕ → State
 next_state q t v = record { location = q; last = t; counts = v }
-
--- a refusal of the code for one of the definition
-pub refused_as_lem : (k n : ℕ) (x : State) (z : Stepped) (y : Answer CounterState) → z ≡ refused_at k n x → y ≡ refused k n → Answered z y
-refused_as_lem k n x z y e f = subst (Answered z) (sym f) (ap (λ (q : Stepped). q.verdict) e)
 
 module _ {c : Chart} {l : Lists} (held : Holds c l) (k i reading : ℕ) (x : State) (s : CounterState) (w : Shows x s) where
   abbrev told : Answer CounterState
@@ -64,8 +59,8 @@ module _ {c : Chart} {l : Lists} (held : Holds c l) (k i reading : ℕ) (x : Sta
       attempt_24 f = counter_some c k s i reading nth ∙ rw (leaves, passed, f) refl
 
       pub attempt_taken : m ≡ true → (v : List ℕ) → MovedOn (get_or l.starts i 0) 0 g v
-          → Answered (record { verdict = verdict.Taken; state = next_state (get_or l.targets i 0) reading v }) told
+          → Decided Shows (Ok (next_state (get_or l.targets i 0) reading v)) told
       unfolding counter_after
       attempt_taken f v starting =
           let counts = started_agrees (get_or l.starts i 0) g v _ r.starts at.started agrees starting in
-          rw (counter_some c k s i reading nth, leaves, passed, f) (refl, record { location = at.target; last = refl; counts = counts })
+          rw (counter_some c k s i reading nth, leaves, passed, f) (record { location = at.target; last = refl; counts = counts })

@@ -6,17 +6,18 @@ ghost use Rattle.counter_player.specs.Counts.{Risen};
 use counter_model::MOST_COUNT;
 
 // The counter's reading now less that at the last step, with the wrap.
+#[tactic(auto, unfolding(counter_model::specs::Counter::ticks_passed))]
 pub fn ticks_passed(last: u16, reading: u16) -> u16
     ensures { result ≡ ticks_passed last reading }
 {
-    std::num::wrapping_sub_u16(reading, last)
+    reading.wrapping_sub(last)
 }
 
 // One count grown by the ticks that passed; it stops rising at 65,536.
 fn risen_count(count: u32, passed: u16) -> u32
     ensures { result ≡ min (count + passed) most_count }
 {
-    let ticks = passed as u32;
+    let ticks = u32::from(passed);
     if count > MOST_COUNT - ticks {
         return MOST_COUNT;
     }
@@ -24,14 +25,13 @@ fn risen_count(count: u32, passed: u16) -> u32
 }
 
 // All 64 counts, each grown so.
+// stays: beside steps::counts::grown, whose sums the caller bounds; one form of both needs a closure with a requires, longer than the two loops
 pub fn risen(counts: [u32; 64], passed: u16) -> [u32; 64]
     ensures { Risen passed counts result }
 {
     let mut next = counts;
-    let mut j: usize = 0;
-    while j < 64 {
-        next[j] = risen_count(next[j], passed);
-        j += 1;
+    for count in next.iter_mut() {
+        *count = risen_count(*count, passed);
     }
     next
 }

@@ -23,8 +23,8 @@ use Rattle.file_format.proofs.Lengths.{largest_file_lem}
 use Rattle.chart_lists.specs.Lists.{overwritten}
 use Rattle.chart_lists.proofs.Begins.{begins_put, begins_take, begins_room}
 use Rattle.rewriting.specs.Rewriting.{new_file, RewritingValues, values_of, rewrite_into, rewrite_answer}
-use Rattle.player.specs.Playing.{play_answer, played_as}
-use Rattle.equivalence.specs.Both.{Claim, board_answer, board_as}
+use Rattle.player.specs.Playing.{play_answer}
+use Rattle.equivalence.specs.Both.{Claim, board_answer, drawn_as, board_as}
 use Rattle.equivalence.specs.declared.Both.{Both}
 use Rattle.equivalence.proofs.DemandHolds.{first_fit_plays}
 
@@ -48,7 +48,7 @@ module _ (K : ℕ) where
       go (refused n p) e = refl
 
 -- the two answers are all that the claim asks: that they are equal is the law on files
-pub claim_of : (K : ℕ) (bs v w is ts : List ℕ) (r : Both) → Bytes bs → played_as r.drawn ≡ play_answer bs v is ts
+pub claim_of : (K : ℕ) (bs v w is ts : List ℕ) (r : Both) → Bytes bs → drawn_as r.drawn ≡ play_answer bs v is ts
     → board_as r.board ≡ board_answer K bs w is ts → Claim K bs v w is ts r
 unfolding board_answer
 claim_of K bs v w is ts r bytes d b = record {

@@ -10,7 +10,8 @@ use Rattle.model.specs.Cases.Reply.{sets, given, count, rewriting_is, played_is}
 use Rattle.file_format.specs.File.{file_of}
 use Rattle.file_format.specs.Lengths.{largest_file}
 use Rattle.chart_lists.specs.Lists.{overwritten}
-use Rattle.analysis.specs.Analysing.{AnalysisValues, analysed_sets, analysed_in, analyse_answer}
+use Rattle.analysis.specs.declared.Analysis.{Analysis}
+use Rattle.analysis.specs.Analysing.{analysed_sets, analysed_in, analyse_answer}
 use Rattle.rewriting.specs.Rewriting.{rewrite_into}
 use Rattle.player.specs.Playing.{play_answer}
 
@@ -19,7 +20,7 @@ unfoldable pub analysed_list : Chart → List ℕ
 analysed_list c = overwritten analysed_sets (analysed_in c.locations (file_of c)) (replicate c.locations 7)
 
 -- a reply by the values that the analysis answers; a refused chart has none
-abbrev pub of_values : Chart → (AnalysisValues → Reply) → Answer AnalysisValues → Reply
+abbrev pub of_values : Chart → (Analysis → Reply) → Answer Analysis → Reply
 of_values c reply (returned f) = reply f
 of_values c reply (refused n p) = sets (analysed_list c)
 

@@ -2,28 +2,37 @@
 // points' definitions on files, stand in specs/OnFiles.
 #![tactic(auto)]
 
-ghost use Rattle.equivalence.specs.Both.{Claim};
+ghost use Rattle.std.specs.Prelude.{◌≡◌};
+ghost use Rattle.equivalence.specs.Both.{board_answer, board_as, Claim};
 
 use file_format::LARGEST_FILE;
-use player::Played;
+use player::Arrival;
 use refusal::Refusal;
-use rewriting::Rewritten;
 
-// What the player answers on the rewritten file, or why there is none.
-#[derive(Clone, Copy)]
-pub enum Board {
-    Played(Played),
-    NotRewritten(Refusal),
-}
-
-// Both answers.
+// What the player answers on the file, and on the rewritten file, or why there is none.
 #[derive(Clone, Copy)]
 pub struct Both {
-    pub drawn: Played,
-    pub board: Board,
+    pub drawn: Result<Arrival, Refusal>,
+    pub board: Result<Result<Arrival, Refusal>, Refusal>,
 }
 
-// Plays the steps on the file, rewrites it for a board of k timers, and plays them on the rewritten file.
+// Rewrites the file for a board of k timers, and plays the steps on the rewritten file.
+fn play_rewritten(
+    file: &[u8],
+    k: u32,
+    board_counts: &[u32],
+    transitions: &[u32],
+    times: &[u64],
+) -> Result<Result<Arrival, Refusal>, Refusal>
+    ensures { board_as result ≡ board_answer k file.now board_counts.now transitions.now times.now }
+{
+    let mut out = [0u8; LARGEST_FILE];
+    let rewriting = rewriting::rewrite(file, k, &mut out)?;
+    let board_file = &out[..rewriting.length];
+    Ok(player::play(board_file, board_counts, transitions, times))
+}
+
+// Plays the steps on the file and on the file that it is rewritten to.
 pub fn rewrite_and_play(
     file: &[u8],
     k: u32,
@@ -36,19 +45,6 @@ pub fn rewrite_and_play(
         transitions.now times.now result }
 {
     let drawn = player::play(file, counts, transitions, times);
-    let mut out = [0u8; LARGEST_FILE];
-    let a = rewriting::rewrite(file, k, &mut out);
-    match a {
-        Rewritten::Refused(f) => Both {
-            drawn,
-            board: Board::NotRewritten(f),
-        },
-        Rewritten::File { used: _, length } => {
-            let board_file = &out[..length];
-            Both {
-                drawn,
-                board: Board::Played(player::play(board_file, board_counts, transitions, times)),
-            }
-        }
-    }
+    let board = play_rewritten(file, k, board_counts, transitions, times);
+    Both { drawn, board }
 }

@@ -3,13 +3,12 @@ ghost use Rattle.std.specs.Prelude.{◌≡◌, length};
 ghost use Rattle.file_format.specs.File.{file_of};
 ghost use Rattle.chart_lists.specs.Lists.{overwritten};
 ghost use Rattle.chart_lists.specs.Lent.{at_entry, mut_at_entry, at_exit};
-ghost use Rattle.chart_lists.specs.Read.{read_as};
 ghost use Rattle.reader.specs.Reading.{read_into, read_answer, lists_after};
 ghost use Rattle.writer.specs.Writing.{write_into, write_answer};
-ghost use Rattle.exports.specs.Exported.{reading_of, writing_of, header_with};
+ghost use Rattle.exports.specs.Exported.{reading_of, writing_of, header_with, IsReading, IsWriting};
 
-use chart_lists::{Header, Read};
-use writer::Written;
+use chart_lists::{ChartLists, Header};
+use refusal::Refusal;
 
 // A refusal's number and place, or 0 and 0 with the chart's header: its version, numbers of locations, timers, accepting locations and transitions,
 // and its initial location.
@@ -35,35 +34,37 @@ pub struct chart_writing {
     pub length: u64,
 }
 
-// What reading a chart file gives, as C sees it.
-fn reading(a: Read) -> chart_reading
-    ensures { result ≡ reading_of (read_as a) }
-{
-    match a {
-        Read::Chart(h) => chart_reading {
-            number: 0,
-            place: 0,
-            version: h.version as u64,
-            locations: h.locations as u64,
-            initial: h.initial as u64,
-            timers: h.timers as u64,
-            accepting: h.accepting as u64,
-            transitions: h.transitions as u64,
-        },
-        Read::Refused(f) => chart_reading {
-            number: f.number as u64,
-            place: f.place,
-            version: 0,
-            locations: 0,
-            initial: 0,
-            timers: 0,
-            accepting: 0,
-            transitions: 0,
-        },
+impl From<Result<Header, Refusal>> for chart_reading {
+    ghost from_gives = { IsReading };
+
+    fn from(answer: Result<Header, Refusal>) -> chart_reading {
+        match answer {
+            Ok(a) => chart_reading {
+                number: 0,
+                place: 0,
+                version: u64::from(a.version),
+                locations: u64::from(a.locations),
+                initial: u64::from(a.initial),
+                timers: u64::from(a.timers),
+                accepting: u64::from(a.accepting),
+                transitions: u64::from(a.transitions),
+            },
+            Err(f) => chart_reading {
+                number: u64::from(f.reason.number()),
+                place: f.place,
+                version: 0,
+                locations: 0,
+                initial: 0,
+                timers: 0,
+                accepting: 0,
+                transitions: 0,
+            },
+        }
     }
 }
 
 // The chart of a file in the lent lists, over their fronts.
+// stays: C hands each list over as a pointer and a length (include/chart.h).
 #[unsafe(no_mangle)]
 pub extern "C" fn chart_read(
     file: &[u8],
@@ -83,7 +84,7 @@ pub extern "C" fn chart_read(
         ≡ lists_after (read_into (mut_at_entry accepting sources targets events starts test_counts timers codes constants) file.now)
         (mut_at_entry accepting sources targets events starts test_counts timers codes constants) }
 {
-    let a = reader::read_chart(
+    chart_reading::from(reader::read_chart(
         file,
         accepting,
         sources,
@@ -94,11 +95,30 @@ pub extern "C" fn chart_read(
         timers,
         codes,
         constants,
-    );
-    reading(a)
+    ))
+}
+
+impl From<Result<usize, Refusal>> for chart_writing {
+    ghost from_gives = { IsWriting };
+
+    fn from(answer: Result<usize, Refusal>) -> chart_writing {
+        match answer {
+            Ok(n) => chart_writing {
+                number: 0,
+                place: 0,
+                length: n as u64,
+            },
+            Err(f) => chart_writing {
+                number: u64::from(f.reason.number()),
+                place: f.place,
+                length: 0,
+            },
+        }
+    }
 }
 
 // The file of the chart that stands in the lists, over the front of the buffer.
+// stays: C hands each list over as a pointer and a length (include/chart.h).
 #[unsafe(no_mangle)]
 pub extern "C" fn chart_write<'a>(
     version: u8,
@@ -135,29 +155,19 @@ pub extern "C" fn chart_write<'a>(
         accepting: accepting_count,
         transitions: transition_count,
     };
-    let a = writer::write(
+    chart_writing::from(writer::write(
         header,
-        accepting,
-        sources,
-        targets,
-        events,
-        starts,
-        test_counts,
-        timers,
-        codes,
-        constants,
+        ChartLists {
+            accepting,
+            sources,
+            targets,
+            events,
+            starts,
+            test_counts,
+            timers,
+            codes,
+            constants,
+        },
         out,
-    );
-    match a {
-        Written::File(n) => chart_writing {
-            number: 0,
-            place: 0,
-            length: n as u64,
-        },
-        Written::Refused(f) => chart_writing {
-            number: f.number as u64,
-            place: f.place,
-            length: 0,
-        },
-    }
+    ))
 }

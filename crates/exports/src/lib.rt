@@ -18,16 +18,26 @@ ghost use Rattle.controller_model.specs.Controlling.{
   reported,
 };
 ghost use Rattle.controller_answers.specs.Answered.{called_of, turned_of};
-ghost use Rattle.exports.specs.Exported.{analysis_of, rewriting_of, playing_of, counter_playing_of};
+ghost use Rattle.exports.specs.Exported.{
+  analysis_of,
+  rewriting_of,
+  playing_of,
+  counter_playing_of,
+  IsAnalysis,
+  IsRewriting,
+  IsPlaying,
+  IsCounterPlaying,
+};
 
 mod files;
 
 use analysis::Analysis;
 use controller_answers::{chart_called, chart_turned};
 use controller_model::{Controller, Heads, Parts};
-use counter_player::CounterPlayed;
-use player::Played;
-use rewriting::Rewritten;
+use counter_player::CounterArrival;
+use player::Arrival;
+use refusal::Refusal;
+use rewriting::Rewriting;
 
 // A refusal's number and place, or 0 and 0 with used and floor; searched is 1 where floor is the smallest number of timers of any plan, else 0;
 // rounds is how many rounds find the live sets.
@@ -73,6 +83,32 @@ pub struct chart_counter_playing {
     pub accepting: u64,
 }
 
+// stays: C reads a number, 0 where there is no refusal (include/chart.h), and the fields of a result beside it.
+impl From<Result<Analysis, Refusal>> for chart_analysis {
+    ghost from_gives = { IsAnalysis };
+
+    fn from(answer: Result<Analysis, Refusal>) -> chart_analysis {
+        match answer {
+            Ok(a) => chart_analysis {
+                number: 0,
+                place: 0,
+                used: u64::from(a.used),
+                floor: u64::from(a.floor),
+                searched: u64::from(a.searched),
+                rounds: u64::from(a.rounds),
+            },
+            Err(f) => chart_analysis {
+                number: u64::from(f.reason.number()),
+                place: f.place,
+                used: 0,
+                floor: 0,
+                searched: 0,
+                rounds: 0,
+            },
+        }
+    }
+}
+
 // The analysis of a chart file; the live sets go over the front of the list.
 #[unsafe(no_mangle)]
 pub extern "C" fn chart_analyse(file: &[u8], live: &mut [u64]) -> chart_analysis
@@ -80,29 +116,27 @@ pub extern "C" fn chart_analyse(file: &[u8], live: &mut [u64]) -> chart_analysis
     ensures lent { live.new
         ≡ overwritten analysed_sets (analysed_in (length live.old) file.now) live.old }
 {
-    let a = analysis::analyse(file, live);
-    match a {
-        Analysis::Found {
-            used,
-            floor,
-            searched,
-            rounds,
-        } => chart_analysis {
-            number: 0,
-            place: 0,
-            used: used as u64,
-            floor: floor as u64,
-            searched: searched as u64,
-            rounds: rounds as u64,
-        },
-        Analysis::Refused(f) => chart_analysis {
-            number: f.number as u64,
-            place: f.place,
-            used: 0,
-            floor: 0,
-            searched: 0,
-            rounds: 0,
-        },
+    chart_analysis::from(analysis::analyse(file, live))
+}
+
+impl From<Result<Rewriting, Refusal>> for chart_rewriting {
+    ghost from_gives = { IsRewriting };
+
+    fn from(answer: Result<Rewriting, Refusal>) -> chart_rewriting {
+        match answer {
+            Ok(a) => chart_rewriting {
+                number: 0,
+                place: 0,
+                used: u64::from(a.used),
+                length: a.length as u64,
+            },
+            Err(f) => chart_rewriting {
+                number: u64::from(f.reason.number()),
+                place: f.place,
+                used: 0,
+                length: 0,
+            },
+        }
     }
 }
 
@@ -113,20 +147,29 @@ pub extern "C" fn chart_rewrite(file: &[u8], k: u32, out: &mut [u8]) -> chart_re
     ensures lent { out.new
         ≡ overwritten new_file (rewrite_into k (length out.old) file.now) out.old }
 {
-    let a = rewriting::rewrite(file, k, out);
-    match a {
-        Rewritten::File { used, length } => chart_rewriting {
-            number: 0,
-            place: 0,
-            used: used as u64,
-            length: length as u64,
-        },
-        Rewritten::Refused(f) => chart_rewriting {
-            number: f.number as u64,
-            place: f.place,
-            used: 0,
-            length: 0,
-        },
+    chart_rewriting::from(rewriting::rewrite(file, k, out))
+}
+
+impl From<Result<Arrival, Refusal>> for chart_playing {
+    ghost from_gives = { IsPlaying };
+
+    fn from(answer: Result<Arrival, Refusal>) -> chart_playing {
+        match answer {
+            Ok(a) => chart_playing {
+                number: 0,
+                place: 0,
+                location: u64::from(a.location),
+                time: a.time,
+                accepting: u64::from(a.accepting),
+            },
+            Err(f) => chart_playing {
+                number: u64::from(f.reason.number()),
+                place: f.place,
+                location: 0,
+                time: 0,
+                accepting: 0,
+            },
+        }
     }
 }
 
@@ -140,26 +183,27 @@ pub extern "C" fn chart_play(
 ) -> chart_playing
     ensures { result ≡ playing_of (play_answer file.now counts.now transitions.now times.now) }
 {
-    let a = player::play(file, counts, transitions, times);
-    match a {
-        Played::Arrived {
-            location,
-            time,
-            accepting,
-        } => chart_playing {
-            number: 0,
-            place: 0,
-            location: location as u64,
-            time,
-            accepting: accepting as u64,
-        },
-        Played::Refused(f) => chart_playing {
-            number: f.number as u64,
-            place: f.place,
-            location: 0,
-            time: 0,
-            accepting: 0,
-        },
+    chart_playing::from(player::play(file, counts, transitions, times))
+}
+
+impl From<Result<CounterArrival, Refusal>> for chart_counter_playing {
+    ghost from_gives = { IsCounterPlaying };
+
+    fn from(answer: Result<CounterArrival, Refusal>) -> chart_counter_playing {
+        match answer {
+            Ok(end) => chart_counter_playing {
+                number: 0,
+                place: 0,
+                location: u64::from(end.location),
+                accepting: u64::from(end.accepting),
+            },
+            Err(f) => chart_counter_playing {
+                number: u64::from(f.reason.number()),
+                place: f.place,
+                location: 0,
+                accepting: 0,
+            },
+        }
     }
 }
 
@@ -175,24 +219,8 @@ pub extern "C" fn chart_play_counter(
     ensures answer { result
         ≡ counter_playing_of (counter_answer file.now counts.now transitions.now first readings.now) }
 {
-    let a = counter_player::play_counter(file, counts, transitions, first, readings);
-    match a {
-        CounterPlayed::Arrived {
-            location: end,
-            accepting: accepts,
-        } => chart_counter_playing {
-            number: 0,
-            place: 0,
-            location: end as u64,
-            accepting: accepts as u64,
-        },
-        CounterPlayed::Refused(f) => chart_counter_playing {
-            number: f.number as u64,
-            place: f.place,
-            location: 0,
-            accepting: 0,
-        },
-    }
+    let played = counter_player::play_counter(file, counts, transitions, first, readings);
+    chart_counter_playing::from(played)
 }
 
 // A controller is set up, in place.

@@ -1,16 +1,17 @@
 -- The links with timers that a loop over the transitions stores, one after another.
 use mathlib.Core.Path.{◌≡◌, refl, sym, ap, ◌∙◌, subst}
 use mathlib.Core.Logic.{◌⊎◌, inl, inr}
-use mathlib.Core.List.{List}
+use mathlib.Core.List.{List, [], ◌∷◌, ◌++◌}
 use Prim.Native.Nat.{ℕ, ◌+◌, ◌≤◌, ◌<◌}
 use native.Mathlib.Decide.{ℕ_discrete}
 use native.Mathlib.Omega.{arith}
-use lib.ListN.{length, get_or, set, take}
-use lib.Seq.{length-take-le, get_or-take, get_or-set_same, get_or-set_other}
+use lib.ListN.{length, get_or, length-append, get_or-append}
+use lib.Seq.{get_or-append_seam}
 use Rattle.timer_set.specs.Members.{common, minus}
 use Rattle.model.specs.Family.{Link}
 use Rattle.families.specs.Pairs.{link_at, pairs_of, SafeTransitions}
-use Rattle.families.specs.Propagation.{link_on, LinkLists, Ends}
+use Rattle.families.specs.Propagation.{no_link, link_on, LinkLists, Ends}
+use Rattle.families.specs.declared.links.Link.{Link as StoredLink}
 use Rattle.lists.specs.Elements.{Element}
 use Rattle.families.proofs.CodePairs.{link_in, link_out}
 
@@ -59,65 +60,41 @@ module _ {link on : ℕ → Link} {i count : ℕ} (x : Found link on i count) wh
       go k h (yes e) = (i, omega arith, ap on' e ∙ here)
       go k h (no n) = let b : k < count = omega arith in earlier on' k b (same k b)
 
--- ---- links on lists
+-- ---- links on a list
 
-module _ (sources targets starts live ones others linked : List ℕ) {i count : ℕ}
-    (x : Found (link_at sources targets starts live) (link_on ones others linked) i count) (t : ℕ)
-    (its : t ≡ minus (common (get_or live (get_or sources i 0) 0) (get_or live (get_or targets i 0) 0)) (get_or starts i 0)) where
-  pub lists_skip : t ≡ 0 → Found (link_at sources targets starts live) (link_on ones others linked) (i + 1) count
+module _ (sources targets starts live : List ℕ) (links : List StoredLink) {i : ℕ}
+    (x : Found (link_at sources targets starts live) (link_on links) i (length links)) (link : StoredLink)
+    (one_is : link.one ≡ get_or sources i 0) (other_is : link.other ≡ get_or targets i 0)
+    (timers_are : link.timers.bits
+    ≡ minus (common (get_or live (get_or sources i 0) 0) (get_or live (get_or targets i 0) 0)) (get_or starts i 0)) where
+  pub list_skip : link.timers.bits ≡ 0 → Found (link_at sources targets starts live) (link_on links) (i + 1) (length links)
   unfolding link_at
-  lists_skip e = found_skip x (sym its ∙ e)
+  list_skip e = found_skip x (sym timers_are ∙ e)
 
-  pub lists_more : count < length ones → count < length others → count < length linked
-      → Found (link_at sources targets starts live)
-      (link_on (set ones count (get_or sources i 0)) (set others count (get_or targets i 0)) (set linked count t)) (i + 1) (count + 1)
+  pub list_more : Found (link_at sources targets starts live) (link_on (links ++ link ∷ [])) (i + 1) (length (links ++ link ∷ []))
   unfolding link_on link_at
-  lists_more ha hb hc = found_more x _ (λ k h. let ne : k ≡ count → ⊥ = λ e. omega arith in λ n. record {
-    one = get_or-set_other ones count k (get_or sources i 0) 0 ne n;
-    other = get_or-set_other others count k (get_or targets i 0) 0 ne n;
-    timers = get_or-set_other linked count k t 0 ne n;
-  }) (λ n. record {
-    one = get_or-set_same ones count (get_or sources i 0) 0 ha n;
-    other = get_or-set_same others count (get_or targets i 0) 0 hb n;
-    timers = (get_or-set_same linked count t 0 hc ∙ its) n;
-  })
+  list_more = rw (length-append links (link ∷ [])) (found_more x (link_on (links ++ link ∷ []))
+      (λ k h. ap as_link (get_or-append links (link ∷ []) no_link k h))
+      (ap as_link (get_or-append_seam links link [] no_link) ∙ λ n. record { one = one_is n; other = other_is n; timers = timers_are n }))
+    where
+      as_link : StoredLink → Link
+      as_link l = record { one = l.one; other = l.other; timers = l.timers.bits }
 
--- ---- the fronts of the lists
+-- ---- all transitions are looked at
 
-module _ {sources targets starts live : List ℕ} {timers : ℕ} (fit : SafeTransitions sources targets starts live timers) {i count : ℕ}
-    (ones others linked : List ℕ)
-    (end : i ≡ length sources) (x : Found (link_at sources targets starts live) (link_on ones others linked) i count)
-    (ha : count ≤ length ones) (hb : count ≤ length others) (hc : count ≤ length linked) where
-  abbrev front : ℕ → Link
-  front = link_on (take count ones) (take count others) (take count linked)
-
-  long : length (take count ones) ≡ count
-  long = length-take-le count ones ha
-
-  same : (k : ℕ) → k < count → front k ≡ link_on ones others linked k
-  unfolding link_on
-  same k h = λ n. record { one = get_or-take count ones k 0 h n; other = get_or-take count others k 0 h n; timers = get_or-take count linked k 0 h n }
-
-  at : (k : ℕ) → k < length (take count ones) → (m : ℕ) × (m < length sources) × (front k ≡ link_at sources targets starts live m)
-  at k h = let b : k < count = omega (arith, long) in let y = x.each k b in (y.0, omega (arith, y.1, end), same k b ∙ y.2)
-
-  pub found_links : LinkLists (pairs_of sources targets starts live timers) (take count ones) (take count others) (take count linked)
+module _ {sources targets starts live : List ℕ} {timers : ℕ} (fit : SafeTransitions sources targets starts live timers) (links : List StoredLink)
+    (x : Found (link_at sources targets starts live) (link_on links) (length sources) (length links)) where
+  pub found_links : LinkLists (pairs_of sources targets starts live timers) links
   found_links = record {
-    others_long = length-take-le count others hb ∙ sym long;
-    linked_long = length-take-le count linked hc ∙ sym long;
-    each = λ k h.
-        let y = at k h in
+    each = λ k h. let y = x.each k h in
         subst (λ (l : Link). Element (pairs_of sources targets starts live timers).links l) (sym y.2) (link_in fit y.0 y.1);
-    all = λ n l e. let y = link_out fit n l e in subst (Stored front (length (take count ones))) y.2
-        (stored_more (link_on ones others linked) front count _ _ (omega (arith, long)) same (x.all y.0 (omega (arith, y.1, end))));
+    all = λ n l e. let y = link_out fit n l e in subst (Stored (link_on links) (length links)) y.2 (x.all y.0 y.1);
   }
 
-  pub found_ends : Ends (length live) (take count ones) (take count others) (take count linked)
+  pub found_ends : Ends (length live) links
   unfolding link_on link_at
   found_ends = record {
-    others_long = length-take-le count others hb ∙ sym long;
-    linked_long = length-take-le count linked hc ∙ sym long;
     few_locations = fit.few_locations;
-    one_below = λ k h. let y = at k h in rw (ap (λ (l : Link). l.one) y.2) (fit.source_below y.0 y.1);
-    other_below = λ k h. let y = at k h in rw (ap (λ (l : Link). l.other) y.2) (fit.target_below y.0 y.1);
+    one_below = λ k h. let y = x.each k h in rw (ap (λ (l : Link). l.one) y.2) (fit.source_below y.0 y.1);
+    other_below = λ k h. let y = x.each k h in rw (ap (λ (l : Link). l.other) y.2) (fit.target_below y.0 y.1);
   }

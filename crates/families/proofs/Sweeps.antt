@@ -11,12 +11,13 @@ use Rattle.lists.specs.Lists.{sum_of}
 use Rattle.lists.proofs.Sums.{sum_small}
 use Rattle.timer_set.specs.Members.{joined}
 use Rattle.timer_set.proofs.Members.{joined_lt, common_lt}
-use Rattle.families.specs.Propagation.{Ends, EndsAgree, JoinedEnds, Joins, Swept, EmptyFrom, join_along}
+use Rattle.families.specs.Propagation.{one_on, other_on, timers_on, Ends, EndsAgree, JoinedEnds, Joins, Swept, EmptyFrom, join_along}
 use Rattle.families.specs.Propagation.Joins.{none, more}
+use Rattle.families.specs.declared.links.Link.{Link as StoredLink}
 use Rattle.families.proofs.Growth.{either, join_long, join_all}
 
-pub ends_long : {ones others linked : List ℕ} {m n : ℕ} → m ≡ n → Ends m ones others linked → Ends n ones others linked
-ends_long {ones} {others} {linked} e x = subst (λ (k : ℕ). Ends k ones others linked) e x
+pub ends_long : {links : List StoredLink} {m n : ℕ} → m ≡ n → Ends m links → Ends n links
+ends_long {links} e x = subst (λ (k : ℕ). Ends k links) e x
 
 -- a set alone, and joins along a link, leave the sets empty that are past it and past both the link's ends
 pub empty_alone : (sets : List ℕ) (q v : ℕ) → q < length sets → ((s : ℕ) → get_or sets s 0 ≡ 0) → EmptyFrom (q + 1) (set sets q v)
@@ -38,17 +39,13 @@ pub empty_past : (one other timers : ℕ) {end r : ℕ} {sets after : List ℕ} 
 unfolding join_along
 empty_past one other timers x e m h l = rw e (empty_both one other _ _ x m h l)
 
-module _ (ones others linked : List ℕ) where
-  pub swept_none : (sets : List ℕ) → Swept ones others linked 0 sets sets false
+module _ (links : List StoredLink) where
+  pub swept_none : (sets : List ℕ) → Swept links 0 sets sets false
   swept_none sets = record { joins = none; same = λ _. (refl, λ k h. absurd (omega arith)); grows = λ t. absurd (true≢false (sym t)) }
 
-  pub swept_end : {k n : ℕ} {start sets : List ℕ} {grew : Bool} → k ≡ n → Swept ones others linked k start sets grew
-      → Swept ones others linked n start sets grew
-  swept_end {start = start} {sets = sets} {grew = grew} e x = subst (λ (k : ℕ). Swept ones others linked k start sets grew) e x
-
-  module _ {k : ℕ} (below : k < length ones) {start sets after : List ℕ} {grew r : Bool} (x : Swept ones others linked k start sets grew)
-      (j : JoinedEnds sets (get_or ones k 0) (get_or others k 0) (get_or linked k 0) after r) where
-    pub swept_grew : r ≡ true → Swept ones others linked (k + 1) start after true
+  module _ {k : ℕ} (below : k < length links) {start sets after : List ℕ} {grew r : Bool} (x : Swept links k start sets grew)
+      (j : JoinedEnds sets (one_on links k) (other_on links k) (timers_on links k) after r) where
+    pub swept_grew : r ≡ true → Swept links (k + 1) start after true
     swept_grew e = let g = j.grew e in record {
       joins = rw g.0 (more k below x.joins);
       same = λ t. absurd (true≢false t);
@@ -59,48 +56,48 @@ module _ (ones others linked : List ℕ) where
         go true t h = omega (arith, x.grows t, h)
         go false t h = omega (arith, ap sum_of (x.same t).0, h)
 
-    pub swept_same : r ≡ false → Swept ones others linked (k + 1) start after grew
+    pub swept_same : r ≡ false → Swept links (k + 1) start after grew
     swept_same e = let s = j.same e in record {
       joins = rw s.0 x.joins;
       same = λ t. (s.0 ∙ (x.same t).0, λ i h. rw s.0 (go i h (ℕ_discrete i k) (x.same t).1 s.1));
       grows = λ t. rw s.0 (x.grows t);
     }
       where
-        go : (i : ℕ) → i < k + 1 → Dec (i ≡ k) → ((i : ℕ) → i < k → EndsAgree sets (get_or ones i 0) (get_or others i 0) (get_or linked i 0))
-            → EndsAgree sets (get_or ones k 0) (get_or others k 0) (get_or linked k 0)
-            → EndsAgree sets (get_or ones i 0) (get_or others i 0) (get_or linked i 0)
+        go : (i : ℕ) → i < k + 1 → Dec (i ≡ k) → ((i : ℕ) → i < k → EndsAgree sets (one_on links i) (other_on links i) (timers_on links i))
+            → EndsAgree sets (one_on links k) (other_on links k) (timers_on links k)
+            → EndsAgree sets (one_on links i) (other_on links i) (timers_on links i)
         go i h (yes p) before here = rw p here
         go i h (no n) before here = before i (omega arith)
 
   -- ---- what joins keep
 
-  pub joins_trans : {l m n : List ℕ} → Joins ones others linked l m → Joins ones others linked m n → Joins ones others linked l n
+  pub joins_trans : {l m n : List ℕ} → Joins links l m → Joins links m n → Joins links l n
   joins_trans x none = x
   joins_trans x (more k h y) = more k h (joins_trans x y)
 
   -- each link hands on what holds of the sets at its two ends
   pub record Steps (P : ℕ → ℕ → Type 0) : Type 0 where
-    pub at_one : (k : ℕ) → k < length ones → (a b : ℕ) → P (get_or ones k 0) a → P (get_or others k 0) b
-        → P (get_or ones k 0) (joined a (either a b (get_or linked k 0)))
-    pub at_other : (k : ℕ) → k < length ones → (a b : ℕ) → P (get_or ones k 0) a → P (get_or others k 0) b
-        → P (get_or others k 0) (joined b (either a b (get_or linked k 0)))
+    pub at_one : (k : ℕ) → k < length links → (a b : ℕ) → P (one_on links k) a → P (other_on links k) b
+        → P (one_on links k) (joined a (either a b (timers_on links k)))
+    pub at_other : (k : ℕ) → k < length links → (a b : ℕ) → P (one_on links k) a → P (other_on links k) b
+        → P (other_on links k) (joined b (either a b (timers_on links k)))
 
-  module _ {l : List ℕ} (ends : Ends (length l) ones others linked) where
-    pub joins_long : {m : List ℕ} → Joins ones others linked l m → length m ≡ length l
+  module _ {l : List ℕ} (ends : Ends (length l) links) where
+    pub joins_long : {m : List ℕ} → Joins links l m → length m ≡ length l
     joins_long none = refl
-    joins_long (more {m} k h x) = join_long m (get_or ones k 0) (get_or others k 0) (get_or linked k 0) ∙ joins_long x
+    joins_long (more {m} k h x) = join_long m (one_on links k) (other_on links k) (timers_on links k) ∙ joins_long x
 
-    pub joins_all : (P : ℕ → ℕ → Type 0) → Steps P → {m : List ℕ} → Joins ones others linked l m → ((x : ℕ) → P x (get_or l x 0)) → (x : ℕ)
+    pub joins_all : (P : ℕ → ℕ → Type 0) → Steps P → {m : List ℕ} → Joins links l m → ((x : ℕ) → P x (get_or l x 0)) → (x : ℕ)
         → P x (get_or m x 0)
     joins_all P steps none all = all
     joins_all P steps (more {m} k h y) all =
         let before = joins_all P steps y all in
-        join_all m (get_or ones k 0) (get_or others k 0) (get_or linked k 0)
+        join_all m (one_on links k) (other_on links k) (timers_on links k)
         (omega (arith, joins_long y, ends.one_below k h)) (omega (arith, joins_long y, ends.other_below k h)) P
         (steps.at_one k h _ _ (before _) (before _)) (steps.at_other k h _ _ (before _) (before _)) before
 
     -- the sum of the words has a bound
-    pub joins_small : {m : List ℕ} → Joins ones others linked l m → ((x : ℕ) → get_or l x 0 < 2 ^ 64) → sum_of m ≤ 2 ^ 64 * length l
+    pub joins_small : {m : List ℕ} → Joins links l m → ((x : ℕ) → get_or l x 0 < 2 ^ 64) → sum_of m ≤ 2 ^ 64 * length l
     joins_small {m} x small = subst (λ (n : ℕ). sum_of m ≤ 2 ^ 64 * n) (joins_long x) (sum_small m (joins_all (λ x v. v < 2 ^ 64) (record {
       at_one = λ k h a b ha hb. joined_lt 64 a _ ha (common_lt 64 _ _ (joined_lt 64 a b ha hb));
       at_other = λ k h a b ha hb. joined_lt 64 b _ hb (common_lt 64 _ _ (joined_lt 64 a b ha hb));

@@ -3,6 +3,7 @@ use Rattle.std.specs.Prelude.{◌≡◌, List, ℕ, ◌^◌, ◌≤◌, ◌<◌,
 use Rattle.lists.specs.Lists.{up_to}
 use Rattle.timer_set.specs.Members.{common, minus}
 use Rattle.model.specs.Family.{Link, Pairs}
+use Rattle.families.specs.declared.LiveChart.{LiveChart}
 use Rattle.chart_lists.specs.Limits.{most_locations, most_timers, most_transitions}
 
 -- of each transition its source, its target and the set that it starts; of each location its live set, twins counted as one
@@ -31,3 +32,10 @@ pub record SafeTransitions (sources targets starts live : List ℕ) (timers : �
   pub source_below : (i : ℕ) → i < length sources → get_or sources i 0 < length live
   pub target_below : (i : ℕ) → i < length sources → get_or targets i 0 < length live
   pub live_below : (q : ℕ) → get_or live q 0 < 2 ^ timers
+
+-- the same of a chart's lists that are lent in one struct
+abbrev pub pairs_in : LiveChart → Pairs
+pairs_in c = pairs_of c.sources.now c.targets.now c.starts.now c.live.now c.timers
+
+abbrev pub SafeChart : LiveChart → Type 0
+SafeChart c = SafeTransitions c.sources.now c.targets.now c.starts.now c.live.now c.timers

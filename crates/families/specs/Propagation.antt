@@ -1,5 +1,5 @@
--- The links that have timers, as three lists, and the families that begin at one location, as a set of timers at each location.
-use Rattle.std.specs.Prelude.{◌≡◌, ◌⊎◌, Bool, true, false, List, ℕ, ◌≤◌, ◌<◌, length, get_or, set}
+-- The links that have timers, as a list, and the families that begin at one location, as a set of timers at each location.
+use Rattle.std.specs.Prelude.{◌≡◌, ◌⊎◌, Bool, true, false, List, ℕ, ◌≤◌, ◌<◌, length, get_or, take, set}
 use mathlib.Core.Option.{some}
 use lib.ListN.{get_elem?}
 use Rattle.lists.specs.Lists.{sum_of}
@@ -7,25 +7,40 @@ use Rattle.timer_set.specs.Members.{member, joined, common}
 use Rattle.model.specs.Family.{Link, Pairs, Joined}
 use Rattle.lists.specs.Elements.{Element}
 use Rattle.chart_lists.specs.Limits.{most_locations}
+use Rattle.families.specs.declared.links.Link.{Link as StoredLink}
+use Rattle.families.specs.declared.links.Links.{Links}
 
--- the link at place k of the lists
-unfoldable pub link_on : (ones others linked : List ℕ) → ℕ → Link
-link_on ones others linked k = record { one = get_or ones k 0; other = get_or others k 0; timers = get_or linked k 0 }
+-- the links in use
+abbrev pub stored : Links → List StoredLink
+stored l = take l.count l.all
 
--- the lists are the links of p that have timers: the two ends of each, and its timers
-pub record LinkLists (p : Pairs) (ones others linked : List ℕ) : Type 0 where
-  pub others_long : length others ≡ length ones
-  pub linked_long : length linked ≡ length ones
-  pub each : (k : ℕ) → k < length ones → Element p.links (link_on ones others linked k)
-  pub all : (i : ℕ) (l : Link) → get_elem? p.links i ≡ some l → (l.timers ≡ 0) ⊎ ((k : ℕ) × (k < length ones) × (link_on ones others linked k ≡ l))
+-- what stands past the end of a list of links
+abbrev pub no_link : StoredLink
+no_link = record { one = 0; other = 0; timers = record { bits = 0 } }
 
--- what the code asks for its safety: lists of one length, and every link between two of so many locations
-pub record Ends (locations : ℕ) (ones others linked : List ℕ) : Type 0 where
-  pub others_long : length others ≡ length ones
-  pub linked_long : length linked ≡ length ones
+-- the ends and the timers of the link at place k of the list
+abbrev pub one_on : List StoredLink → ℕ → ℕ
+one_on links k = (get_or links k no_link).one
+
+abbrev pub other_on : List StoredLink → ℕ → ℕ
+other_on links k = (get_or links k no_link).other
+
+abbrev pub timers_on : List StoredLink → ℕ → ℕ
+timers_on links k = (get_or links k no_link).timers.bits
+
+unfoldable pub link_on : (links : List StoredLink) → ℕ → Link
+link_on links k = record { one = one_on links k; other = other_on links k; timers = timers_on links k }
+
+-- the list has the links of p that have timers: the two ends of each, and its timers
+pub record LinkLists (p : Pairs) (links : List StoredLink) : Type 0 where
+  pub each : (k : ℕ) → k < length links → Element p.links (link_on links k)
+  pub all : (i : ℕ) (l : Link) → get_elem? p.links i ≡ some l → (l.timers ≡ 0) ⊎ ((k : ℕ) × (k < length links) × (link_on links k ≡ l))
+
+-- what the code asks for its safety: every link between two of so many locations
+pub record Ends (locations : ℕ) (links : List StoredLink) : Type 0 where
   pub few_locations : locations ≤ most_locations
-  pub one_below : (k : ℕ) → k < length ones → get_or ones k 0 < locations
-  pub other_below : (k : ℕ) → k < length ones → get_or others k 0 < locations
+  pub one_below : (k : ℕ) → k < length links → one_on links k < locations
+  pub other_below : (k : ℕ) → k < length links → other_on links k < locations
 
 -- at each location stand those timers of the set whose family from (q, j) on has the location
 pub record Propagated (p : Pairs) (q roots : ℕ) (sets : List ℕ) : Type 0 where
@@ -53,14 +68,14 @@ pub record JoinedEnds (before : List ℕ) (one other timers : ℕ) (after : List
   pub same : r ≡ false → (after ≡ before) × EndsAgree before one other timers
   pub grew : r ≡ true → (after ≡ join_along before one other timers) × (sum_of before < sum_of after)
 
--- m comes from l by joins along links of the lists
-pub data Joins (ones others linked l : List ℕ) : List ℕ → Type 0 where
-  none : Joins ones others linked l l
-  more : {m : List ℕ} (k : ℕ) → k < length ones → Joins ones others linked l m
-      → Joins ones others linked l (join_along m (get_or ones k 0) (get_or others k 0) (get_or linked k 0))
+-- m comes from l by joins along links of the list
+pub data Joins (links : List StoredLink) (l : List ℕ) : List ℕ → Type 0 where
+  none : Joins links l l
+  more : {m : List ℕ} (k : ℕ) → k < length links → Joins links l m
+      → Joins links l (join_along m (one_on links k) (other_on links k) (timers_on links k))
 
 -- the sets after joins along the first n links: grew says whether one grew, and if not, each of these links agrees
-pub record Swept (ones others linked : List ℕ) (n : ℕ) (before after : List ℕ) (grew : Bool) : Type 0 where
-  pub joins : Joins ones others linked before after
-  pub same : grew ≡ false → (after ≡ before) × ((k : ℕ) → k < n → EndsAgree after (get_or ones k 0) (get_or others k 0) (get_or linked k 0))
+pub record Swept (links : List StoredLink) (n : ℕ) (before after : List ℕ) (grew : Bool) : Type 0 where
+  pub joins : Joins links before after
+  pub same : grew ≡ false → (after ≡ before) × ((k : ℕ) → k < n → EndsAgree after (one_on links k) (other_on links k) (timers_on links k))
   pub grows : grew ≡ true → sum_of before < sum_of after

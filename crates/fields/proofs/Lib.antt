@@ -1,5 +1,5 @@
-pub mod Answers
+pub mod Numbers
+pub mod Within
 pub mod RisingLoop
 pub mod StartsLoop
-pub mod Steps
 pub mod Parts

@@ -14,7 +14,9 @@ use Rattle.file_format.specs.Parse.{Parsed, value, refusal, bind, guard, number,
 use Rattle.file_format.specs.Body.{read_test, read_tests, read_transition, record_length}
 use Rattle.file_format.proofs.Parsed.{bind_value, guard_value, same_value, kept_value, kept_refused}
 use Rattle.file_format.proofs.Items.{many_length}
-use Rattle.fields.specs.Parts.{Ends, read_ends, read_starts, read_test_count, Head, head_of, read_head}
+use Rattle.fields.specs.declared.record.Ends.{Ends}
+use Rattle.fields.specs.declared.record.Head.{Head}
+use Rattle.fields.specs.Parts.{read_ends, read_starts, read_test_count, head_of, read_head}
 
 -- readers one after another, grouped in another way
 module _ {A B C : Type 0} where

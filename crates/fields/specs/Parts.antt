@@ -6,14 +6,10 @@ use Rattle.model.specs.Chart.{Transition}
 use Rattle.model.specs.Live.{starts_set}
 use Rattle.file_format.specs.Parse.{Parsed, value, bind, guard, number, below, rising}
 use Rattle.file_format.specs.Body.{record_length}
+use Rattle.fields.specs.declared.record.Ends.{Ends}
+use Rattle.fields.specs.declared.record.Head.{Head}
 
 -- the first four fields
-pub record Ends : Type 0 where
-  pub length : ℕ
-  pub source : ℕ
-  pub target : ℕ
-  pub event : ℕ
-
 unfoldable pub read_ends : (locations i : ℕ) → List ℕ → Parsed Ends
 read_ends locations i bs =
     bind (number 2 bs) (λ len b₁.
@@ -35,13 +31,6 @@ read_test_count W len s i bs =
     value g t)))
 
 -- a record up to its tests, with their number
-pub record Head : Type 0 where
-  pub source : ℕ
-  pub target : ℕ
-  pub event : ℕ
-  pub starts : ℕ
-  pub tests : ℕ
-
 unfoldable pub head_of : Transition → Head
 head_of r = record { source = r.source; target = r.target; event = r.event; starts = starts_set r; tests = length r.tests }
 

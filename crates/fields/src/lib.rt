@@ -1,106 +1,49 @@
 // The fields of a chart file and the parts of a transition's record, each read at a place and answered by its value with the next place, or by
 // its refusal. Nothing is asked of a place: past the end of the file a field is cut, and that is 3.
+//
+// stays: `let .. else` and not `?`, a rule of the project (docs/DECISIONS.md, 32): the first field that fails ends the reading in the else branch.
 #![tactic(auto)]
 
 pub mod record;
 pub mod test;
 
-ghost use Rattle.std.specs.Prelude.{◌≡◌, ◌<◌, drop};
+ghost use Rattle.std.specs.Prelude.{◌≡◌, ◌≤◌, drop};
 ghost use Rattle.file_format.specs.Parse.{below};
-ghost use Rattle.fields.specs.Meaning.{field_as, NumberAt, refusal_of};
+ghost use Rattle.refusal.specs.Reason.{number_of};
+ghost use Rattle.fields.specs.Meaning.{parsed_as, NumberAt};
 
 use refusal::Refusal;
 
-// A number or a set, as a word, with the place after it.
-#[derive(Clone, Copy)]
-pub enum Field {
-    Value(u64, usize),
-    Refused(Refusal),
-}
+// A value with the place after it, or the refusal of its field.
+pub type Parsed<T> = Result<(T, usize), Refusal>;
 
-// The refusal of an answer that is one.
-pub fn refusal_of(a: Field) -> Refusal
-    ensures { result ≡ refusal_of a }
+// A number of so many bytes, the highest first.
+// stays: `next += 1`; counted by the loop itself, `for next in at..at + width`, it is no plainer: nothing is asked of `at`, so the sum may overflow.
+pub fn number_at(s: &[u8], at: usize, width: u64) -> Parsed<u64>
+    requires { width ≤ 8 }
+    ensures { NumberAt width s.now at result }
 {
-    match a {
-        Field::Refused(f) => f,
-        Field::Value(_, _) => Refusal {
-            number: 0,
-            place: 0,
-        },
+    let mut value = 0;
+    let mut next = at;
+    for _k in 0..width {
+        let Some(byte) = s.get(next) else {
+            return Err(refusal::CUT_OFF);
+        };
+        value = value * 256 + u64::from(*byte);
+        next += 1;
     }
+    Ok((value, next))
 }
 
-fn wide(x: u8) -> u64
-    ensures { (result ≡ x) × (result < 256) }
+// A number of so many bytes that is below a limit, or the refusal given.
+#[tactic(auto, unfolding(file_format::specs::Parse::below))]
+pub fn number_below(s: &[u8], at: usize, width: u64, limit: u64, refusal: Refusal) -> Parsed<u64>
+    requires { width ≤ 8 }
+    ensures { parsed_as s.now result ≡ below width limit (number_of refusal.reason) refusal.place (drop at s.now) }
 {
-    x as u64
-}
-
-pub fn byte_at(s: &[u8], at: usize) -> Field
-    ensures { NumberAt 1 s.now at result }
-{
-    if at < s.len() {
-        Field::Value(wide(s[at]), at + 1)
-    } else {
-        Field::Refused(refusal::CUT_OFF)
-    }
-}
-
-// Two bytes.
-pub fn pair_at(s: &[u8], at: usize) -> Field
-    ensures { NumberAt 2 s.now at result }
-{
-    let a = byte_at(s, at);
-    let Field::Value(high, middle) = a else {
+    let a = number_at(s, at, width);
+    let Ok((x, _)) = a else {
         return a;
     };
-    let b = byte_at(s, middle);
-    let Field::Value(low, next) = b else {
-        return b;
-    };
-    Field::Value(high * 256 + low, next)
-}
-
-// Four bytes.
-pub fn quad_at(s: &[u8], at: usize) -> Field
-    ensures { NumberAt 4 s.now at result }
-{
-    let a = pair_at(s, at);
-    let Field::Value(high, middle) = a else {
-        return a;
-    };
-    let b = pair_at(s, middle);
-    let Field::Value(low, next) = b else {
-        return b;
-    };
-    Field::Value(high * 65536 + low, next)
-}
-
-// A byte below a limit, or the refusal given.
-pub fn byte_below(s: &[u8], at: usize, limit: u64, number: u16, place: u64) -> Field
-    ensures { field_as s.now result ≡ below 1 limit number place (drop at s.now) }
-{
-    let a = byte_at(s, at);
-    let Field::Value(x, _) = a else {
-        return a;
-    };
-    if x < limit {
-        return a;
-    }
-    Field::Refused(Refusal { number, place })
-}
-
-// Two bytes, a number below a limit, or the refusal given.
-pub fn pair_below(s: &[u8], at: usize, limit: u64, number: u16, place: u64) -> Field
-    ensures { field_as s.now result ≡ below 2 limit number place (drop at s.now) }
-{
-    let a = pair_at(s, at);
-    let Field::Value(x, _) = a else {
-        return a;
-    };
-    if x < limit {
-        return a;
-    }
-    Field::Refused(Refusal { number, place })
+    if x < limit { a } else { Err(refusal) }
 }

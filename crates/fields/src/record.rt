@@ -2,169 +2,151 @@
 ghost use Rattle.std.specs.Prelude.{◌≡◌, ◌≤◌, drop};
 ghost use Rattle.model.specs.Version.{width_of};
 ghost use Rattle.fields.specs.Parts.{read_ends, read_starts, read_test_count, read_head};
-ghost use Rattle.fields.specs.Meaning.{field_as, ends_as, head_as, ends_refusal, head_refusal};
+ghost use Rattle.fields.specs.Meaning.{parsed_as};
 
-use crate::{Field, byte_at, byte_below, pair_at, pair_below, refusal_of};
-use refusal::Refusal;
+use crate::{Parsed, number_at, number_below};
+use chart_lists::Header;
+use refusal::{Reason, Refusal};
 use timer_set::TimerSet;
 
 // n started timers, strictly rising and below the number of timers: their set.
-pub fn starts_at(s: &[u8], at: usize, n: u64, timers: u8, place: u64) -> Field
+#[tactic(auto, using(crate::proofs::Within::within))]
+pub fn starts_at(s: &[u8], at: usize, n: u64, timers: u8, place: u64) -> Parsed<u64>
     requires { timers ≤ 64 }
-    ensures { field_as s.now result ≡ read_starts timers place n (drop at s.now) }
+    ensures { parsed_as s.now result ≡ read_starts timers place n (drop at s.now) }
 {
+    let no_such_timer = Refusal {
+        reason: Reason::NoSuchTimer,
+        place,
+    };
     let mut set = TimerSet::EMPTY;
-    let mut lowest: u64 = 0;
+    let mut lowest = 0;
     let mut here = at;
-    let mut k: u64 = 0;
-    while k < n {
-        let a = byte_below(s, here, timers as u64, 6, place);
-        let Field::Value(x, next) = a else {
+    for _k in 0..n {
+        let a = number_below(s, here, 1, u64::from(timers), no_such_timer);
+        let Ok((x, next)) = a else {
             return a;
         };
         if x < lowest {
-            return Field::Refused(Refusal { number: 7, place });
+            return Err(Refusal {
+                reason: Reason::NotRising,
+                place,
+            });
         }
         set = set.with(x as u8);
         lowest = x + 1;
         here = next;
-        k += 1;
     }
-    Field::Value(set.bits, here)
+    Ok((set.bits, here))
 }
 
-// The first four fields of a record, length, source, target and event, with the place after them.
+// The first four fields of a record.
 #[derive(Clone, Copy)]
-pub enum EndsField {
-    Found(u16, u16, u16, u8, usize),
-    Refused(Refusal),
+pub struct Ends {
+    pub length: u16,
+    pub source: u16,
+    pub target: u16,
+    pub event: u8,
 }
 
-fn ends_refusal(a: EndsField) -> Refusal
-    ensures { result ≡ ends_refusal a }
+#[tactic(auto, using(crate::proofs::Within::within), unfolding(crate::specs::Parts::read_ends))]
+fn ends_at(s: &[u8], at: usize, locations: u16, place: u64) -> Parsed<Ends>
+    ensures { parsed_as s.now result ≡ read_ends locations place (drop at s.now) }
 {
-    match a {
-        EndsField::Refused(f) => f,
-        EndsField::Found(_, _, _, _, _) => Refusal {
-            number: 0,
-            place: 0,
-        },
-    }
-}
-
-fn ends_at(s: &[u8], at: usize, locations: u16, place: u64) -> EndsField
-    ensures { ends_as s.now result ≡ read_ends locations place (drop at s.now) }
-{
-    let a = pair_at(s, at);
-    let Field::Value(length, at1) = a else {
-        return EndsField::Refused(refusal_of(a));
+    let no_such_location = Refusal {
+        reason: Reason::NoSuchLocation,
+        place,
     };
-    let b = pair_below(s, at1, locations as u64, 5, place);
-    let Field::Value(source, at2) = b else {
-        return EndsField::Refused(refusal_of(b));
+    let a = number_at(s, at, 2);
+    let Ok((length, at1)) = a else {
+        return Err(a.unwrap_err());
     };
-    let d = pair_below(s, at2, locations as u64, 5, place);
-    let Field::Value(target, at3) = d else {
-        return EndsField::Refused(refusal_of(d));
+    let b = number_below(s, at1, 2, u64::from(locations), no_such_location);
+    let Ok((source, at2)) = b else {
+        return Err(b.unwrap_err());
     };
-    let e = byte_at(s, at3);
-    let Field::Value(event, next) = e else {
-        return EndsField::Refused(refusal_of(e));
+    let d = number_below(s, at2, 2, u64::from(locations), no_such_location);
+    let Ok((target, at3)) = d else {
+        return Err(d.unwrap_err());
     };
-    EndsField::Found(
-        length as u16,
-        source as u16,
-        target as u16,
-        event as u8,
-        next,
-    )
+    let e = number_at(s, at3, 1);
+    let Ok((event, next)) = e else {
+        return Err(e.unwrap_err());
+    };
+    let ends = Ends {
+        length: length as u16,
+        source: source as u16,
+        target: target as u16,
+        event: event as u8,
+    };
+    Ok((ends, next))
 }
 
 // The number of a record's tests, at most 8, where the record's length is that of n started timers and so many tests.
-fn test_count_at(s: &[u8], at: usize, version: u8, length: u16, n: u64, place: u64) -> Field
+#[tactic(auto, using(crate::proofs::Within::within), unfolding(crate::specs::Parts::read_test_count, file_format::specs::Body::record_length))]
+fn test_count_at(s: &[u8], at: usize, version: u8, length: u16, n: u64, place: u64) -> Parsed<u64>
     requires { n ≤ 64 }
-    ensures { field_as s.now result ≡ read_test_count (width_of version) length n place (drop at s.now) }
+    ensures { parsed_as s.now result ≡ read_test_count (width_of version) length n place (drop at s.now) }
 {
-    let a = byte_at(s, at);
-    let Field::Value(g, _) = a else {
+    let a = number_at(s, at, 1);
+    let Ok((g, _)) = a else {
         return a;
     };
     let width = file_format::width_of(version);
-    if length as u64 != 7 + n + (2 + width) * g {
-        return Field::Refused(refusal::CUT_OFF);
+    if u64::from(length) != 7 + n + (2 + width) * g {
+        return Err(refusal::CUT_OFF);
     }
     if g > 8 {
-        return Field::Refused(Refusal { number: 4, place });
+        return Err(Refusal {
+            reason: Reason::TooMany,
+            place,
+        });
     }
     a
 }
 
-// A record up to its tests, with their number and the place where they begin.
+// A record up to its tests, with their number.
 #[derive(Clone, Copy)]
-pub enum HeadField {
-    Found {
-        source: u16,
-        target: u16,
-        event: u8,
-        starts: u64,
-        tests: u8,
-        next: usize,
-    },
-    Refused(Refusal),
+pub struct Head {
+    pub source: u16,
+    pub target: u16,
+    pub event: u8,
+    pub starts: u64,
+    pub tests: u8,
 }
 
-pub fn head_refusal(a: HeadField) -> Refusal
-    ensures { result ≡ head_refusal a }
+// The head of a transition of that chart, with the place where its tests begin.
+#[tactic(auto, using(crate::proofs::Within::within, crate::proofs::Parts::count_few), unfolding(crate::specs::Parts::read_head))]
+pub fn head_at(s: &[u8], at: usize, chart: Header, place: u64) -> Parsed<Head>
+    requires { chart.timers ≤ 64 }
+    ensures { parsed_as s.now result ≡ read_head (width_of chart.version) chart.locations chart.timers place (drop at s.now) }
 {
-    match a {
-        HeadField::Refused(f) => f,
-        HeadField::Found {
-            source: _,
-            target: _,
-            event: _,
-            starts: _,
-            tests: _,
-            next: _,
-        } => Refusal {
-            number: 0,
-            place: 0,
-        },
-    }
-}
-
-pub fn head_at(
-    s: &[u8],
-    at: usize,
-    version: u8,
-    locations: u16,
-    timers: u8,
-    place: u64,
-) -> HeadField
-    requires { timers ≤ 64 }
-    ensures { head_as s.now result ≡ read_head (width_of version) locations timers place (drop at s.now) }
-{
-    let a = ends_at(s, at, locations, place);
-    let EndsField::Found(length, source, target, event, at1) = a else {
-        return HeadField::Refused(ends_refusal(a));
+    let a = ends_at(s, at, chart.locations, place);
+    let Ok((ends, at1)) = a else {
+        return Err(a.unwrap_err());
     };
-    let b = byte_below(s, at1, 65, 4, place);
-    let Field::Value(n, at2) = b else {
-        return HeadField::Refused(refusal_of(b));
+    let too_many = Refusal {
+        reason: Reason::TooMany,
+        place,
     };
-    let d = starts_at(s, at2, n, timers, place);
-    let Field::Value(starts, at3) = d else {
-        return HeadField::Refused(refusal_of(d));
+    let b = number_below(s, at1, 1, 65, too_many);
+    let Ok((n, at2)) = b else {
+        return Err(b.unwrap_err());
     };
-    let e = test_count_at(s, at3, version, length, n, place);
-    let Field::Value(g, next) = e else {
-        return HeadField::Refused(refusal_of(e));
+    let d = starts_at(s, at2, n, chart.timers, place);
+    let Ok((starts, at3)) = d else {
+        return Err(d.unwrap_err());
     };
-    HeadField::Found {
-        source,
-        target,
-        event,
+    let e = test_count_at(s, at3, chart.version, ends.length, n, place);
+    let Ok((g, next)) = e else {
+        return Err(e.unwrap_err());
+    };
+    let head = Head {
+        source: ends.source,
+        target: ends.target,
+        event: ends.event,
         starts,
         tests: g as u8,
-        next,
-    }
+    };
+    Ok((head, next))
 }

@@ -2,75 +2,51 @@
 ghost use Rattle.std.specs.Prelude.{◌≡◌, drop};
 ghost use Rattle.model.specs.Version.{width_of};
 ghost use Rattle.file_format.specs.Body.{read_test};
-ghost use Rattle.fields.specs.Meaning.{NumberAt, test_as, test_refusal};
+ghost use Rattle.fields.specs.Meaning.{test_as};
 
-use crate::{Field, byte_at, byte_below, pair_at, quad_at, refusal_of};
-use comparison::{Comparison, Decoded};
-use refusal::Refusal;
+use crate::{Parsed, number_at, number_below};
+use chart_lists::Header;
+use comparison::Comparison;
+use refusal::{Reason, Refusal};
 
-// One test, with the place after it.
 #[derive(Clone, Copy)]
-pub enum TestField {
-    Found {
-        timer: u8,
-        comparison: Comparison,
-        constant: u32,
-        next: usize,
-    },
-    Refused(Refusal),
+pub struct Test {
+    pub timer: u8,
+    pub comparison: Comparison,
+    pub constant: u32,
 }
 
-pub fn test_refusal(a: TestField) -> Refusal
-    ensures { result ≡ test_refusal a }
+// One test of a transition of that chart.
+#[tactic(auto, using(crate::proofs::Within::within), unfolding(file_format::specs::Body::read_test, file_format::specs::Body::read_comparison))]
+pub fn test_at(s: &[u8], at: usize, chart: Header, place: u64) -> Parsed<Test>
+    ensures { test_as s.now result ≡ read_test (width_of chart.version) chart.timers place (drop at s.now) }
 {
-    match a {
-        TestField::Refused(f) => f,
-        TestField::Found {
-            timer: _,
-            comparison: _,
-            constant: _,
-            next: _,
-        } => Refusal {
-            number: 0,
-            place: 0,
-        },
-    }
-}
-
-// A constant, in as many bytes as the version gives it.
-fn constant_at(s: &[u8], at: usize, version: u8) -> Field
-    ensures { NumberAt (width_of version) s.now at result }
-{
-    if file_format::width_of(version) == 2 {
-        pair_at(s, at)
-    } else {
-        quad_at(s, at)
-    }
-}
-
-pub fn test_at(s: &[u8], at: usize, version: u8, timers: u8, place: u64) -> TestField
-    ensures { test_as s.now result ≡ read_test (width_of version) timers place (drop at s.now) }
-{
-    let a = byte_below(s, at, timers as u64, 6, place);
-    let Field::Value(timer, at1) = a else {
-        return TestField::Refused(refusal_of(a));
+    let no_such_timer = Refusal {
+        reason: Reason::NoSuchTimer,
+        place,
     };
-    let b = byte_at(s, at1);
-    let Field::Value(code, at2) = b else {
-        return TestField::Refused(refusal_of(b));
+    let a = number_below(s, at, 1, u64::from(chart.timers), no_such_timer);
+    let Ok((timer, at1)) = a else {
+        return Err(a.unwrap_err());
     };
-    let d = comparison::decode(code as u8);
-    let Decoded::Known(comparison) = d else {
-        return TestField::Refused(Refusal { number: 8, place });
+    let b = number_at(s, at1, 1);
+    let Ok((code, at2)) = b else {
+        return Err(b.unwrap_err());
     };
-    let e = constant_at(s, at2, version);
-    let Field::Value(constant, next) = e else {
-        return TestField::Refused(refusal_of(e));
+    let Ok(comparison) = Comparison::try_from(code as u8) else {
+        return Err(Refusal {
+            reason: Reason::NoSuchComparison,
+            place,
+        });
     };
-    TestField::Found {
+    let e = number_at(s, at2, file_format::width_of(chart.version));
+    let Ok((constant, next)) = e else {
+        return Err(e.unwrap_err());
+    };
+    let test = Test {
         timer: timer as u8,
         comparison,
         constant: constant as u32,
-        next,
-    }
+    };
+    Ok((test, next))
 }

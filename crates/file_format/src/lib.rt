@@ -8,16 +8,15 @@ ghost use Rattle.model.specs.Version.{known_version, allows_spare, width_of};
 pub const LARGEST_FILE: usize = 62478;
 
 // Whether there is such a version; where there is none, refusal 2 is given.
+#[tactic(auto, unfolding(model::specs::Version::known_version))]
 pub fn known_version(version: u64) -> bool
     ensures { result ≡ known_version version }
 {
-    if version < 1 {
-        return false;
-    }
-    version <= 3
+    version >= 1 && version <= 3
 }
 
 // Whether a chart of that version may have locations that no path reaches.
+#[tactic(auto, unfolding(model::specs::Version::allows_spare))]
 pub fn allows_spare(version: u8) -> bool
     ensures { result ≡ allows_spare version }
 {
@@ -25,6 +24,7 @@ pub fn allows_spare(version: u8) -> bool
 }
 
 // The bytes of a constant in a file of that version.
+#[tactic(auto, using(model::proofs::Versions::width_other), unfolding(model::specs::Version::width_of))]
 pub fn width_of(version: u8) -> u64
     ensures { result ≡ width_of version }
 {

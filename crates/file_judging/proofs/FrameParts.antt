@@ -63,3 +63,5 @@ module _ (s : List ℕ) where
         pub good_frame : known_version v ≡ true → returned (record { version = v; body = body }) ≡ judgement
         unfolding read_frame judge_frame
         good_frame g = rw (e₀, e₁, right_length, g)
+
+pub ruleset frame_parts = (no_version, no_length, wrong_length, wrong_version, good_frame)

@@ -1,11 +1,10 @@
 -- The header, read as the code reads it: its first numbers, the accepting locations, the number of transitions.
 use mathlib.Core.Path.{◌≡◌, refl, sym, ap, ◌∙◌}
 use mathlib.Core.List.{List}
-use Prim.Native.Nat.{ℕ, suc, ◌≤◌, ◌<◌}
+use Prim.Native.Nat.{ℕ, suc, ◌≤◌}
 use native.Mathlib.Omega.{arith}
 use lib.Dec.{leb}
 use lib.ListN.{length}
-use borrow.Author.Tests.{le-leb, lt-leb}
 use Rattle.model.specs.Answer.{nowhere}
 use Rattle.file_format.specs.Parse.{Parsed, value, refusal, bind, number, below, rising, entry}
 use Rattle.file_format.specs.Body.{FileHeader, read_header}
@@ -13,51 +12,8 @@ use Rattle.file_format.proofs.Parsed.{value_refused, same_value, bind_assoc, bin
 use Rattle.file_format.proofs.Parsed.{below_limit, kept_value, kept_refused}
 use Rattle.file_format.proofs.Items.{many_length}
 use Rattle.chart_lists.specs.declared.Header.{Header}
-use Rattle.file_judging.specs.Parts.{Limits, read_limits, skip_accepting, read_count, chart_header, skip_header}
-
--- ---- the first numbers
-
-module _ (bs : List ℕ) where
-  pub limits_locations : {n p : ℕ} → below 2 257 4 nowhere bs ≡ refusal n p → refusal n p ≡ read_limits bs
-  unfolding read_limits
-  limits_locations e = rw e
-
-  module _ {l : ℕ} {b₁ : List ℕ} (e₀ : below 2 257 4 nowhere bs ≡ value l b₁) where
-    pub limits_none : l < 1 → refusal 4 nowhere ≡ read_limits bs
-    unfolding read_limits
-    limits_none h = rw (e₀, lt-leb 1 l h)
-
-    module _ (some : 1 ≤ l) where
-      pub limits_initial : {n p : ℕ} → below 2 l 5 nowhere b₁ ≡ refusal n p → refusal n p ≡ read_limits bs
-      unfolding read_limits
-      limits_initial e = rw (e₀, le-leb 1 l some, e)
-
-      module _ {q : ℕ} {b₂ : List ℕ} (e₁ : below 2 l 5 nowhere b₁ ≡ value q b₂) where
-        pub limits_timers : {n p : ℕ} → below 1 65 4 nowhere b₂ ≡ refusal n p → refusal n p ≡ read_limits bs
-        unfolding read_limits
-        limits_timers e = rw (e₀, le-leb 1 l some, e₁, e)
-
-        module _ {k : ℕ} {b₃ : List ℕ} (e₂ : below 1 65 4 nowhere b₂ ≡ value k b₃) where
-          pub limits_accepting : {n p : ℕ} → number 2 b₃ ≡ refusal n p → refusal n p ≡ read_limits bs
-          unfolding read_limits
-          limits_accepting e = rw (e₀, le-leb 1 l some, e₁, e₂, e)
-
-          pub limits_found : {a : ℕ} {b₄ : List ℕ} → number 2 b₃ ≡ value a b₄
-              → value (record { locations = l; initial = q; timers = k; accepting = a }) b₄ ≡ read_limits bs
-          unfolding read_limits
-          limits_found e = rw (e₀, le-leb 1 l some, e₁, e₂, e)
-
--- ---- the number of transitions
-
-module _ (v l q k a : ℕ) (bs : List ℕ) where
-  pub count_refused : {n p : ℕ} → below 2 513 4 nowhere bs ≡ refusal n p → refusal n p ≡ read_count v l q k a bs
-  unfolding read_count
-  count_refused e = rw e
-
-  pub count_found : {n : ℕ} {t : List ℕ} → below 2 513 4 nowhere bs ≡ value n t
-      → value (record { version = v; locations = l; initial = q; timers = k; accepting = a; transitions = n }) t ≡ read_count v l q k a bs
-  unfolding read_count
-  count_found e = rw e
+use Rattle.file_judging.specs.declared.header.Limits.{Limits}
+use Rattle.file_judging.specs.Parts.{read_limits, skip_accepting, read_count, chart_header, skip_header}
 
 -- ---- the parts make up the header
 
@@ -166,3 +122,5 @@ header_few v bs {m} {t} e =
       timers = omega (arith, below_limit 1 65 4 nowhere i₁.1 i₂.2);
       transitions = omega (arith, below_limit 2 513 4 nowhere i₄.1 i₅.2);
     }
+
+pub ruleset header_steps = (header_limits, header_accepting, header_rest)

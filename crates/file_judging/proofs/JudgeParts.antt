@@ -16,9 +16,11 @@ use Rattle.file_format.specs.Body.{FileHeader, read_header, read_transition, rea
 use Rattle.file_format.specs.File.{read_frame, judge_frame, read_file, chart_in}
 use Rattle.file_format.proofs.Parsed.{kept_value, kept_refused}
 use Rattle.file_format.proofs.File.{judged_frame}
+use Rattle.file_format.proofs.Frame.{end_at, more_at}
 use Rattle.file_format.proofs.Items.{many_length}
 use Rattle.file_judging.specs.Parts.{chart_header, skip_header, skip_transitions}
 use Rattle.file_judging.specs.Meaning.{ChartIs}
+use Rattle.file_judging.proofs.HeaderParts.{header_few}
 
 pub transitions_length : (W locations timers n : ℕ) (bs : List ℕ) {rs : List Transition} {t : List ℕ}
     → read_transitions W locations timers n bs ≡ value rs t → length rs ≡ n
@@ -85,3 +87,5 @@ module _ (s : List ℕ) where
               header_is = header_is;
               number_of_tests = sym records_found.2;
             }
+
+pub ruleset file_parts = (judge_frame_lem, judge_version, judge_header, judge_transitions, judge_left, judge_good, header_few, end_at, more_at)

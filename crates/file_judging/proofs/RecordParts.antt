@@ -7,7 +7,8 @@ use Rattle.model.specs.Chart.{Test, Transition}
 use Rattle.file_format.specs.Parse.{Parsed, value, refusal}
 use Rattle.file_format.specs.Body.{read_tests, read_transition}
 use Rattle.file_format.proofs.Parsed.{kept_value}
-use Rattle.fields.specs.Parts.{Head, head_of, read_head}
+use Rattle.fields.specs.declared.record.Head.{Head}
+use Rattle.fields.specs.Parts.{head_of, read_head}
 use Rattle.fields.proofs.Parts.{transition_parts, transition_head_refused, transition_tests_refused, transition_whole, head_at_most}
 use Rattle.file_judging.specs.Parts.{skip_tests, skip_transition}
 

@@ -5,16 +5,11 @@ use Rattle.chart_lists.specs.declared.Header.{Header}
 use Rattle.chart_lists.specs.Lists.{all_tests}
 use Rattle.file_format.specs.Parse.{Parsed, value, bind, guard, number, below, rising}
 use Rattle.file_format.specs.Body.{FileHeader, read_header, read_tests, read_transition, read_transitions}
+use Rattle.file_judging.specs.declared.header.Limits.{Limits}
 
 -- ---- the header
 
 -- the first four numbers of the body: of locations, the initial location, of timers, of accepting locations
-pub record Limits : Type 0 where
-  pub locations : ℕ
-  pub initial : ℕ
-  pub timers : ℕ
-  pub accepting : ℕ
-
 unfoldable pub read_limits : List ℕ → Parsed Limits
 read_limits bs =
     bind (below 2 257 4 nowhere bs) (λ locations b₁.

@@ -1,175 +1,122 @@
 // The header of a chart file: the numbers of locations and of timers, the initial location, the accepting locations, the number of transitions.
+//
+// stays: `let .. else` and not `?`, a rule of the project (docs/DECISIONS.md, 32): the first field that fails ends the reading in the else branch.
 ghost use Rattle.std.specs.Prelude.{◌≡◌, drop};
 ghost use Rattle.model.specs.Answer.{nowhere};
 ghost use Rattle.file_format.specs.Parse.{entry};
-ghost use Rattle.fields.specs.Meaning.{field_as};
+ghost use Rattle.fields.specs.Meaning.{parsed_as};
 ghost use Rattle.file_judging.specs.Parts.{read_limits, skip_accepting, read_count, skip_header};
-ghost use Rattle.file_judging.specs.Meaning.{limits_as, limits_refusal, header_as, header_refusal};
 
 use chart_lists::Header;
-use fields::Field;
-use refusal::Refusal;
+use fields::Parsed;
 
-// The first four numbers of the body, with the place where the accepting locations begin.
+// The first four numbers of the body.
 #[derive(Clone, Copy)]
-pub enum LimitsField {
-    Found {
-        locations: u16,
-        initial: u16,
-        timers: u8,
-        accepting: u16,
-        next: usize,
-    },
-    Refused(Refusal),
+pub struct Limits {
+    pub locations: u16,
+    pub initial: u16,
+    pub timers: u8,
+    pub accepting: u16,
 }
 
-pub fn limits_refusal(a: LimitsField) -> Refusal
-    ensures { result ≡ limits_refusal a }
+// They stand before the accepting locations.
+#[tactic(auto, using(fields::proofs::Within::within), unfolding(crate::specs::Parts::read_limits))]
+pub fn limits_at(s: &[u8], at: usize) -> Parsed<Limits>
+    ensures { parsed_as s.now result ≡ read_limits (drop at s.now) }
 {
-    match a {
-        LimitsField::Refused(f) => f,
-        LimitsField::Found {
-            locations: _,
-            initial: _,
-            timers: _,
-            accepting: _,
-            next: _,
-        } => Refusal {
-            number: 0,
-            place: 0,
-        },
-    }
-}
-
-pub fn limits_at(s: &[u8], at: usize) -> LimitsField
-    ensures { limits_as s.now result ≡ read_limits (drop at s.now) }
-{
-    let a = fields::pair_below(s, at, 257, 4, refusal::NOWHERE);
-    let Field::Value(locations, at1) = a else {
-        return LimitsField::Refused(fields::refusal_of(a));
+    let a = fields::number_below(s, at, 2, 257, refusal::TOO_MANY);
+    let Ok((locations, at1)) = a else {
+        return Err(a.unwrap_err());
     };
     if locations < 1 {
-        return LimitsField::Refused(refusal::TOO_MANY);
+        return Err(refusal::TOO_MANY);
     }
-    let b = fields::pair_below(s, at1, locations, 5, refusal::NOWHERE);
-    let Field::Value(initial, at2) = b else {
-        return LimitsField::Refused(fields::refusal_of(b));
+    let b = fields::number_below(s, at1, 2, locations, refusal::NO_SUCH_LOCATION);
+    let Ok((initial, at2)) = b else {
+        return Err(b.unwrap_err());
     };
-    let d = fields::byte_below(s, at2, 65, 4, refusal::NOWHERE);
-    let Field::Value(timers, at3) = d else {
-        return LimitsField::Refused(fields::refusal_of(d));
+    let d = fields::number_below(s, at2, 1, 65, refusal::TOO_MANY);
+    let Ok((timers, at3)) = d else {
+        return Err(d.unwrap_err());
     };
-    let e = fields::pair_at(s, at3);
-    let Field::Value(accepting, next) = e else {
-        return LimitsField::Refused(fields::refusal_of(e));
+    let e = fields::number_at(s, at3, 2);
+    let Ok((accepting, next)) = e else {
+        return Err(e.unwrap_err());
     };
-    LimitsField::Found {
+    let limits = Limits {
         locations: locations as u16,
         initial: initial as u16,
         timers: timers as u8,
         accepting: accepting as u16,
-        next,
-    }
+    };
+    Ok((limits, next))
 }
 
 // One accepting location, at least lowest.
-pub fn entry_at(s: &[u8], at: usize, locations: u16, lowest: u64) -> Field
-    ensures { field_as s.now result ≡ entry 2 locations 5 nowhere lowest (drop at s.now) }
+#[tactic(auto, unfolding(file_format::specs::Parse::entry))]
+pub fn entry_at(s: &[u8], at: usize, locations: u16, lowest: u64) -> Parsed<u64>
+    ensures { parsed_as s.now result ≡ entry 2 locations 5 nowhere lowest (drop at s.now) }
 {
-    let a = fields::pair_below(s, at, locations as u64, 5, refusal::NOWHERE);
-    let Field::Value(x, _) = a else {
+    let a = fields::number_below(s, at, 2, u64::from(locations), refusal::NO_SUCH_LOCATION);
+    let Ok((x, _)) = a else {
         return a;
     };
     if x < lowest {
-        return Field::Refused(refusal::NOT_RISING);
+        return Err(refusal::NOT_RISING);
     }
     a
 }
 
 // The accepting locations, judged and skipped.
-fn skip_accepting(s: &[u8], at: usize, n: u16, locations: u16) -> Field
-    ensures { field_as s.now result ≡ skip_accepting locations n (drop at s.now) }
+fn skip_accepting(s: &[u8], at: usize, n: u16, locations: u16) -> Parsed<u64>
+    ensures { parsed_as s.now result ≡ skip_accepting locations n (drop at s.now) }
 {
     let mut here = at;
-    let mut lowest: u64 = 0;
-    let mut k: u16 = 0;
-    while k < n {
+    let mut lowest = 0;
+    for _k in 0..n {
         let a = entry_at(s, here, locations, lowest);
-        let Field::Value(x, next) = a else {
+        let Ok((x, next)) = a else {
             return a;
         };
         lowest = x + 1;
         here = next;
-        k += 1;
     }
-    Field::Value(n as u64, here)
-}
-
-// The header, with the place where the transitions begin.
-#[derive(Clone, Copy)]
-pub enum HeaderField {
-    Found(Header, usize),
-    Refused(Refusal),
-}
-
-pub fn header_refusal(a: HeaderField) -> Refusal
-    ensures { result ≡ header_refusal a }
-{
-    match a {
-        HeaderField::Refused(f) => f,
-        HeaderField::Found(_, _) => Refusal {
-            number: 0,
-            place: 0,
-        },
-    }
+    Ok((u64::from(n), here))
 }
 
 // The number of transitions, which ends the header.
-pub fn count_at(
-    s: &[u8],
-    at: usize,
-    version: u8,
-    locations: u16,
-    initial: u16,
-    timers: u8,
-    accepting: u16,
-) -> HeaderField
-    ensures { header_as s.now result
-        ≡ read_count version locations initial timers accepting (drop at s.now) }
+#[tactic(auto, using(fields::proofs::Within::within), unfolding(crate::specs::Parts::read_count))]
+pub fn count_at(s: &[u8], at: usize, version: u8, limits: Limits) -> Parsed<Header>
+    ensures { parsed_as s.now result
+        ≡ read_count version limits.locations limits.initial limits.timers limits.accepting (drop at s.now) }
 {
-    let a = fields::pair_below(s, at, 513, 4, refusal::NOWHERE);
-    let Field::Value(count, next) = a else {
-        return HeaderField::Refused(fields::refusal_of(a));
+    let a = fields::number_below(s, at, 2, 513, refusal::TOO_MANY);
+    let Ok((count, next)) = a else {
+        return Err(a.unwrap_err());
     };
     let header = Header {
         version,
-        locations,
-        initial,
-        timers,
-        accepting,
+        locations: limits.locations,
+        initial: limits.initial,
+        timers: limits.timers,
+        accepting: limits.accepting,
         transitions: count as u16,
     };
-    HeaderField::Found(header, next)
+    Ok((header, next))
 }
 
-// The whole header, for a chart of that version.
-pub fn header_at(s: &[u8], at: usize, version: u8) -> HeaderField
-    ensures { header_as s.now result ≡ skip_header version (drop at s.now) }
+// The whole header, for a chart of that version, with the place where the transitions begin.
+#[tactic(auto, using(crate::proofs::HeaderParts::header_steps))]
+pub fn header_at(s: &[u8], at: usize, version: u8) -> Parsed<Header>
+    ensures { parsed_as s.now result ≡ skip_header version (drop at s.now) }
 {
     let a = limits_at(s, at);
-    let LimitsField::Found {
-        locations,
-        initial,
-        timers,
-        accepting,
-        next,
-    } = a
-    else {
-        return HeaderField::Refused(limits_refusal(a));
+    let Ok((limits, next)) = a else {
+        return Err(a.unwrap_err());
     };
-    let b = skip_accepting(s, next, accepting, locations);
-    let Field::Value(_, after) = b else {
-        return HeaderField::Refused(fields::refusal_of(b));
+    let b = skip_accepting(s, next, limits.accepting, limits.locations);
+    let Ok((_, after)) = b else {
+        return Err(b.unwrap_err());
     };
-    count_at(s, after, version, locations, initial, timers, accepting)
+    count_at(s, after, version, limits)
 }

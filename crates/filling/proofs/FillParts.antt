@@ -13,9 +13,9 @@ use Rattle.file_format.specs.Parse.{value}
 use Rattle.file_format.specs.Body.{FileHeader, read_header, read_transitions, is_end}
 use Rattle.file_format.specs.File.{read_frame, judge_frame, chart_in}
 use Rattle.file_format.proofs.Answers.{result_refused}
-use Rattle.fields.specs.declared.Field.{Field}
-use Rattle.fields.specs.declared.Field.TheVariants as field
-use Rattle.fields.specs.Meaning.{field_as}
+use Rattle.std.specs.Prelude.{Result, Ok, Err}
+use Rattle.refusal.specs.declared.Refusal.{Refusal}
+use Rattle.fields.specs.Meaning.{parsed_as}
 use Rattle.file_judging.specs.Parts.{skip_header, skip_transitions}
 use Rattle.file_judging.proofs.JudgeParts.{judge_transitions, judge_left, judge_good}
 use Rattle.filling.specs.Filling.{header_read}
@@ -33,13 +33,13 @@ module _ (s : List ℕ) where
 
   module _ {v : ℕ} {body : List ℕ} (e₀ : judge_frame known_version (read_frame s) ≡ returned (record { version = v; body = body }))
       {m : Header} {left : List ℕ} (e₁ : skip_header v body ≡ value m left) where
-    pub ended_read : (d : Field) → field_as s d ≡ skip_transitions (width_of m.version) m.locations m.timers m.transitions left
+    pub ended_read : (d : Result (ℕ × ℕ) Refusal) → parsed_as s d ≡ skip_transitions (width_of m.version) m.locations m.timers m.transitions left
         → ended_as s m d ≡ header_read s
     unfolding header_read
-    ended_read (field.Refused f) k = rw (judge_transitions s e₀ e₁ (sym k))
-    ended_read (field.Value x next) k = go (is_end (drop next s)) refl
+    ended_read (Err f) k = rw (judge_transitions s e₀ e₁ (sym k))
+    ended_read (Ok (x, next)) k = go (is_end (drop next s)) refl
       where
-        go : (b : Bool) → is_end (drop next s) ≡ b → ended_as s m (field.Value x next) ≡ header_read s
+        go : (b : Bool) → is_end (drop next s) ≡ b → ended_as s m (Ok (x, next)) ≡ header_read s
         go true q = let z = judge_good s e₀ e₁ (sym k) q in rw (q, z.is) (ap returned z.header_is)
         go false q = rw (q, judge_left s e₀ e₁ (sym k) q)
 

@@ -5,7 +5,8 @@ use mathlib.Core.List.{List}
 use Prim.Native.Nat.{ℕ, ◌≤◌}
 use native.Mathlib.Omega.{arith}
 use Rattle.file_format.specs.Parse.{value}
-use Rattle.file_judging.specs.Parts.{Limits, read_limits}
+use Rattle.file_judging.specs.declared.header.Limits.{Limits}
+use Rattle.file_judging.specs.Parts.{read_limits}
 use Rattle.file_judging.proofs.HeaderParts.{accepting_length, header_entries, limits_few}
 use Rattle.filling.specs.Parts.{AcceptingFit}
 use Rattle.filling.specs.Parts.AcceptingFit.{of_any, of_this}

@@ -1,4 +1,5 @@
 pub mod Store
+pub mod Upto
 pub mod AcceptingLoop
 pub mod TestsLoop
 pub mod RecordsLoop

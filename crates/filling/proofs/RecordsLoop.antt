@@ -15,7 +15,8 @@ use Rattle.file_format.specs.Parse.{Parsed, value, refusal}
 use Rattle.file_format.specs.Body.{read_tests, read_transition, read_transitions}
 use Rattle.file_format.proofs.Parsed.{value_refused, same_value, same_rest, kept_value, kept_refused}
 use Rattle.file_format.proofs.Items.{turn_done, turn_refused, turn_again, turn_front}
-use Rattle.fields.specs.Parts.{Head, head_of, read_head}
+use Rattle.fields.specs.declared.record.Head.{Head}
+use Rattle.fields.specs.Parts.{head_of, read_head}
 use Rattle.fields.proofs.Parts.{transition_parts, head_at_most}
 use Rattle.file_judging.specs.Parts.{skip_transition}
 use Rattle.file_judging.proofs.Loops.{TestsCounted, counted_first, counted_again}

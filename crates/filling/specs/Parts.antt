@@ -1,17 +1,17 @@
 -- What the parts of the walk ask of the lists, and what they leave in them.
-use Rattle.std.specs.Prelude.{◌≡◌, List, ◌++◌, ℕ, ◌+◌, ◌*◌, ◌≤◌, length, take, set, drop}
+use Rattle.std.specs.Prelude.{◌≡◌, List, ◌++◌, ℕ, ◌+◌, ◌*◌, ◌≤◌, length, take, set, drop, Result, Ok, Err}
 use Rattle.model.specs.Answer.{Answer, returned, unless, nowhere}
 use Rattle.model.specs.Chart.{Test, Transition}
 use Rattle.model.specs.Live.{starts_set}
+use Rattle.refusal.specs.declared.Refusal.{Refusal}
 use Rattle.refusal.specs.Refused.{refused_as}
 use Rattle.chart_lists.specs.declared.Header.{Header}
 use Rattle.chart_lists.specs.Limits.{most_locations}
 use Rattle.chart_lists.specs.Lists.{all_tests, put, codes_of, constants_of, events_of, sources_of, starts_of, targets_of, test_counts_of, timers_of}
 use Rattle.file_format.specs.Parse.{value}
 use Rattle.file_format.specs.Body.{FileHeader, read_header, read_transitions, is_end}
-use Rattle.fields.specs.declared.Field.{Field}
-use Rattle.fields.specs.declared.Field.TheVariants as field
-use Rattle.fields.specs.Parts.{Head, read_head}
+use Rattle.fields.specs.declared.record.Head.{Head}
+use Rattle.fields.specs.Parts.{read_head}
 
 -- ---- room
 
@@ -67,6 +67,6 @@ pub record TestsStored (ts : List Test) (base : ℕ) (a b c a' b' c' : List ℕ)
 -- ---- the end
 
 -- what the whole comes to once its transitions are read: 3 if bytes are left
-abbrev pub ended_as : List ℕ → Header → Field → Answer Header
-ended_as s m (field.Value x next) = unless (is_end (drop next s)) 3 nowhere (returned m)
-ended_as s m (field.Refused f) = refused_as f
+abbrev pub ended_as : List ℕ → Header → Result (ℕ × ℕ) Refusal → Answer Header
+ended_as s m (Ok (x, next)) = unless (is_end (drop next s)) 3 nowhere (returned m)
+ended_as s m (Err f) = refused_as f

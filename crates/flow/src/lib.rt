@@ -16,18 +16,6 @@ use chart_lists::{MOST_LOCATIONS, MOST_TRANSITIONS};
 use timer_set::TimerSet;
 use worklist::{NONE, list_edges, push, visit};
 
-// `to` becomes `from`.
-fn copy(from: &[u64], to: &mut [u64])
-    requires { length to.old ≡ length from.now }
-    ensures { to.new ≡ from.now }
-{
-    let mut i = 0;
-    while i < from.len() {
-        to[i] = from[i];
-        i += 1;
-    }
-}
-
 // The first round: from empty sets an edge brings what it gains alone, wherever it comes from and whatever it cuts.
 fn first_round<'a>(into: &'a [u16], gain: &'a [u64], own: &'a [u64], after: &mut [u64])
     requires { (length gain.now ≡ length into.now) × (length after.old ≡ length own.now)
@@ -35,14 +23,10 @@ fn first_round<'a>(into: &'a [u16], gain: &'a [u64], own: &'a [u64], after: &mut
     ensures { (from cut : List ℕ) → after.new
         ≡ round (flow_of into.now from cut gain.now own.now) (replicate (length own.now) 0) }
 {
-    copy(own, after);
-    let n = into.len();
-    let mut i = 0;
-    while i < n {
-        let q = into[i] as usize;
-        let set = TimerSet { bits: after[q] };
-        after[q] = set.join(TimerSet { bits: gain[i] }).bits;
-        i += 1;
+    after.copy_from_slice(own);
+    for (&q, &gained) in into.iter().zip(gain) {
+        let set = &mut after[q as usize];
+        *set = TimerSet { bits: *set }.join(TimerSet { bits: gained }).bits;
     }
 }
 
@@ -52,14 +36,10 @@ fn push_nonempty(sets: &[u64], idle: &mut [u8], waiting: &mut [u16]) -> usize
     ensures waits { Differing (replicate (length sets.now) 0) sets.now idle.new waiting.new result }
     ensures empty { ((q : ℕ) → get_or sets.now q 0 ≡ 0) → result ≡ 0 }
 {
-    let n = sets.len();
     let mut depth: usize = 0;
-    let mut i = 0;
-    while i < n {
-        let q = i;
-        i += 1;
-        if sets[q] != 0 {
-            depth = push(q as u16, idle, waiting, depth);
+    for (i, set) in sets.iter().enumerate() {
+        if *set != 0 {
+            depth = push(i as u16, idle, waiting, depth);
         }
     }
     depth
@@ -79,14 +59,12 @@ fn take_over(
     ensures changed { (k : ℕ) → k < depth → get_or changed.new k 0 ≡ get_or waiting.now k 0 }
     ensures none { Worklist (length after.now) idle.new waiting.now 0 }
 {
-    let mut left = depth;
-    while left > 0 {
-        left -= 1;
-        let location = waiting[left];
+    for i in (0..depth).rev() {
+        let location = waiting[i];
         let q = location as usize;
         idle[q] = 1;
         sets[q] = after[q];
-        changed[left] = location;
+        changed[i] = location;
     }
 }
 
@@ -97,30 +75,27 @@ fn next_round<'a>(
     first: &'a [u16],
     next: &'a [u16],
     changed: &'a [u16],
-    count: usize,
     sets: &'a [u64],
     after: &mut [u64],
     idle: &mut [u8],
     waiting: &mut [u16],
 ) -> usize
     requires { ((from : List ℕ) × Adjacency (length after.old) from into.now cut.now first.now next.now)
-        × (length sets.now ≡ length after.old) × (count ≤ length changed.now)
-        × ((k : ℕ) → k < count → get_or changed.now k 0 < length after.old) × Worklist (length after.old) idle.old waiting.old 0 }
+        × (length sets.now ≡ length after.old)
+        × ((k : ℕ) → k < length changed.now → get_or changed.now k 0 < length after.old) × Worklist (length after.old) idle.old waiting.old 0 }
     ensures over { (from : List ℕ)
         → Adjacency (length after.old) from into.now cut.now first.now next.now
-        → GoneOver from into.now cut.now (LeavesOne from changed.now count) (λ q. get_or sets.now q 0)
+        → GoneOver from into.now cut.now (LeavesOne from changed.now (length changed.now)) (λ q. get_or sets.now q 0)
         after.old idle.old after.new idle.new }
     ensures worklist { Worklist (length after.old) idle.new waiting.new result }
     ensures less { result + sum_of after.old ≤ sum_of after.new }
 {
     let mut depth: usize = 0;
-    let mut i: usize = 0;
-    while i < count {
-        let q = changed[i] as usize;
+    for location in changed {
+        let q = *location as usize;
         depth = visit(
             into, cut, first, next, q, sets[q], after, idle, waiting, depth,
         );
-        i += 1;
     }
     depth
 }
@@ -143,7 +118,7 @@ fn make_rounds<'a>(
     ensures sets { sets.new ≡ settled (flow_lent into from cut gain own) }
     ensures count { result ≡ rounds (flow_lent into from cut gain own) }
 {
-    copy(after, sets);
+    sets.copy_from_slice(after);
     first_round(into, gain, own, after);
     let mut idle = [1u8; MOST_LOCATIONS];
     let mut waiting = [0u16; MOST_LOCATIONS];
@@ -157,8 +132,7 @@ fn make_rounds<'a>(
             cut,
             first,
             next,
-            &changed,
-            depth,
+            &changed[..depth],
             sets,
             after,
             &mut idle,

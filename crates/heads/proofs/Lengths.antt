@@ -9,10 +9,10 @@ use lib.Seq.{take_all}
 use Rattle.lists.proofs.Bools.{lt_or_le}
 use Rattle.controller_model.specs.Parts.{stretch, offset, part_of}
 
-pub part_between : (lengths : List ℕ) (h : ℕ) (l : List ℕ) {b e : ℕ} → b ≡ min (offset lengths h) (length l)
+pub part_between : {A : Type 0} (lengths : List ℕ) (h : ℕ) (l : List A) {b e : ℕ} → b ≡ min (offset lengths h) (length l)
     → e ≡ min (b + get_or lengths h 0) (length l) → take (e - b) (drop b l) ≡ part_of lengths h l
 unfolding part_of stretch
-part_between lengths h l {b} {e} p q =
+part_between {A} lengths h l {b} {e} p q =
     go (lt_or_le (b + get_or lengths h 0) (length l)) ∙ ap (take (get_or lengths h 0)) (begins (lt_or_le b (length l)))
   where
     go : (b + get_or lengths h 0 < length l) ⊎ (length l ≤ b + get_or lengths h 0) → take (e - b) (drop b l) ≡ take (get_or lengths h 0) (drop b l)

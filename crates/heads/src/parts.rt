@@ -1,6 +1,6 @@
-// Where the parts of a list begin and end that holds a part for each head, one after another. What reaches beyond the list is cut at its end.
-ghost use Rattle.std.specs.Prelude.{◌≡◌, ◌+◌, ◌≤◌, min};
-ghost use Rattle.controller_model.specs.Parts.{offset};
+// The parts of a list that holds a part for each head, one after another. What reaches beyond the list is cut at its end.
+ghost use Rattle.std.specs.Prelude.{◌≡◌, ◌+◌, ◌≤◌, ◌<◌, min};
+ghost use Rattle.controller_model.specs.Parts.{offset, part_of};
 
 use controller_model::MOST_HEADS;
 
@@ -9,11 +9,7 @@ pub fn end_of(entries: usize, at: usize, length: u64) -> usize
     requires { at ≤ entries }
     ensures { result ≡ min (at + length) entries }
 {
-    let rest = entries - at;
-    if length < rest as u64 {
-        return at + length as usize;
-    }
-    entries
+    at + length.min((entries - at) as u64) as usize
 }
 
 // The beginning of part h, in a list of so many entries.
@@ -21,11 +17,19 @@ pub fn begin_of(entries: usize, lengths: [u64; MOST_HEADS], h: usize) -> usize
     requires { h ≤ 8 }
     ensures { result ≡ min (offset lengths h) entries }
 {
-    let mut at: usize = 0;
-    let mut g: usize = 0;
-    while g < h {
+    let mut at = 0;
+    for g in 0..h {
         at = end_of(entries, at, lengths[g]);
-        g += 1;
     }
     at
+}
+
+// Part h of a list.
+pub fn part_of<'a, T: Copy>(list: &'a [T], lengths: [u64; MOST_HEADS], h: usize) -> &'a [T]
+    requires { h < 8 }
+    ensures { result.now ≡ part_of lengths h list.now }
+{
+    let begin = begin_of(list.len(), lengths, h);
+    let end = end_of(list.len(), begin, lengths[h]);
+    &list[begin..end]
 }

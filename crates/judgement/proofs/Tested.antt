@@ -3,12 +3,12 @@
 use mathlib.Core.Path.{◌≡◌, refl, sym, ap, ◌∙◌}
 use mathlib.Core.Bool.{Bool, true, false, not}
 use mathlib.Core.List.{List, [], ◌∷◌, ◌++◌, map, map-append, append_assoc, foldl-append}
-use Prim.Native.Nat.{ℕ, zero, suc, ◌+◌, ◌≤◌, ◌<◌}
+use Prim.Native.Nat.{ℕ, zero, suc, ◌+◌, ◌-◌, ◌≤◌, ◌<◌}
 use native.Mathlib.Numerals.{add-one}
 use native.Mathlib.Omega.{arith}
 use lib.Dec.{eqb}
-use lib.ListN.{length, get_or, take, drop, set, length-drop, length-map}
-use lib.Seq.{length-take-le, take-suc, take_at, drop_at, drop-drop, get_or-drop}
+use lib.ListN.{length, get_or, take, drop, set, length-take, length-map}
+use lib.Seq.{length-take-le, take-suc, take_at, drop_at, drop-drop, get_or-drop, get_or-take}
 use Rattle.timer_set.specs.Members.{added, common, set_of}
 use Rattle.lists.specs.Lists.{lowest, first_of, sum_of}
 use Rattle.model.specs.Chart.{Test, Transition}
@@ -19,12 +19,20 @@ use Rattle.judgement.specs.Tested.{sets_in, tests_at}
 
 -- ---- one transition's tests
 
-pub set_more : (ts : List ℕ) (base k : ℕ) → base + k < length ts
-    → added (set_of (take k (drop base ts))) (get_or ts (base + k) 0) ≡ set_of (take (k + 1) (drop base ts))
+pub set_more : (ts : List ℕ) (k : ℕ) → k < length ts → added (set_of (take k ts)) (get_or ts k 0) ≡ set_of (take (k + 1) ts)
 unfolding set_of
-set_more ts base k h =
-    let l : k < length (drop base ts) = simp length-drop (omega arith) in
-    rw (add-one k, take-suc (drop base ts) k 0, foldl-append, get_or-drop)
+set_more ts k h = rw (add-one k, take-suc ts k 0, foldl-append)
+
+module _ (ts : List ℕ) (base n : ℕ) where
+  -- the timers between two places, by how many they are
+  pub between : take ((base + n) - base) (drop base ts) ≡ take n (drop base ts)
+  between = let e : (base + n) - base ≡ n = omega arith in rw e
+
+  pub between_small : {top : ℕ} → ((i : ℕ) → i < top → get_or ts i 0 < 64) → base + n ≤ top
+      → (i : ℕ) → i < length (take ((base + n) - base) (drop base ts)) → get_or (take ((base + n) - base) (drop base ts)) i 0 < 64
+  between_small small room i h =
+      let k : i < n = omega (arith, simp (between, length-take) at h) in
+      rw (between, get_or-take, get_or-drop) (small (base + i) (omega arith))
 
 -- ---- one transition after another
 

@@ -1,9 +1,10 @@
 // The judgement that all calls share: reads a file into lists of the largest size and judges 1 to 10.
 #![tactic(auto)]
 
-ghost use Rattle.std.specs.Prelude.{◌≡◌, ℕ, ◌+◌, ◌≤◌, ◌<◌, length, get_or, take, drop, replicate};
+ghost use Rattle.std.specs.Prelude.{◌≡◌, ℕ, ◌≤◌, ◌<◌, length, get_or, replicate};
 ghost use Rattle.timer_set.specs.Members.{set_of};
 ghost use Rattle.lists.specs.Lists.{lowest};
+ghost use Rattle.refusal.specs.Refused.{answer_as};
 ghost use Rattle.model.specs.Answer.{returned};
 ghost use Rattle.model.specs.Chart.{Chart};
 ghost use Rattle.model.specs.Live.{tested_sets};
@@ -12,8 +13,8 @@ ghost use Rattle.chart_lists.specs.Header.{header_of};
 ghost use Rattle.chart_lists.specs.Begins.{Begins};
 ghost use Rattle.chart_lists.specs.Holds.{Holds};
 ghost use Rattle.chart_lists.specs.Lent.{passed_mut, at_exit};
+ghost use Rattle.chart_lists.specs.Stored.{stored};
 ghost use Rattle.chart_lists.specs.Limits.{most_transitions};
-ghost use Rattle.chart_lists.specs.Read.{read_as};
 ghost use Rattle.file_format.specs.File.{chart_in};
 ghost use Rattle.filling.specs.Filling.{LargestLists};
 ghost use Rattle.judgement.specs.Judging.{judged_header, header_judged};
@@ -22,22 +23,20 @@ ghost use Rattle.forward.specs.Forward.{SafeForward};
 ghost use Rattle.judgement.specs.Places.{first_empty, unreached_in, refused_in, judged_lists};
 ghost use Rattle.judgement.specs.Charts.{HoldsTransitions};
 
-use chart_lists::{Header, MOST_LOCATIONS, Read};
-use refusal::Refusal;
+use chart_lists::{ChartStore, Header, MOST_LOCATIONS, MOST_TRANSITIONS};
+use refusal::{Reason, Refusal};
 use timer_set::TimerSet;
 
-// The set of so many timers from the entry base on.
-fn set_of(timers: &[u8], base: usize, count: u8) -> u64
-    requires { (base + count ≤ length timers.now) × ((i : ℕ) → i < base + count → get_or timers.now i 0 < 64) }
-    ensures { result ≡ set_of (take count (drop base timers.now)) }
+// The set of the timers of a list.
+fn set_of(timers: &[u8]) -> TimerSet
+    requires { (i : ℕ) → i < length timers.now → get_or timers.now i 0 < 64 }
+    ensures { result.bits ≡ set_of timers.now }
 {
     let mut set = TimerSet::EMPTY;
-    let mut k: u8 = 0;
-    while k < count {
-        set = set.with(timers[base + k as usize]);
-        k += 1;
+    for timer in timers {
+        set = set.with(*timer);
     }
-    set.bits
+    set
 }
 
 // The set of the timers that each transition tests, over the front of `tested`.
@@ -45,14 +44,11 @@ fn tested_sets(test_counts: &[u8], timers: &[u8], tested: &mut [u64])
     requires { TimersFor test_counts.now timers.now × (length test_counts.now ≤ length tested.old) }
     ensures { tested.new ≡ put (sets_in test_counts.now timers.now) tested.old }
 {
-    let n = test_counts.len();
     let mut base: usize = 0;
-    let mut i: usize = 0;
-    while i < n {
-        let count = test_counts[i];
-        tested[i] = set_of(timers, base, count);
-        base += count as usize;
-        i += 1;
+    for i in 0..test_counts.len() {
+        let end = base + test_counts[i] as usize;
+        tested[i] = set_of(&timers[base..end]).bits;
+        base = end;
     }
 }
 
@@ -60,16 +56,9 @@ fn tested_sets(test_counts: &[u8], timers: &[u8], tested: &mut [u64])
 fn first_empty(sets: &[u64]) -> usize
     ensures { result ≡ first_empty sets.now }
 {
-    let n = sets.len();
-    let mut q: usize = 0;
-    while q < n {
-        let set = TimerSet { bits: sets[q] };
-        if set.is_empty() {
-            return q;
-        }
-        q += 1;
-    }
-    n
+    sets.iter()
+        .position(|set| TimerSet { bits: *set }.is_empty())
+        .unwrap_or(sets.len())
 }
 
 // The first transition that tests a timer of its source's set, or their number.
@@ -78,17 +67,14 @@ fn first_testing(sources: &[u16], tested: &[u64], sets: &[u64]) -> usize
         × ((i : ℕ) → i < length sources.now → get_or sources.now i 0 < length sets.now) }
     ensures { result ≡ lowest (tests_at sources.now tested.now sets.now) (length sources.now) }
 {
-    let n = sources.len();
-    let mut i: usize = 0;
-    while i < n {
+    for i in 0..sources.len() {
         let q = sources[i] as usize;
         let both = TimerSet { bits: tested[i] }.common(TimerSet { bits: sets[q] });
         if !both.is_empty() {
             return i;
         }
-        i += 1;
     }
-    n
+    sources.len()
 }
 
 // The lowest location that no path reaches, or the number of locations. A chart of fewer than 64 timers starts timer 63 nowhere, so that it
@@ -97,18 +83,17 @@ fn first_unreached<'a>(
     sources: &'a [u16],
     targets: &'a [u16],
     sets: &'a [u64],
-    timers: u8,
-    initial: u16,
+    header: Header,
 ) -> usize
-    requires { SafeForward initial (length sets.now) sources.now targets.now (replicate (length sources.now) 0) }
-    ensures { result ≡ unreached_in timers initial sources.now targets.now sets.now }
+    requires { SafeForward header.initial (length sets.now) sources.now targets.now (replicate (length sources.now) 0) }
+    ensures { result ≡ unreached_in header.timers header.initial sources.now targets.now sets.now }
 {
-    if timers < 64 {
+    if header.timers < 64 {
         return first_empty(sets);
     }
     let m = sets.len();
     let mut reached = [0u64; MOST_LOCATIONS];
-    forward::settle_reached(sources, targets, initial, &mut reached[..m]);
+    forward::settle_reached(sources, targets, header.initial, &mut reached[..m]);
     first_empty(&reached[..m])
 }
 
@@ -117,17 +102,15 @@ fn first_refused<'a>(
     sources: &'a [u16],
     targets: &'a [u16],
     sets: &'a [u64],
-    version: u8,
-    timers: u8,
-    initial: u16,
+    header: Header,
 ) -> usize
-    requires { SafeForward initial (length sets.now) sources.now targets.now (replicate (length sources.now) 0) }
-    ensures { result ≡ refused_in version timers initial sources.now targets.now sets.now }
+    requires { SafeForward header.initial (length sets.now) sources.now targets.now (replicate (length sources.now) 0) }
+    ensures { result ≡ refused_in header.version header.timers header.initial sources.now targets.now sets.now }
 {
-    if file_format::allows_spare(version) {
+    if file_format::allows_spare(header.version) {
         return sets.len();
     }
-    first_unreached(sources, targets, sets, timers, initial)
+    first_unreached(sources, targets, sets, header)
 }
 
 // 9, then 10, else the chart's header.
@@ -137,37 +120,30 @@ fn judge_lists<'a>(
     starts: &'a [u64],
     tested: &'a [u64],
     header: Header,
-) -> Read
+) -> Result<Header, Refusal>
     requires { SafeForward header.initial header.locations sources.now targets.now starts.now
         × (length tested.now ≡ length sources.now) }
-    ensures { read_as result ≡ judged_lists header sources.now targets.now starts.now tested.now }
+    ensures { answer_as result ≡ judged_lists header sources.now targets.now starts.now tested.now }
 {
     let m = header.locations as usize;
     let n = sources.len();
     let mut sets = [0u64; MOST_LOCATIONS];
     forward::settle_forward(sources, targets, starts, header.initial, &mut sets[..m]);
-    let unreached = first_refused(
-        sources,
-        targets,
-        &sets[..m],
-        header.version,
-        header.timers,
-        header.initial,
-    );
+    let unreached = first_refused(sources, targets, &sets[..m], header);
     if unreached < m {
-        return Read::Refused(Refusal {
-            number: 9,
+        return Err(Refusal {
+            reason: Reason::Unreached,
             place: unreached as u64,
         });
     }
     let unstarted = first_testing(sources, tested, &sets[..m]);
     if unstarted < n {
-        return Read::Refused(Refusal {
-            number: 10,
+        return Err(Refusal {
+            reason: Reason::Unstarted,
             place: unstarted as u64,
         });
     }
-    Read::Chart(header)
+    Ok(header)
 }
 
 // The tested sets of a chart that was read, then 9 and 10.
@@ -179,13 +155,13 @@ fn judge_chart<'a>(
     timers: &'a [u8],
     header: Header,
     tested: &mut [u64],
-) -> Read
+) -> Result<Header, Refusal>
     requires { ((c : Chart) × (header ≡ header_of c)
         × HoldsTransitions c sources.now targets.now starts.now test_counts.now timers.now)
         × (most_transitions ≤ length tested.old) }
     ensures answer { ((c : Chart) → header ≡ header_of c
         → HoldsTransitions c sources.now targets.now starts.now test_counts.now timers.now
-        → read_as result ≡ header_judged c) }
+        → answer_as result ≡ header_judged c) }
     ensures tested { ((c : Chart) → header ≡ header_of c
         → HoldsTransitions c sources.now targets.now starts.now test_counts.now timers.now
         → Begins (tested_sets c) tested.new) }
@@ -203,6 +179,7 @@ fn judge_chart<'a>(
 
 // The judgement that all calls share: 1 to 8, then 9, then 10. A file that holds a chart leaves its lists and its tested sets, whatever the answer;
 // a file that holds none leaves in them what it may.
+// stays: the contract of `judge` stands, whose lists are lent one by one (its clause `lists`); `judge_into` takes them in one struct.
 pub fn judge(
     file: &[u8],
     accepting: &mut [u16],
@@ -215,15 +192,15 @@ pub fn judge(
     codes: &mut [u8],
     constants: &mut [u32],
     tested: &mut [u64],
-) -> Read
+) -> Result<Header, Refusal>
     requires { LargestLists (passed_mut accepting sources targets events starts test_counts timers codes constants)
         × (most_transitions ≤ length tested.old) }
-    ensures answer { read_as result ≡ judged_header file.now }
+    ensures answer { answer_as result ≡ judged_header file.now }
     ensures lists { ((c : Chart) → chart_in file.now ≡ returned c
         → Holds c (at_exit accepting sources targets events starts test_counts timers codes constants)) }
     ensures tested { ((c : Chart) → chart_in file.now ≡ returned c → Begins (tested_sets c) tested.new) }
 {
-    let answer = filling::fill(
+    let header = filling::fill(
         file,
         accepting,
         sources,
@@ -234,10 +211,7 @@ pub fn judge(
         timers,
         codes,
         constants,
-    );
-    let Read::Chart(header) = answer else {
-        return answer;
-    };
+    )?;
     judge_chart(
         sources,
         targets,
@@ -245,6 +219,31 @@ pub fn judge(
         test_counts,
         timers,
         header,
+        tested,
+    )
+}
+
+// The same into the room that every chart has.
+pub fn judge_into(
+    file: &[u8],
+    store: &mut ChartStore,
+    tested: &mut [u64; MOST_TRANSITIONS],
+) -> Result<Header, Refusal>
+    ensures answer { answer_as result ≡ judged_header file.now }
+    ensures lists { ((c : Chart) → chart_in file.now ≡ returned c → Holds c (stored store.new)) }
+    ensures tested { ((c : Chart) → chart_in file.now ≡ returned c → Begins (tested_sets c) tested.new) }
+{
+    judge(
+        file,
+        &mut store.accepting,
+        &mut store.sources,
+        &mut store.targets,
+        &mut store.events,
+        &mut store.starts,
+        &mut store.test_counts,
+        &mut store.timers,
+        &mut store.codes,
+        &mut store.constants,
         tested,
     )
 }

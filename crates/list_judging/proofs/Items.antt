@@ -89,14 +89,6 @@ module _ {A : Type 0} (item : (i s : ℕ) → Answer A) (next : ℕ → A → �
       left = rw (sub-zero n) (then_same (items i s n) _ _ (λ xs. ap returned (sym (e xs))));
     }
 
--- the same items one by one, the same all together
-pub items_same : {A : Type 0} (item item' : (i s : ℕ) → Answer A) (next : ℕ → A → ℕ) → ((i s : ℕ) → item i s ≡ item' i s)
-    → (i s n : ℕ) → items item next i s n ≡ items item' next i s n
-unfolding items
-items_same item item' next e i s zero = refl
-items_same item item' next e i s (suc n) =
-    rw (e i s) (then_same (item' i s) _ _ (λ a. rw (items_same item item' next e (suc i) (next s a) n)))
-
 module _ {A B : Type 0} {item : (i s : ℕ) → Answer A} {next : ℕ → A → ℕ} {add : B → A → B} {whole : Answer B} {n k i s : ℕ} {sum : B}
     (h : Turn item next add whole n k i s sum) where
   pub turn_done : n ≤ k → whole ≡ returned sum

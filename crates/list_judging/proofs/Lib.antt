@@ -1,8 +1,8 @@
 pub mod Answers
 pub mod Items
 pub mod ListEntries
+pub mod Got
 pub mod Parts
-pub mod Judging
 pub mod TransitionOf
 pub mod Turns
 pub mod ChartOf

@@ -1,21 +1,20 @@
--- An entry of a list: in the list, past its end, and below a limit or not.
+-- An entry of a list: there or not, and below a limit or not.
 use mathlib.Core.Path.{◌≡◌, refl, ap, ◌∙◌, subst}
 use mathlib.Core.Option.{Option, some, none}
 use mathlib.Core.List.{List, [], ◌∷◌}
-use Prim.Native.Nat.{ℕ, zero, suc, ◌≤◌, ◌<◌}
+use Prim.Native.Nat.{ℕ, zero, suc, ◌<◌}
 use native.Mathlib.Omega.{arith}
 use lib.Dec.{ltb}
 use lib.ListN.{length, get_or, get_elem?}
-use borrow.Author.Tests.{lt-ltb, le-ltb, ltb-true}
-use Rattle.lists.proofs.Nth.{nth_past}
+use borrow.Author.Tests.{lt-ltb, ltb-true}
 use Rattle.model.specs.Answer.{Answer, returned, refused, nowhere}
 use Rattle.file_format.proofs.Answers.{result_refused, then_result, unless_result}
 use Rattle.list_judging.specs.FromLists.{or_refused, entry_at, limited, entry_below}
 
-nth_in : (l : List ℕ) (k : ℕ) → k < length l → get_elem? l k ≡ some (get_or l k 0)
-nth_in [] k h = absurd (omega arith)
-nth_in (x ∷ l) zero h = refl
-nth_in (x ∷ l) (suc k) h = nth_in l k (omega arith)
+pub nth_in : {A : Type 0} (l : List A) (k : ℕ) (d : A) → k < length l → get_elem? l k ≡ some (get_or l k d)
+nth_in [] k d h = absurd (omega arith)
+nth_in (x ∷ l) zero d h = refl
+nth_in (x ∷ l) (suc k) d h = nth_in l k d (omega arith)
 
 -- ---- there or not
 
@@ -24,14 +23,6 @@ or_refused_some n p none e = absurd (result_refused e refl)
 or_refused_some n p (some y) e = cc
 
 module _ (l : List ℕ) (k : ℕ) where
-  pub entry_in_lem : k < length l → entry_at l k ≡ returned (get_or l k 0)
-  unfolding entry_at
-  entry_in_lem h = ap (or_refused 3 nowhere) (nth_in l k h)
-
-  pub entry_out : length l ≤ k → entry_at l k ≡ refused 3 nowhere
-  unfolding entry_at
-  entry_out h = ap (or_refused 3 nowhere) (nth_past l k h)
-
   pub entry_some : {x : ℕ} → entry_at l k ≡ returned x → get_elem? l k ≡ some x
   unfolding entry_at
   entry_some e = or_refused_some 3 nowhere (get_elem? l k) e
@@ -50,10 +41,6 @@ module _ (limit n p : ℕ) {x : Answer ℕ} where
   pub limited_in : {v : ℕ} → x ≡ returned v → v < limit → limited limit n p x ≡ returned v
   unfolding limited
   limited_in {v} e h = rw (e, lt-ltb v limit h)
-
-  pub limited_over : {v : ℕ} → x ≡ returned v → limit ≤ v → limited limit n p x ≡ refused n p
-  unfolding limited
-  limited_over {v} e h = rw (e, le-ltb v limit h)
 
 module _ (l : List ℕ) (k limit n p : ℕ) where
   -- an entry that is read and then held to its limit

@@ -13,9 +13,8 @@ use Rattle.list_judging.specs.FromLists.{entry_at, entry_below, accepting_from}
 use Rattle.list_judging.specs.FromLists.{test_from, tests_from, transition_from, transitions_from}
 use Rattle.list_judging.specs.Parts.{check_code, check_test, check_tests, check_count, check_ends, check_starts}
 use Rattle.list_judging.specs.Parts.{sizes_of, check_transition}
-use Rattle.list_judging.specs.Lent.{transition_lists, test_lists}
 use Rattle.model.proofs.Answers.{then_id, then_then, then_unless, then_same}
-use Rattle.list_judging.proofs.Items.{items, Each, items_same, items_length, items_each, each_items}
+use Rattle.list_judging.proofs.Items.{items, Each, items_length, items_each, each_items}
 
 -- ---- accepting locations
 
@@ -82,12 +81,6 @@ module _ (l : Lists) (timers i : ℕ) where
   pub each_tests : (k : ℕ) (ts : List Test) → TestsEach l timers i k ts → tests_from l timers i k (length ts) ≡ returned ts
   each_tests k ts h = tests_items k (length ts) ∙ each_items (test_item l timers i) no_state k 0 ts h
 
--- they stand in three of the lists
-tests_only : (l : Lists) (timers i k g : ℕ)
-    → tests_from l timers i k g ≡ tests_from (test_lists l.timers l.codes l.constants) timers i k g
-unfolding test_from
-tests_only l timers i k g = tests_items l timers i k g ∙ sym (tests_items (test_lists l.timers l.codes l.constants) timers i k g)
-
 -- ---- transitions
 
 -- the place of the next one's first test
@@ -115,18 +108,6 @@ module _ (l : Lists) (locations timers : ℕ) where
       → transitions_from l locations timers i k (length rs) ≡ returned rs
   each_transitions i k rs h = transitions_items i k (length rs) ∙ each_items (transition_from l locations timers) next_tests i k rs h
 
--- they stand in all lists but that of the accepting locations
-module _ (l : Lists) (locations timers : ℕ) where
-  transition_only : (i k : ℕ) → transition_from l locations timers i k ≡ transition_from (transition_lists l) locations timers i k
-  unfolding transition_from
-  transition_only i k = simp (tests_only l, tests_only (transition_lists l))
-
-  pub transitions_only : (n : ℕ) → transitions_from l locations timers 0 0 n ≡ transitions_from (transition_lists l) locations timers 0 0 n
-  transitions_only n =
-      transitions_items l locations timers 0 0 n
-      ∙ items_same (transition_from l locations timers) _ next_tests transition_only 0 0 n
-      ∙ sym (transitions_items (transition_lists l) locations timers 0 0 n)
-
 -- ---- fields one after another
 
 pub check_test_lem : (l : Lists) (timers i k : ℕ) → check_test l timers i k
@@ -137,7 +118,7 @@ check_test_lem l timers i k = simp (then_then, then_id)
 pub check_transition_lem : (l : Lists) (locations timers i k : ℕ) → check_transition l locations timers i k
     ≡ then (check_ends l.sources l.targets l.events locations i) (λ e.
     then (check_starts l.starts timers i) (λ s.
-    then (check_count (test_lists l.timers l.codes l.constants) l.test_counts timers i k) (λ g.
+    then (check_count l l.test_counts timers i k) (λ g.
     returned (record { starts = s; tests = g }))))
 unfolding check_transition transition_from check_ends check_starts check_count check_tests sizes_of
-check_transition_lem l locations timers i k = simp (then_then, then_unless, tests_only l)
+check_transition_lem l locations timers i k = simp (then_then, then_unless)

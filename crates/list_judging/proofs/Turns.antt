@@ -1,25 +1,27 @@
 -- The loops that judge accepting locations, tests and transitions, at their first turn; an item by what was kept of it; and how many timers
 -- transitions start and how many tests they have at most.
-use mathlib.Core.Path.{◌≡◌, sym, ap, ◌∙◌}
+use mathlib.Core.Path.{◌≡◌, ap, ◌∙◌}
 use mathlib.Core.List.{List, [], ◌∷◌, map}
 use Prim.Native.Nat.{ℕ, ◌+◌, ◌*◌, ◌≤◌, ◌<◌}
 use native.Mathlib.Nat.{add_assoc, add-zero, zero-add}
 use native.Mathlib.Omega.{arith}
 use lib.ListN.{length}
+use borrow.Author.Tests.{le-leb, lt-leb}
 use Rattle.lists.specs.Lists.{sum_of}
 use Rattle.lists.proofs.Gather.{rising_length}
 use Rattle.lists.proofs.Sums.{sum_most}
 use Rattle.timer_set.specs.Members.{members}
 use Rattle.timer_set.proofs.Members.{members_rising}
-use Rattle.model.specs.Answer.{returned, refused}
+use Rattle.model.specs.Answer.{returned, refused, nowhere}
 use Rattle.model.specs.Chart.{Test, Transition}
 use Rattle.chart_lists.specs.Lists.{Lists}
-use Rattle.list_judging.specs.FromLists.{accepting_from, test_from, transition_from, transitions_from}
-use Rattle.list_judging.specs.Parts.{check_accepting, check_test, check_tests, Sizes, sizes_of, total_sizes, check_transition, check_transitions}
+use Rattle.list_judging.specs.declared.transition.Sizes.{Sizes}
+use Rattle.list_judging.specs.FromLists.{entry_below, test_from, transition_from, transitions_from}
+use Rattle.list_judging.specs.Parts.{check_accepting, check_test, check_tests, sizes_of, total_sizes, check_transition, check_transitions}
 use Rattle.model.proofs.Answers.{kept_result, kept_refused}
 use Rattle.list_judging.proofs.Items.{added, Turn, turn_first, turn_again, each_all}
 use Rattle.list_judging.proofs.TransitionOf.{transition_of}
-use Rattle.list_judging.proofs.Parts.{accepting_item, next_lowest, accepting_items_lem, accepting_length}
+use Rattle.list_judging.proofs.Parts.{accepting_item, next_lowest, accepting_items_lem}
 use Rattle.list_judging.proofs.Parts.{test_item, no_state, tests_items}
 use Rattle.list_judging.proofs.Parts.{next_tests, transitions_items, transitions_each, transitions_length}
 
@@ -84,6 +86,22 @@ pub transitions_again : (l : Lists) (locations timers : ℕ) {n starts tests i :
 transitions_again l locations timers {n} {starts} {tests} {i} t h r e es eg =
     turn_again t h (i + 1) _ _ e (omega arith) (rw eg) (rw (es, eg))
 
+-- ---- an accepting location
+
+module _ (locations : ℕ) (l : List ℕ) (k lo : ℕ) where
+  pub accepting_refused : {n p : ℕ} → entry_below l k locations 5 nowhere ≡ refused n p → accepting_item locations l k lo ≡ refused n p
+  unfolding accepting_item
+  accepting_refused e = rw e
+
+  module _ {x : ℕ} (e : entry_below l k locations 5 nowhere ≡ returned x) where
+    pub accepting_low : x < lo → accepting_item locations l k lo ≡ refused 7 nowhere
+    unfolding accepting_item
+    accepting_low h = rw (e, lt-leb lo x h)
+
+    pub accepting_in : lo ≤ x → accepting_item locations l k lo ≡ returned x
+    unfolding accepting_item
+    accepting_in h = rw (e, le-leb lo x h)
+
 -- ---- items
 
 module _ (l : Lists) (timers i k : ℕ) where
@@ -118,12 +136,6 @@ module _ (l : Lists) (locations timers i k : ℕ) (r : Transition) (e : transiti
 pub length_sizes : (r : Transition) (s g : ℕ) → sizes_of r ≡ record { starts = s; tests = g } → (length r.starts ≡ s) × (length r.tests ≡ g)
 unfolding sizes_of
 length_sizes r s g e = (ap (λ (z : Sizes). z.starts) e, ap (λ (z : Sizes). z.tests) e)
-
-pub accepting_count : (locations : ℕ) (l : List ℕ) (n : ℕ) {a : ℕ} → check_accepting locations l n ≡ returned a → a ≡ n
-unfolding check_accepting
-accepting_count locations l n e =
-    let x = kept_result (accepting_from locations l 0 0 n) _ e in
-    sym x.2 ∙ accepting_length locations l 0 0 n x.0 x.1
 
 -- n transitions start at most 64 timers each and have at most 8 tests each
 pub transitions_most : (l : Lists) (locations timers n : ℕ) {z : Sizes} → check_transitions l locations timers n ≡ returned z

@@ -23,12 +23,13 @@ use Rattle.chart_lists.specs.declared.Header.{Header}
 use Rattle.chart_lists.proofs.Begins.{begins_room}
 use Rattle.chart_lists.proofs.Large.{large_among_lem}
 use Rattle.chart_lists.proofs.Tests.{tests_sum}
+use Rattle.list_judging.specs.declared.transition.Sizes.{Sizes}
 use Rattle.list_judging.specs.FromLists.{transitions_from, chart_with, fields_from, chart_from}
-use Rattle.list_judging.specs.Parts.{check_header, check_accepting, total_sizes, check_transitions, check_chart, Sizes}
-use Rattle.list_judging.specs.Lent.{transition_lists}
+use Rattle.list_judging.specs.Parts.{check_header, check_accepting, total_sizes, check_transitions, check_chart}
 use Rattle.model.proofs.Answers.{then_then, then_unless, then_known, kept_result}
-use Rattle.list_judging.proofs.Parts.{transitions_only, transitions_each, transitions_length}
+use Rattle.list_judging.proofs.Parts.{transitions_each, transitions_length}
 use Rattle.list_judging.proofs.FromHolds.{tests_begin}
+use Rattle.list_judging.proofs.Turns.{transitions_most}
 
 -- ---- large constants
 
@@ -98,8 +99,11 @@ module _ (m : Header) (l : Lists) where
       ≡ then (check_header m) (λ z.
       then (check_accepting m.locations l.accepting m.accepting) (λ a.
       unless (ltb m.transitions 513) 4 nowhere (
-      then (check_transitions (transition_lists l) m.locations m.timers m.transitions) (λ z.
+      then (check_transitions l m.locations m.timers m.transitions) (λ z.
       after_fields m l.constants a z))))
   unfolding check_chart chart_from fields_from check_header check_accepting check_transitions
   check_chart_lem =
-      rw (← transitions_only l m.locations m.timers m.transitions) (simp (then_then, then_unless, after_fields_lem))
+      simp (then_then, then_unless, after_fields_lem)
+
+-- what the code's judgement of the whole goes by
+pub ruleset whole_chart = (check_chart_lem, sizes_room, transitions_most)

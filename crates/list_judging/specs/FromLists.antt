@@ -17,7 +17,7 @@ or_refused n p none = refused n p
 or_refused n p (some x) = returned x
 
 -- the entry at place k of a list; 3 where the list has ended
-unfoldable pub entry_at : List ℕ → (k : ℕ) → Answer ℕ
+unfoldable pub entry_at : {A : Type 0} → List A → (k : ℕ) → Answer A
 entry_at l k = or_refused 3 nowhere (get_elem? l k)
 
 -- a number below the limit, else the refusal n at the place p

@@ -10,18 +10,19 @@ use Rattle.model.specs.Version.{known_version}
 use Rattle.file_format.specs.File.{file_of}
 use Rattle.chart_lists.specs.Lists.{Lists}
 use Rattle.chart_lists.specs.declared.Header.{Header}
+use Rattle.list_judging.specs.declared.transition.Sizes.{Sizes}
 use Rattle.list_judging.specs.FromLists.{or_refused, entry_at, entry_below, accepting_from}
 use Rattle.list_judging.specs.FromLists.{test_from, tests_from, transition_from, transitions_from, chart_from}
 
 -- the version, the numbers of locations and timers and the initial location
-unfoldable pub check_header : Header → Answer ℕ
+unfoldable pub check_header : Header → Answer Unit
 check_header m =
     unless (known_version m.version) 2 nowhere (
     unless (ltb m.locations 257) 4 nowhere (
     unless (leb 1 m.locations) 4 nowhere (
     unless (ltb m.initial m.locations) 5 nowhere (
     unless (ltb m.timers 65) 4 nowhere (
-    returned 0)))))
+    returned tt)))))
 
 -- the accepting locations: how many
 unfoldable pub check_accepting : (locations : ℕ) → List ℕ → (n : ℕ) → Answer ℕ
@@ -53,10 +54,6 @@ unfoldable pub check_starts : List ℕ → (timers i : ℕ) → Answer ℕ
 check_starts l timers i = then (entry_at l i) (λ w. unless (all_below timers w) 6 i (returned (length (members w))))
 
 -- what gives the length of a record
-pub record Sizes : Type 0 where
-  pub starts : ℕ
-  pub tests : ℕ
-
 unfoldable pub sizes_of : Transition → Sizes
 sizes_of r = record { starts = length r.starts; tests = length r.tests }
 

@@ -3,123 +3,78 @@
 
 ghost use Rattle.std.specs.Prelude.{◌≡◌, ◌&&◌, ◌+◌, ◌*◌, ◌≤◌, ◌<◌, eqb, length};
 ghost use Rattle.model.specs.Version.{width_of};
-ghost use Rattle.chart_lists.specs.Lent.{at_entry};
-ghost use Rattle.list_judging.specs.Parts.{check_header, check_accepting, check_transitions, check_chart};
+ghost use Rattle.refusal.specs.Refused.{answer_as};
 ghost use Rattle.chart_lists.specs.Large.{large_among};
-ghost use Rattle.list_judging.specs.Meaning.{judged_as, entry_as, sizes_as};
-ghost use Rattle.list_judging.specs.Lent.{transitions_at_entry};
+ghost use Rattle.list_judging.specs.Parts.{check_header, check_accepting, check_transitions, check_chart};
+ghost use Rattle.chart_lists.specs.Stored.{lists_in};
 
 mod entries;
 mod transition;
 
-use crate::entries::{Entry, below, pair_at, refusal_of};
-use crate::transition::{JudgedSizes, judge_transition, sizes_refusal};
-use chart_lists::Header;
-use refusal::Refusal;
-
-// A chart that was judged: the length of its file, or the refusal of its first field that fails.
-#[derive(Clone, Copy)]
-pub enum Judged {
-    File(usize),
-    Refused(Refusal),
-}
+use crate::entries::{below, entry_at};
+use crate::transition::{Sizes, judge_transition};
+use chart_lists::{ChartLists, Header};
+use refusal::{Reason, Refusal};
 
 // The version, the numbers of locations and timers, and the initial location.
-fn judge_header(header: Header) -> Entry
-    ensures { entry_as result ≡ check_header header }
+#[tactic(auto, unfolding(crate::specs::Parts::check_header))]
+fn judge_header(header: Header) -> Result<(), Refusal>
+    ensures { answer_as result ≡ check_header header }
 {
     if !file_format::known_version(header.version as u64) {
-        return Entry::Refused(refusal::WRONG_VERSION);
+        return Err(refusal::WRONG_VERSION);
     }
     if header.locations as usize > chart_lists::MOST_LOCATIONS {
-        return Entry::Refused(refusal::TOO_MANY);
+        return Err(refusal::TOO_MANY);
     }
     if header.locations < 1 {
-        return Entry::Refused(refusal::TOO_MANY);
+        return Err(refusal::TOO_MANY);
     }
     if header.initial >= header.locations {
-        return Entry::Refused(refusal::NO_SUCH_LOCATION);
+        return Err(refusal::NO_SUCH_LOCATION);
     }
     if header.timers as usize > chart_lists::MOST_TIMERS {
-        return Entry::Refused(refusal::TOO_MANY);
+        return Err(refusal::TOO_MANY);
     }
-    Entry::Value(0)
+    Ok(())
 }
 
 // n accepting locations, strictly rising and below the number of locations.
-fn judge_accepting(accepting: &[u16], locations: u16, n: u16) -> Entry
-    ensures { entry_as result ≡ check_accepting locations accepting.now n }
+fn judge_accepting(accepting: &[u16], locations: u16, n: u16) -> Result<u16, Refusal>
+    ensures { answer_as result ≡ check_accepting locations accepting.now n }
 {
     let mut lowest: u64 = 0;
-    let mut k: u16 = 0;
-    while k < n {
-        let a = below(
-            pair_at(accepting, k as usize),
+    for k in 0..n {
+        let x = entry_at(accepting, k as usize)?;
+        let x = below(
+            x as u64,
             locations as u64,
-            5,
+            Reason::NoSuchLocation,
             refusal::NOWHERE,
-        );
-        let Entry::Value(x) = a else {
-            return a;
-        };
+        )?;
         if x < lowest {
-            return Entry::Refused(refusal::NOT_RISING);
+            return Err(refusal::NOT_RISING);
         }
         lowest = x + 1;
-        k += 1;
     }
-    Entry::Value(k as u64)
+    Ok(n)
 }
 
 // All transitions: their sizes, summed up.
-fn judge_transitions(
-    header: Header,
-    sources: &[u16],
-    targets: &[u16],
-    events: &[u8],
-    starts: &[u64],
-    test_counts: &[u8],
-    timers: &[u8],
-    codes: &[u8],
-    constants: &[u32],
-) -> JudgedSizes
-    ensures { sizes_as result
-        ≡ check_transitions (transitions_at_entry sources targets events starts test_counts timers codes constants)
-        header.locations header.timers header.transitions }
+fn judge_transitions(header: Header, lists: ChartLists) -> Result<Sizes, Refusal>
+    ensures { answer_as result
+        ≡ check_transitions (lists_in lists.entry) header.locations header.timers header.transitions }
 {
-    let n = header.transitions as usize;
-    let mut started: u64 = 0;
-    let mut k: usize = 0;
-    let mut i: usize = 0;
-    while i < n {
-        let a = judge_transition(
-            header,
-            sources,
-            targets,
-            events,
-            starts,
-            test_counts,
-            timers,
-            codes,
-            constants,
-            i,
-            k,
-        );
-        let JudgedSizes::Found {
-            starts: s,
-            tests: g,
-        } = a
-        else {
-            return a;
-        };
-        started += s;
-        k += g as usize;
-        i += 1;
+    let mut sum = Sizes {
+        starts: 0,
+        tests: 0,
+    };
+    for i in 0..header.transitions as usize {
+        let sizes = judge_transition(header, lists, i, sum.tests as usize)?;
+        sum.starts += sizes.starts;
+        sum.tests += sizes.tests;
     }
-    JudgedSizes::Found {
-        starts: started,
-        tests: k as u64,
-    }
+    Ok(sum)
 }
 
 // 17: version 1, and one of the first n constants is over 65,535.
@@ -127,69 +82,34 @@ fn too_large(version: u8, constants: &[u32], n: usize) -> bool
     requires { n ≤ length constants.now }
     ensures { result ≡ (eqb version 1 && large_among n constants.now) }
 {
-    if version != 1 {
-        return false;
-    }
-    chart_lists::large_among(constants, n)
+    version == 1 && chart_lists::large_among(constants, n)
 }
 
-// The length of a file of that version, by what its chart has: accepting locations, transitions, started timers and tests.
-fn file_length(version: u8, accepting: u64, transitions: u16, started: u64, tests: u64) -> u64
-    requires { (accepting < 65536) × (started < 4294967296) × (tests < 4294967296) }
-    ensures { result ≡ 14 + 2 * accepting + (9 * transitions + started + (2 + width_of version) * tests) }
+// The length of a file of that version, by what its chart has: accepting locations, transitions, and the sizes of these.
+#[tactic(auto, using(model::proofs::Versions::width_most, model::proofs::Versions::tests_most))]
+fn file_length(version: u8, accepting: u16, transitions: u16, sizes: Sizes) -> u64
+    requires { (sizes.starts < 4294967296) × (sizes.tests < 4294967296) }
+    ensures { result ≡ 14 + 2 * accepting + (9 * transitions + sizes.starts + (2 + width_of version) * sizes.tests) }
 {
     let width = file_format::width_of(version);
-    14 + 2 * accepting + (9 * (transitions as u64) + started + (2 + width) * tests)
+    14 + 2 * (accepting as u64)
+        + (9 * (transitions as u64) + sizes.starts + (2 + width) * sizes.tests)
 }
 
 // All of the chart: the length of its file.
-pub fn judge(
-    header: Header,
-    accepting: &[u16],
-    sources: &[u16],
-    targets: &[u16],
-    events: &[u8],
-    starts: &[u64],
-    test_counts: &[u8],
-    timers: &[u8],
-    codes: &[u8],
-    constants: &[u32],
-) -> Judged
-    ensures { judged_as result
-        ≡ check_chart header (at_entry accepting sources targets events starts test_counts timers codes constants) }
+#[tactic(auto, using(crate::proofs::WholeChart::whole_chart), unfolding(crate::proofs::WholeChart::after_fields))]
+pub fn judge(header: Header, lists: ChartLists) -> Result<usize, Refusal>
+    ensures { answer_as result ≡ check_chart header (lists_in lists.entry) }
 {
-    let a = judge_header(header);
-    let Entry::Value(_) = a else {
-        return Judged::Refused(refusal_of(a));
-    };
-    let b = judge_accepting(accepting, header.locations, header.accepting);
-    let Entry::Value(n) = b else {
-        return Judged::Refused(refusal_of(b));
-    };
+    judge_header(header)?;
+    let accepting = judge_accepting(lists.accepting, header.locations, header.accepting)?;
     if header.transitions as usize > chart_lists::MOST_TRANSITIONS {
-        return Judged::Refused(refusal::TOO_MANY);
+        return Err(refusal::TOO_MANY);
     }
-    let d = judge_transitions(
-        header,
-        sources,
-        targets,
-        events,
-        starts,
-        test_counts,
-        timers,
-        codes,
-        constants,
-    );
-    let JudgedSizes::Found {
-        starts: started,
-        tests,
-    } = d
-    else {
-        return Judged::Refused(sizes_refusal(d));
-    };
-    if too_large(header.version, constants, tests as usize) {
-        return Judged::Refused(refusal::CONSTANT_TOO_LARGE);
+    let sizes = judge_transitions(header, lists)?;
+    if too_large(header.version, lists.constants, sizes.tests as usize) {
+        return Err(refusal::CONSTANT_TOO_LARGE);
     }
-    let bytes = file_length(header.version, n, header.transitions, started, tests);
-    Judged::File(bytes as usize)
+    let bytes = file_length(header.version, accepting, header.transitions, sizes);
+    Ok(bytes as usize)
 }

@@ -4,8 +4,9 @@ use mathlib.Core.Bool.{false}
 use mathlib.Core.List.{List, [], ◌∷◌}
 use Prim.Native.Nat.{ℕ, ◌≤◌, ◌<◌}
 use native.Mathlib.Omega.{arith}
-use lib.ListN.{length, get_or, drop}
+use lib.ListN.{length}
 use borrow.Author.Tests.{le-leb, lt-leb}
+use Rattle.std.proofs.Common.{Ok, Err}
 use Rattle.lists.proofs.Bools.{is_no}
 use Rattle.model.specs.Answer.{Answer, returned, refused, then, nowhere}
 use Rattle.model.specs.Chart.{Chart}
@@ -20,7 +21,6 @@ use Rattle.judgement.specs.Judging.{judged_in}
 use Rattle.refusal.specs.Refused.{refused_as}
 use Rattle.refusal.specs.declared.Refusal.{Refusal}
 use Rattle.numbering.specs.Limits.{LimitJudged}
-use Rattle.numbering.specs.declared.Limit.TheVariants as limit
 use Rattle.listing.specs.Listing.{largest_input, accepted, listed_chart, answer_text, refused_text, text_of}
 
 module _ (K : ℕ) (c : Chart) where
@@ -41,11 +41,11 @@ module _ (K : ℕ) (c : Chart) where
         rw (le-leb K 64 h, e)
 
   -- the same as the code judges them
-  pub listed_refused : {u : ℕ} {f : Refusal} → LimitJudged K u (limit.Refused f) → u ≡ used (reached_part c) → listed_chart K c ≡ refused_as f
+  pub listed_refused : {u : ℕ} {f : Refusal} → LimitJudged K u (Err f) → u ≡ used (reached_part c) → listed_chart K c ≡ refused_as f
   unfolding listed_chart
   listed_refused j e = rw (← j.answer c e)
 
-  pub listed_enough : {u : ℕ} → LimitJudged K u limit.Enough → u ≡ used (reached_part c) → listed_chart K c ≡ returned c
+  pub listed_enough : {u : ℕ} → LimitJudged K u (Ok tt) → u ≡ used (reached_part c) → listed_chart K c ≡ returned c
   unfolding listed_chart
   listed_enough j e = rw (← j.answer c e)
 
@@ -72,11 +72,10 @@ module _ (K : ℕ) (file : List ℕ) where
 
 -- ---- the whole input
 
-pub text_file : (input : List ℕ) → (length input ≡ 0 → ⊥) → length input ≤ largest_input
-    → text_of input ≡ answer_text (get_or input 0 0) (accepted (get_or input 0 0) (drop 1 input))
+pub text_file : {input : List ℕ} (K : ℕ) (file : List ℕ) → input ≡ K ∷ file → length input ≤ largest_input
+    → text_of input ≡ answer_text K (accepted K file)
 unfolding text_of
-text_file [] h l = absurd (h refl)
-text_file (K ∷ file) h l = rw (le-leb (length (K ∷ file)) largest_input l, text_of)
+text_file K file e l = rw e (rw (le-leb (length (K ∷ file)) largest_input (rw e at l), text_of))
 
 pub text_16 : (input : List ℕ) → largest_input < length input → text_of input ≡ refused_text 16 nowhere
 unfolding text_of

@@ -20,12 +20,12 @@ use Rattle.chart_lists.specs.Begins.{Begins}
 use Rattle.chart_lists.proofs.Begins.{begins_get_d, begins_room}
 use Rattle.allocation.specs.Cells.{most_cells, cell, cells_of}
 use Rattle.allocation.proofs.CellList.{cells_length, cells_at}
-use Rattle.chart_lists.specs.Header.{header_of}
-use Rattle.chart_lists.specs.declared.Header.{Header}
 use Rattle.chart_lists.proofs.Fronts.{locations_are, timers_are}
+use Rattle.numbering.specs.declared.FileNumbers.{FileNumbers}
+use Rattle.numbering.specs.FileNumbers.{file_numbers}
 use Rattle.listing.specs.Text.{decimal, line_feed, at_word}
 use Rattle.listing.specs.Listing.{largest_text, entry_text, first_line, line_of, chart_text}
-use Rattle.listing.specs.Cells.{in_cell, entry_in, entries_in, line_in, lines_in}
+use Rattle.listing.specs.Cells.{in_cell, entry_in, entries_in, line_in, lines_in, numbers_text}
 use Rattle.listing.proofs.Cells.{no_number_lem, a_number}
 use Rattle.listing.proofs.Fits.{board_few, chart_fits}
 
@@ -56,23 +56,31 @@ module _ (N : Numbering) (few : (q j k : ℕ) → N.number q j ≡ some k → k 
 
 -- the numbers are those of the part that counts
 module _ {W : ℕ} {c : Chart} (v : Valid W c) (few : used (reached_part c) ≤ 64) {l : List ℕ}
-    (b : Begins (cells_of (board_numbering (reached_part c)) c.locations) l) {m : Header} (is : m ≡ header_of c)
-    {u f : ℕ} {s : Bool} (eu : u ≡ used (reached_part c)) (ef : f ≡ floor (reached_part c)) (es : s ≡ searched (reached_part c)) where
-  pub text_is : (K : ℕ) → first_line u f s K ++ lines_in l m.timers m.locations ≡ chart_text K c
-  unfolding chart_text used board_numbering through numbering
+    (b : Begins (cells_of (board_numbering (reached_part c)) c.locations) l) {x : FileNumbers} (e : x ≡ file_numbers c) where
+  locations_of : x.header.locations ≡ c.locations
+  unfolding file_numbers
+  locations_of = ap (λ (y : FileNumbers). y.header.locations) e ∙ locations_are c refl
+
+  timers_of : x.header.timers ≡ c.timers
+  unfolding file_numbers
+  timers_of = ap (λ (y : FileNumbers). y.header.timers) e ∙ timers_are c refl
+
+  pub text_is : (K : ℕ) → numbers_text K x l ≡ chart_text K c
+  unfolding chart_text file_numbers used board_numbering through numbering
   text_is K =
       let part = reached_part c in
-      rw (timers_are c is, locations_are c is, eu, ef, es)
-      (ap (λ (x : List ℕ). first_line (used part) (floor part) (searched part) K ++ x)
+      let line = ap (λ (y : FileNumbers). first_line y.used y.floor y.searched K) e in
+      rw (timers_of, locations_of, line)
+      (ap (λ (y : List ℕ). first_line (used part) (floor part) (searched part) K ++ y)
       (lines_are (board_numbering part) (board_few part few) c.timers c.locations v.few_timers b))
 
   -- what the code that puts it asks for
   pub text_asks : (K room : ℕ) → largest_text ≤ room → length l ≤ most_cells
-      → (64 * m.locations ≤ length l) × (length l ≤ most_cells) × (m.timers ≤ most_timers)
-      × (length (first_line u f s K ++ lines_in l m.timers m.locations) ≤ room)
+      → (64 * x.header.locations ≤ length l) × (length l ≤ most_cells) × (x.header.timers ≤ most_timers)
+      × (length (numbers_text K x l) ≤ room)
   text_asks K room r n = (
-    omega (arith, locations_are c is, begins_room b, cells_length (board_numbering (reached_part c)) c.locations),
+    omega (arith, locations_of, begins_room b, cells_length (board_numbering (reached_part c)) c.locations),
     n,
-    omega (arith, timers_are c is, v.few_timers),
+    omega (arith, timers_of, v.few_timers),
     rw (text_is K) (omega (arith, chart_fits v few K)),
   )

@@ -5,6 +5,7 @@ pub mod Cells
 pub mod Fits
 pub mod ChartText
 pub mod Accepted
+mod Board
 pub mod Inputs
 pub mod Outcomes
 pub mod Digits

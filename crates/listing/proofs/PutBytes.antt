@@ -54,3 +54,8 @@ module _ {xs l out : List ℕ} {a : ℕ} (w : PutBytes xs l out a) where
 -- nothing is put
 pub bytes_none : (l : List ℕ) → PutBytes [] l l 0
 bytes_none l = record { size_is = refl; bytes_are = sym (put_nil l) }
+
+-- a list is copied to the front
+pub bytes_copied : {xs front : List ℕ} (l : List ℕ) → front ≡ xs → PutBytes xs l (front ++ drop (length xs) l) (length xs)
+unfolding put
+bytes_copied l e = record { size_is = refl; bytes_are = rw e }

@@ -3,8 +3,9 @@ use Rattle.std.specs.Prelude.{true, false, List, [], ◌∷◌, ◌++◌, ℕ, �
 use mathlib.Core.Option.{Option, none, some}
 use Rattle.lists.specs.Lists.{gather}
 use Rattle.allocation.specs.Cells.{no_number}
+use Rattle.numbering.specs.declared.FileNumbers.{FileNumbers}
 use Rattle.listing.specs.Text.{decimal, line_feed, at_word}
-use Rattle.listing.specs.Listing.{entry_text}
+use Rattle.listing.specs.Listing.{first_line, entry_text}
 
 -- the board number in a cell
 unfoldable pub in_cell : ℕ → Option ℕ
@@ -25,3 +26,7 @@ line_in cells timers q = (at_word ++ decimal q) ++ (entries_in cells (64 * q) ti
 -- the lines of the locations
 unfoldable pub lines_in : (cells : List ℕ) → (timers locations : ℕ) → List ℕ
 lines_in cells timers locations = gather (line_in cells timers) locations
+
+-- the text of a chart whose numbers these are
+abbrev pub numbers_text : (K : ℕ) → FileNumbers → (cells : List ℕ) → List ℕ
+numbers_text k n cells = first_line n.used n.floor n.searched k ++ lines_in cells n.header.timers n.header.locations

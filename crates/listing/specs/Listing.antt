@@ -10,6 +10,8 @@ use Rattle.model.specs.Floor.{floor, searched}
 use Rattle.model.specs.Rewrite.{Numbering, board_numbering}
 use Rattle.model.specs.Judge.{fitted, rewriting}
 use Rattle.file_format.specs.File.{chart_in}
+use Rattle.numbering.specs.declared.FileNumbers.{FileNumbers}
+use Rattle.numbering.specs.FileNumbers.{file_numbers}
 use Rattle.listing.specs.Text.{decimal, space, line_feed, refused_word, used_word, floor_word, seen_word, limit_word, at_word, greater}
 
 -- the bytes that an input may have
@@ -55,6 +57,10 @@ accepted k file = then (chart_in file) (λ c. then (rewriting k c) (λ x. return
 -- the same of a chart that is judged already: 11, then 20
 unfoldable pub listed_chart : (K : ℕ) → Chart → Answer Chart
 listed_chart k c = then (fitted k c) (λ x. returned c)
+
+-- the numbers of the file's chart, where it is accepted
+unfoldable pub board_numbers : (K : ℕ) → List ℕ → Answer FileNumbers
+board_numbers k file = then (accepted k file) (λ c. returned (file_numbers c))
 
 -- the text of a chart that is accepted, or of its refusal
 abbrev pub answer_text : (K : ℕ) → Answer Chart → List ℕ

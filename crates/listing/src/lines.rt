@@ -2,22 +2,23 @@
 ghost use Rattle.std.specs.Prelude.{◌++◌, ◌+◌, ◌*◌, ◌≤◌, length};
 ghost use Rattle.chart_lists.specs.Limits.{most_timers};
 ghost use Rattle.allocation.specs.Cells.{most_cells};
+ghost use Rattle.refusal.specs.Reason.{number_of};
 ghost use Rattle.listing.specs.Text.{decimal};
 ghost use Rattle.listing.specs.Listing.{refused_text, word_of, first_line, entry_text};
 ghost use Rattle.listing.specs.PutBytes.{PutBytes};
-ghost use Rattle.listing.specs.Cells.{in_cell, entries_in, line_in, lines_in};
+ghost use Rattle.listing.specs.Cells.{in_cell, entries_in, line_in, lines_in, numbers_text};
 
 use crate::text::put_number;
 use allocation::NO_NUMBER;
-use chart_lists::Header;
+use numbering::FileNumbers;
 use refusal::Refusal;
 
 // The line of a refusal.
 pub fn put_refusal(out: &mut [u8], f: Refusal) -> usize
-    requires { length (refused_text f.number f.place) ≤ length out.old }
-    ensures { PutBytes (refused_text f.number f.place) out.old out.new result }
+    requires { length (refused_text (number_of f.reason) f.place) ≤ length out.old }
+    ensures { PutBytes (refused_text (number_of f.reason) f.place) out.old out.new result }
 {
-    let at = put_number(out, b"refused ", f.number as u64);
+    let at = put_number(out, b"refused ", f.reason.number() as u64);
     let end = at + put_number(&mut out[at..], b" ", f.place);
     out[end] = b'\n';
     end + 1
@@ -34,12 +35,13 @@ fn put_floor(out: &mut [u8], floor: u32, searched: bool) -> usize
     put_number(out, b" seen ", floor as u64)
 }
 
-fn put_first_line(out: &mut [u8], used: u32, floor: u32, searched: bool, limit: u8) -> usize
-    requires { length (first_line used floor searched limit) ≤ length out.old }
-    ensures { PutBytes (first_line used floor searched limit) out.old out.new result }
+// What was found of a chart and the board's timers.
+fn put_first_line(out: &mut [u8], numbers: FileNumbers, limit: u8) -> usize
+    requires { length (first_line numbers.used numbers.floor numbers.searched limit) ≤ length out.old }
+    ensures { PutBytes (first_line numbers.used numbers.floor numbers.searched limit) out.old out.new result }
 {
-    let at = put_number(out, b"used ", used as u64);
-    let next = at + put_floor(&mut out[at..], floor, searched);
+    let at = put_number(out, b"used ", numbers.used as u64);
+    let next = at + put_floor(&mut out[at..], numbers.floor, numbers.searched);
     let end = next + put_number(&mut out[next..], b" limit ", limit as u64);
     out[end] = b'\n';
     end + 1
@@ -63,10 +65,8 @@ fn put_entries(out: &mut [u8], cells: &[u16], base: usize, timers: u8) -> usize
     ensures { PutBytes (entries_in cells.now base timers) out.old out.new result }
 {
     let mut at: usize = 0;
-    let mut j: u8 = 0;
-    while j < timers {
+    for j in 0..timers {
         at += put_entry(&mut out[at..], j, cells[base + j as usize]);
-        j += 1;
     }
     at
 }
@@ -89,34 +89,23 @@ fn put_lines(out: &mut [u8], cells: &[u16], timers: u8, n: usize) -> usize
     ensures { PutBytes (lines_in cells.now timers n) out.old out.new result }
 {
     let mut at: usize = 0;
-    let mut q: usize = 0;
-    while q < n {
+    for q in 0..n {
         at += put_line(&mut out[at..], cells, timers, q);
-        q += 1;
     }
     at
 }
 
-// The text of a chart from its header, what was found, and its cells.
-pub fn put_chart(
-    out: &mut [u8],
-    limit: u8,
-    header: Header,
-    used: u32,
-    floor: u32,
-    searched: bool,
-    cells: &[u16],
-) -> usize
-    requires { (64 * header.locations ≤ length cells.now) × (length cells.now ≤ most_cells) × (header.timers ≤ most_timers)
-        × (length (first_line used floor searched limit ++ lines_in cells.now header.timers header.locations) ≤ length out.old) }
-    ensures { PutBytes (first_line used floor searched limit ++ lines_in cells.now header.timers header.locations)
-        out.old out.new result }
+// The text of a chart from its numbers and its cells.
+pub fn put_chart(out: &mut [u8], limit: u8, numbers: FileNumbers, cells: &[u16]) -> usize
+    requires { (64 * numbers.header.locations ≤ length cells.now) × (length cells.now ≤ most_cells) × (numbers.header.timers ≤ most_timers)
+        × (length (numbers_text limit numbers cells.now) ≤ length out.old) }
+    ensures { PutBytes (numbers_text limit numbers cells.now) out.old out.new result }
 {
-    let at = put_first_line(out, used, floor, searched, limit);
+    let at = put_first_line(out, numbers, limit);
     at + put_lines(
         &mut out[at..],
         cells,
-        header.timers,
-        header.locations as usize,
+        numbers.header.timers,
+        numbers.header.locations as usize,
     )
 }

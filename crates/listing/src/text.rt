@@ -4,6 +4,7 @@ ghost use Rattle.listing.specs.Text.{decimal};
 ghost use Rattle.listing.specs.PutBytes.{PutBytes};
 
 // A number in decimal.
+// stays: `write!` is no plainer: it needs a writer of our own over the buffer, and each line would have to rule out its error at a full buffer.
 fn put_decimal(out: &mut [u8], n: u64) -> usize
     requires { length (decimal n) ≤ length out.old }
     ensures { PutBytes (decimal n) out.old out.new result }
@@ -23,11 +24,7 @@ fn put_word(out: &mut [u8], word: &[u8]) -> usize
     ensures { PutBytes word.now out.old out.new result }
 {
     let n = word.len();
-    let mut i: usize = 0;
-    while i < n {
-        out[i] = word[i];
-        i += 1;
-    }
+    out[..n].copy_from_slice(word);
     n
 }
 

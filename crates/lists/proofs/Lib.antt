@@ -12,3 +12,4 @@ pub mod Growing
 pub mod All
 pub mod Filtered
 pub mod Computing
+pub mod Library

@@ -17,12 +17,8 @@ fn row_of(families_at: &[u64], i: u8) -> TimerSet
     ensures { (j : ℕ) → member result.bits j ≡ meet_at families_at.now i j }
 {
     let mut row = TimerSet::EMPTY;
-    let mut s: usize = 0;
-    while s < families_at.len() {
-        let here = TimerSet {
-            bits: families_at[s],
-        };
-        s += 1;
+    for word in families_at {
+        let here = TimerSet { bits: *word };
         if here.has(i) {
             row = row.join(here);
         }
@@ -36,10 +32,8 @@ fn meeting_rows(families_at: &[u64], n: usize) -> [u64; MOST_SEARCHED]
     ensures { (fs : List Family) (low high : ℕ) → Asked fs families_at.now n low high → RowsOf fs result }
 {
     let mut rows = [0u64; MOST_SEARCHED];
-    let mut i: usize = 0;
-    while i < n {
+    for i in 0..n {
         rows[i] = row_of(families_at, i as u8).bits;
-        i += 1;
     }
     rows
 }

@@ -26,7 +26,7 @@ use Rattle.meeting.specs.Meeting.{Asked}
 use Rattle.numbering.specs.ChartNumbered.{ChartNumbered}
 use Rattle.numbering.specs.FloorAsked.{FloorAsked}
 use Rattle.numbering.specs.declared.Numbered.{Numbered}
-use Rattle.numbering.proofs.FileNumbers.{merged_front}
+use Rattle.numbering.proofs.NumberedFile.{merged_front}
 
 -- the fronts of the lists that a chart's numbering leaves are what is asked
 pub floor_asked : {W : ℕ} (c : Chart) {m : ℕ} (is : m ≡ c.locations) {live merged cells at : List ℕ} {r : Numbered} → Valid W c

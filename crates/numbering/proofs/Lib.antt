@@ -1,4 +1,4 @@
 pub mod Settling
 pub mod Limits
-pub mod FileNumbers
+pub mod NumberedFile
 pub mod FloorFound

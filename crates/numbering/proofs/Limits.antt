@@ -6,34 +6,26 @@ use native.Mathlib.Omega.{arith}
 use borrow.Author.Tests.{le-leb, lt-leb}
 use Rattle.lists.proofs.Bools.{is_no}
 use Rattle.model.specs.Chart.{Chart}
-use Rattle.model.specs.Answer.{nowhere}
 use Rattle.model.specs.Spare.{reached_part}
 use Rattle.model.specs.FirstFit.{blocked, board, used}
 use Rattle.model.specs.Rewrite.{rewritten}
 use Rattle.model.specs.Judge.{fitted}
 use Rattle.model.proofs.BoardPlan.{board_blocked}
+use Rattle.std.proofs.Common.{Ok, Err}
+use Rattle.refusal.specs.declared.TheConstants.{LIMIT_TOO_LARGE, BOARD_TOO_SMALL}
 use Rattle.numbering.specs.Limits.{LimitJudged}
-use Rattle.numbering.specs.declared.Limit.{Limit}
-use Rattle.numbering.specs.declared.Limit.TheVariants as limit
-
--- a refusal without a place
-abbrev refuse : ℕ → Limit
-refuse n = limit.Refused (record { number = n; place = nowhere })
-
-never : (n : ℕ) → refuse n ≡ limit.Enough → ⊥
-never n e = let z : ◌≡◌ {A = ℕ} 0 1 = cc in omega arith
 
 module _ (k count : ℕ) where
-  pub too_large_lem : 64 < k → LimitJudged k count (refuse 11)
+  pub too_large_lem : 64 < k → LimitJudged k count (Err LIMIT_TOO_LARGE)
   unfolding fitted
-  too_large_lem h = record { answer = λ c e. rw (lt-leb k 64 h); fits = λ e. absurd (never 11 e) }
+  too_large_lem h = record { answer = λ c e. rw (lt-leb k 64 h); fits = λ e. cc }
 
   module _ (h : k ≤ 64) where
-    pub too_small : k < count → LimitJudged k count (refuse 20)
+    pub too_small : k < count → LimitJudged k count (Err BOARD_TOO_SMALL)
     unfolding fitted
-    too_small l = record { answer = λ c e. rw (le-leb k 64 h, (board_blocked k (reached_part c)).1 (omega arith)); fits = λ e. absurd (never 20 e) }
+    too_small l = record { answer = λ c e. rw (le-leb k 64 h, (board_blocked k (reached_part c)).1 (omega arith)); fits = λ e. cc }
 
-    pub enough : count ≤ k → LimitJudged k count limit.Enough
+    pub enough : count ≤ k → LimitJudged k count (Ok tt)
     unfolding fitted used rewritten
     enough l = record { answer = λ c e. rw (le-leb k 64 h, free c e); fits = λ e. (l, h) }
       where

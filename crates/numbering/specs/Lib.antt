@@ -1,3 +1,4 @@
+pub mod Held
 pub mod ChartNumbered
 pub mod FloorAsked
 pub mod Limits

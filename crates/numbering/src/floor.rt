@@ -20,15 +20,10 @@ pub struct FloorFound {
 fn fullest(sets: &[u64]) -> u32
     ensures { result ≡ Live·fullest sets.now }
 {
-    let n = sets.len();
     let mut most: u32 = 0;
-    let mut q: usize = 0;
-    while q < n {
-        let count = TimerSet { bits: sets[q] }.count();
-        q += 1;
-        if most < count {
-            most = count;
-        }
+    for bits in sets {
+        let count = TimerSet { bits: *bits }.count();
+        most = most.max(count);
     }
     most
 }

@@ -1,13 +1,13 @@
--- Whether a location accepts: whether it is in the list of the accepting ones, one element a turn, and which part of a lent list these are. What is
--- left of the list decides.
+-- Whether a location accepts: whether it is in the list of the accepting ones, and which part of a lent list these are.
 use mathlib.Core.Path.{◌≡◌, refl, sym, ap₂, ◌∙◌}
-use mathlib.Core.Bool.{Bool, true, false}
-use mathlib.Core.List.{List}
-use Prim.Native.Nat.{ℕ, ◌+◌, ◌≤◌, ◌<◌}
-use native.Mathlib.Numerals.{add-one}
-use lib.ListN.{length, get_or, take, drop, drop_of_length-le}
-use lib.Seq.{drop-cons}
-use borrow.Author.Tests.{eq-eqb, ne_eqb}
+use mathlib.Core.Bool.{Bool, true, false, ◌||◌}
+use mathlib.Core.List.{List, [], ◌∷◌}
+use Prim.Native.Nat.{ℕ}
+use lib.Dec.{eqb}
+use lib.ListN.{length, take}
+use borrow.Author.Tests.{eqb-true, eq-eqb, ne_eqb}
+use Rattle.std.specs.List.{list_any}
+use Rattle.lists.proofs.Bools.{not_both}
 use Rattle.lists.specs.Lists.{memb}
 use Rattle.model.specs.Chart.{Chart}
 use Rattle.model.specs.Run.{accepts}
@@ -18,18 +18,18 @@ use Rattle.chart_lists.specs.Header.{header_of}
 use Rattle.chart_lists.proofs.Begins.{begins_take, begins_part}
 use Rattle.chart_lists.proofs.Fronts.{accepting_are}
 
-module _ (l : List ℕ) (q i : ℕ) where
-  pub memb_here : i < length l → get_or l i 0 ≡ q → memb q (drop i l) ≡ true
-  unfolding memb
-  memb_here h e = rw (drop-cons l i 0 h, eq-eqb q (get_or l i 0) (sym e)) refl
-
-  pub memb_later : i < length l → (get_or l i 0 ≡ q → ⊥) → memb q (drop i l) ≡ memb q (drop (i + 1) l)
-  unfolding memb
-  memb_later h e = rw (add-one, drop-cons l i 0 h, ne_eqb q (get_or l i 0) (λ p. e (sym p))) refl
-
-  pub memb_end : length l ≤ i → memb q (drop i l) ≡ false
-  unfolding memb
-  memb_end h = rw (drop_of_length-le l h) refl
+-- what the library's `contains` answers
+pub memb_contains : (q : ℕ) (l : List ℕ) → list_any (λ y. eqb y q) l ≡ memb q l
+unfolding memb
+memb_contains q [] = refl
+memb_contains q (x ∷ l) = ap₂ (λ (a b : Bool). a || b) (same x) (memb_contains q l)
+  where
+    same : (x : ℕ) → eqb x q ≡ eqb q x
+    same x = go (eqb x q) refl
+      where
+        go : (b : Bool) → eqb x q ≡ b → b ≡ eqb q x
+        go true e = sym (eq-eqb q x (sym (eqb-true x q e)))
+        go false e = sym (ne_eqb q x (λ p. not_both (eq-eqb x q (sym p)) e))
 
 module _ (c : Chart) where
   -- the location p of the code is the definition's q

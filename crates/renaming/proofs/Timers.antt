@@ -5,8 +5,9 @@ use mathlib.Core.List.{List, [], ◌∷◌, ◌++◌, map, map-append, append_as
 use Prim.Native.Nat.{ℕ, ◌+◌, ◌≤◌, ◌<◌}
 use native.Mathlib.Numerals.{add-one}
 use native.Mathlib.Omega.{arith}
-use lib.ListN.{length, get_or, take, drop, set, length-append, length-drop, length-map}
-use lib.Seq.{length-take-le, take-length, take-suc, get_or-drop}
+use lib.ListN.{length, get_or, take, drop, set, length-append, length-map}
+use lib.Seq.{take-length, take-suc, take-suc-set, take_at, drop_at, drop-drop}
+use borrow.Rule.Slice.PartMut.{put_mid}
 use borrow.Author.Tests.{lt-ltb, le-ltb}
 use Rattle.model.specs.Chart.{Test, Transition, Chart, Nth, tested}
 use Rattle.model.specs.Valid.{Valid}
@@ -16,7 +17,6 @@ use Rattle.model.proofs.Rewritten.{tested_head, tested_tail, tests_some}
 use Rattle.model.proofs.Transitions.{nth_valid, tested_below}
 use Rattle.chart_lists.specs.Lists.{all_tests, lists_of, put, timers_of}
 use Rattle.chart_lists.specs.Begins.{Begins}
-use Rattle.chart_lists.proofs.Put.{put_last}
 use Rattle.chart_lists.proofs.Tests.{tests_more}
 use Rattle.chart_lists.proofs.InTurn.{tests_before, take_next, before_next, timers_next}
 use Rattle.allocation.specs.Cells.{cell}
@@ -35,22 +35,27 @@ module _ (x : ℕ) where
 -- ---- one transition's tests
 
 module _ (cells : List ℕ) (q : ℕ) where
-  length_row : (ts : List ℕ) (base n : ℕ) → base + n ≤ length ts → length (renamed_row cells q (take n (drop base ts))) ≡ n
+  length_row : (ts : List ℕ) → length (renamed_row cells q ts) ≡ length ts
   unfolding renamed_row
-  length_row ts base n h = length-map (take n (drop base ts)) _ ∙ length-take-le n (drop base ts) (simp length-drop (omega arith))
+  length_row ts = length-map ts _
 
   -- the next timer is stored behind the others
-  pub row_more : (ts : List ℕ) (base k : ℕ) → base + k < length ts → (done l : List ℕ) {out : List ℕ} {v : ℕ} → length done ≡ base
-      → base + k < length l
-      → out ≡ put (done ++ renamed_row cells q (take k (drop base ts))) l → v ≡ board_timer (cell_at cells q (get_or ts (base + k) 0))
-      → set out (base + k) v ≡ put (done ++ renamed_row cells q (take (k + 1) (drop base ts))) l
+  pub row_more : (ts out : List ℕ) (k : ℕ) → k < length ts → length out ≡ length ts → take k out ≡ renamed_row cells q (take k ts)
+      → take (k + 1) (set out k (board_timer (cell_at cells q (get_or ts k 0)))) ≡ renamed_row cells q (take (k + 1) ts)
   unfolding renamed_row
-  row_more ts base k h done l {out} {v} d room o e =
-      let b : k < length (drop base ts) = simp length-drop (omega arith) in
-      let long : length (done ++ renamed_row cells q (take k (drop base ts))) ≡ base + k =
-      rw (length-append, d, length_row ts base k (omega arith)) in
-      rw (add-one k, take-suc (drop base ts) k 0 b, map-append, ← append_assoc, get_or-drop, ← e)
-      (put_last (done ++ renamed_row cells q (take k (drop base ts))) l v room long o)
+  row_more ts out k h e o = rw (add-one k, take-suc-set out k _ (omega arith), take-suc ts k 0 h, map-append, o)
+
+-- a row stored behind others that are put over the front
+row_put : (done row l : List ℕ) {base n : ℕ} → length done ≡ base → length row ≡ n → put_mid base n (put done l) row ≡ put (done ++ row) l
+unfolding put
+row_put done row l {base} {n} d e = rw (
+  take_at done (drop (length done) l) base d,
+  drop_at done (drop (length done) l) base d,
+  drop-drop n (length done) l,
+  length-append,
+  e,
+  append_assoc,
+)
 
 -- ---- of a chart's transitions
 
@@ -122,13 +127,15 @@ tests_none c N l = record { base_is = refl; long = refl; renamed_are = refl }
 
 -- the next row is written behind them
 pub tests_next : {W : ℕ} {c : Chart} → Valid W c → {N : Numbering} {cells : List ℕ} → CellsOf c N cells → {i : ℕ} {r : Transition} → Nth c i r
-    → {timers : List ℕ} → Begins (lists_of c).timers timers → {before now after : List ℕ} {base q count : ℕ} → TestsRenamed c N before now base i
-    → q ≡ r.source → count ≡ length r.tests → length before ≡ length now
-    → ((done l : List ℕ) → length done ≡ base → length l ≡ length now → now ≡ put done l
-    → after ≡ put (done ++ renamed_row cells q (take count (drop base timers))) l)
-    → TestsRenamed c N before after (base + count) (i + 1)
-tests_next {c = c} valid {N} cs {i} n {timers} b {before} {now} {after} {base} {q} {count} s eq ec e row = record {
+    → {timers : List ℕ} → Begins (lists_of c).timers timers → {before now row : List ℕ} {base q count : ℕ} → TestsRenamed c N before now base i
+    → q ≡ r.source → count ≡ length r.tests → row ≡ renamed_row cells q (take count (drop base timers))
+    → TestsRenamed c N before (put_mid base count now row) (base + count) (i + 1)
+tests_next {c = c} valid {N} cs {i} {r} n {timers} b {before} {now} {row} {base} {q} {count} s eq ec is = record {
   base_is = omega (arith, s.base_is, ec, before_next n);
   long = new_length valid cs n s.long;
-  renamed_are = row (timers_to c N i) before (s.long ∙ sym s.base_is) e s.renamed_are ∙ rw (eq, ec, s.base_is, timers_more valid cs n b);
+  renamed_are =
+      let read : length (take count (drop base timers)) ≡ count = rw (ec, s.base_is, timers_next n b) (length-map r.tests _) in
+      let long : length row ≡ count = ap length is ∙ length_row _ _ _ ∙ read in
+      let more : timers_to c N i ++ row ≡ timers_to c N (i + 1) = rw (is, eq, ec, s.base_is) (timers_more valid cs n b) in
+      rw (s.renamed_are, ← more) (row_put (timers_to c N i) row before (s.long ∙ sym s.base_is) long);
 }

@@ -1,9 +1,10 @@
 -- What a turn of the loops over the transitions may read, of lists that hold a chart and of the cells of its numbering.
 use mathlib.Core.Path.{◌≡◌}
 use mathlib.Core.List.{List}
-use Prim.Native.Nat.{ℕ, ◌+◌, ◌*◌, ◌≤◌, ◌<◌}
+use Prim.Native.Nat.{ℕ, ◌+◌, ◌-◌, ◌*◌, ◌≤◌, ◌<◌}
 use native.Mathlib.Omega.{arith}
-use lib.ListN.{length, get_or}
+use lib.ListN.{length, get_or, take, drop, length-take, length-drop}
+use Rattle.std.proofs.Common.{get_or-take, get_or-drop}
 use Rattle.model.specs.Chart.{Transition, Chart, Nth}
 use Rattle.model.specs.Valid.{Valid}
 use Rattle.model.specs.Rewrite.{Numbering}
@@ -66,3 +67,11 @@ module _ (c : Chart) {m : Header} (is : m ≡ header_of c) {N : Numbering} {cell
       pub timers_few : (k : ℕ) → k < get_or test_counts i 0 → get_or timers (base + k) 0 < 64
       timers_few k l =
           rw at (timers_small transition.1 h.valid h.timers k (omega (arith, test_count_at transition.1 h.test_counts)))
+
+-- so many entries from a place on, as a part of a list
+module _ (xs : List ℕ) (base count : ℕ) (h : base + count ≤ length xs) where
+  pub part_length : length (take ((base + count) - base) (drop base xs)) ≡ count
+  part_length = simp (length-take, length-drop) (omega arith)
+
+  pub part_at : (k : ℕ) → k < count → get_or (take ((base + count) - base) (drop base xs)) k 0 ≡ get_or xs (base + k) 0
+  part_at k l = let m : k < (base + count) - base = omega arith in rw (get_or-take, get_or-drop)

@@ -1,7 +1,7 @@
 // Renames the timers of a chart's lists by the cells of a numbering: the number of timer j at location q stands at 64 q + j.
 #![tactic(auto)]
 
-ghost use Rattle.std.specs.Prelude.{◌≡◌, List, ◌++◌, ℕ, ◌+◌, ◌*◌, ◌≤◌, ◌<◌, length, get_or, take, drop};
+ghost use Rattle.std.specs.Prelude.{◌≡◌, ℕ, ◌+◌, ◌*◌, ◌≤◌, ◌<◌, length, get_or};
 ghost use Rattle.model.specs.Chart.{Chart};
 ghost use Rattle.model.specs.Rewrite.{Numbering, rewritten_by};
 ghost use Rattle.chart_lists.specs.Limits.{most_locations};
@@ -31,11 +31,8 @@ fn renamed_set(set: TimerSet, cells: &[u16], q: usize) -> TimerSet
     ensures { RenamedTo cells.now q set.bits 0 result.bits }
 {
     let mut renamed = TimerSet::EMPTY;
-    let mut left = set;
-    while !left.is_empty() {
-        let j = left.lowest() as usize;
-        renamed = with_number(renamed, cells[64 * q + j]);
-        left = left.without_lowest();
+    for j in set {
+        renamed = with_number(renamed, cells[64 * q + j as usize]);
     }
     renamed
 }
@@ -54,13 +51,10 @@ pub fn rename_starts<'a>(
         → Holds c (edges_of c (lists_of c).sources targets.now starts.now) → CellsOf c N cells.now
         → renamed.new ≡ put (lists_of (rewritten_by N c)).starts renamed.old }
 {
-    let n = header.transitions as usize;
-    let mut i: usize = 0;
-    while i < n {
+    for i in 0..header.transitions as usize {
         let q = targets[i] as usize;
         let set = TimerSet { bits: starts[i] };
         renamed[i] = renamed_set(set, cells, q).bits;
-        i += 1;
     }
 }
 
@@ -71,25 +65,14 @@ fn board_timer(number: u16) -> u8
     if number < 64 { number as u8 } else { 0 }
 }
 
-// The numbers at location q of so many timers from the entry base on, over the same entries of `renamed`.
-fn rename_row<'a>(
-    timers: &'a [u8],
-    base: usize,
-    count: u8,
-    cells: &'a [u16],
-    q: usize,
-    renamed: &mut [u8],
-)
-    requires { (base + count ≤ length timers.now) × ((k : ℕ) → k < count → get_or timers.now (base + k) 0 < 64)
-        × (base + count ≤ length renamed.old) × (q < most_locations) × (64 * q + 64 ≤ length cells.now) }
-    ensures { (done l : List ℕ) → length done ≡ base → length l ≡ length renamed.old → renamed.old ≡ put done l
-        → renamed.new ≡ put (done ++ renamed_row cells.now q (take count (drop base timers.now))) l }
+// The numbers at location q of the timers of one transition's tests.
+fn rename_row<'a>(timers: &'a [u8], cells: &'a [u16], q: usize, renamed: &mut [u8])
+    requires { ((k : ℕ) → k < length timers.now → get_or timers.now k 0 < 64) × (length renamed.old ≡ length timers.now)
+        × (q < most_locations) × (64 * q + 64 ≤ length cells.now) }
+    ensures { renamed.new ≡ renamed_row cells.now q timers.now }
 {
-    let mut k: u8 = 0;
-    while k < count {
-        let x = base + k as usize;
-        renamed[x] = board_timer(cells[64 * q + timers[x] as usize]);
-        k += 1;
+    for (k, timer) in timers.iter().enumerate() {
+        renamed[k] = board_timer(cells[64 * q + *timer as usize]);
     }
 }
 
@@ -108,14 +91,11 @@ pub fn rename_tests<'a>(
         → Holds c (tests_of c sources.now test_counts.now timers.now) → CellsOf c N cells.now
         → renamed.new ≡ put (lists_of (rewritten_by N c)).timers renamed.old }
 {
-    let n = header.transitions as usize;
     let mut base: usize = 0;
-    let mut i: usize = 0;
-    while i < n {
-        let count = test_counts[i];
+    for i in 0..header.transitions as usize {
         let q = sources[i] as usize;
-        rename_row(timers, base, count, cells, q, renamed);
-        base += count as usize;
-        i += 1;
+        let end = base + test_counts[i] as usize;
+        rename_row(&timers[base..end], cells, q, &mut renamed[base..end]);
+        base = end;
     }
 }

@@ -1,31 +1,39 @@
 -- What the judgement's answer says of the rewriting's: a refusal stands, and a chart that is accepted is fitted.
-use mathlib.Core.Path.{◌≡◌, sym, ap, ◌∙◌}
+use mathlib.Core.Path.{◌≡◌}
 use mathlib.Core.List.{List}
 use Prim.Native.Nat.{ℕ}
 use Rattle.model.specs.Answer.{Answer, returned, refused, then}
-use Rattle.model.specs.Valid.{Storable}
+use Rattle.model.specs.Chart.{Chart}
 use Rattle.model.specs.Live.{tested_sets}
+use Rattle.file_format.specs.Parse.{Bytes}
+use Rattle.file_format.specs.File.{chart_in}
 use Rattle.file_format.proofs.File.{reads_storable}
 use Rattle.chart_lists.specs.Lists.{Lists, overwritten}
 use Rattle.chart_lists.specs.declared.Header.{Header}
-use Rattle.chart_lists.specs.declared.Read.{Read}
-use Rattle.chart_lists.specs.declared.Read.TheVariants as read
-use Rattle.chart_lists.specs.Read.{read_as}
 use Rattle.chart_lists.specs.Holds.{Holds}
 use Rattle.chart_lists.specs.Begins.{Begins}
 use Rattle.judgement.specs.Judging.{judged_header}
 use Rattle.judgement.specs.Charts.{AcceptedChart}
 use Rattle.judgement.proofs.Callers.{judged_refused, judged_chart, accepted_in}
 use Rattle.rewriting.specs.Rewriting.{new_file, RewritingValues, values_of, rewrite_into, rewrite_answer}
-use Rattle.rewriting.specs.Parts.{fitted_into, JudgedInto}
+use Rattle.rewriting.specs.Parts.{fitted_into, JudgedChart}
 use Rattle.rewriting.proofs.Order.{into_refused, into_accepted, values_refused, buffer_refused}
 
 -- the chart of a judgement that is no refusal, and where it stands
-pub accepted_into : {bs : List ℕ} {answer : Read} {l : Lists} {sets : List ℕ} → JudgedInto bs answer l sets → {m : Header} → answer ≡ read.Chart m
-    → (a : AcceptedChart bs m) × Storable a.chart × Holds a.chart l × Begins (tested_sets a.chart) sets
-accepted_into {bs} j e =
-    let a = judged_chart bs (sym (ap read_as e) ∙ j.answers) in
-    (a, reads_storable bs a.chart j.bytes a.reads, j.lists a.chart a.reads, j.tested a.chart a.reads)
+pub accepted_into : (bs : List ℕ) {m : Header} {l : Lists} {sets : List ℕ} → Bytes bs → returned m ≡ judged_header bs
+    → ((c : Chart) → chart_in bs ≡ returned c → Holds c l) → ((c : Chart) → chart_in bs ≡ returned c → Begins (tested_sets c) sets)
+    → (a : AcceptedChart bs m) × JudgedChart a.chart m l sets
+accepted_into bs bytes e held tested =
+    let a = judged_chart bs e in (
+      a,
+      record {
+        header_is = a.header_is;
+        accepted = a.accepted;
+        storable = reads_storable bs a.chart bytes a.reads;
+        held = held a.chart a.reads;
+        tested = tested a.chart a.reads;
+      },
+    )
 
 module _ (K room : ℕ) (bs : List ℕ) where
   module _ {n p : ℕ} (e : refused n p ≡ judged_header bs) where

@@ -3,15 +3,14 @@ use Rattle.std.specs.Prelude.{◌≡◌, List, ℕ, leb, length}
 use Rattle.model.specs.Answer.{Answer, returned, then, unless, nowhere}
 use Rattle.model.specs.Chart.{Chart}
 use Rattle.model.specs.Live.{tested_sets}
-use Rattle.model.specs.Judge.{Rewriting, fitted}
-use Rattle.file_format.specs.Parse.{Bytes}
-use Rattle.file_format.specs.File.{chart_in, file_of}
-use Rattle.chart_lists.specs.declared.Read.{Read}
-use Rattle.chart_lists.specs.Read.{read_as}
+use Rattle.model.specs.Valid.{Storable}
+use Rattle.model.specs.Judge.{Rewriting, judged, fitted}
+use Rattle.file_format.specs.File.{file_of}
+use Rattle.chart_lists.specs.declared.Header.{Header}
+use Rattle.chart_lists.specs.Header.{header_of}
 use Rattle.chart_lists.specs.Lists.{Lists}
 use Rattle.chart_lists.specs.Holds.{Holds}
 use Rattle.chart_lists.specs.Begins.{Begins}
-use Rattle.judgement.specs.Judging.{judged_header}
 
 -- 21 if the buffer is too short for the file of the chart
 unfoldable pub into_room : (room : ℕ) → Chart → Answer Chart
@@ -21,9 +20,10 @@ into_room room c = unless (leb (length (file_of c)) room) 21 nowhere (returned c
 unfoldable pub fitted_into : (K room : ℕ) → Chart → Answer Rewriting
 fitted_into K room c = then (fitted K c) (λ x. unless (leb (length (file_of x.chart)) room) 21 nowhere (returned x))
 
--- a file's bytes are judged: the answer, and its chart in the lists and in the tested sets, if it holds one
-pub record JudgedInto (bs : List ℕ) (answer : Read) (l : Lists) (sets : List ℕ) : Type 0 where
-  pub bytes : Bytes bs
-  pub answers : read_as answer ≡ judged_header bs
-  pub lists : (c : Chart) → chart_in bs ≡ returned c → Holds c l
-  pub tested : (c : Chart) → chart_in bs ≡ returned c → Begins (tested_sets c) sets
+-- a chart that is judged stands in the lists, its header and its tested sets beside them
+pub record JudgedChart (c : Chart) (m : Header) (l : Lists) (sets : List ℕ) : Type 0 where
+  pub header_is : m ≡ header_of c
+  pub accepted : judged c ≡ returned c
+  pub storable : Storable c
+  pub held : Holds c l
+  pub tested : Begins (tested_sets c) sets

@@ -3,9 +3,7 @@ use Rattle.std.specs.Prelude.{List, ℕ, leb, length}
 use Rattle.model.specs.Answer.{Answer, returned, then, unless, nowhere}
 use Rattle.model.specs.Judge.{Rewriting, rewriting}
 use Rattle.file_format.specs.File.{chart_in, file_of}
-use Rattle.refusal.specs.Refused.{refused_as}
-use Rattle.rewriting.specs.declared.Rewritten.{Rewritten}
-use Rattle.rewriting.specs.declared.Rewritten.TheVariants as rewritten
+use Rattle.rewriting.specs.declared.Rewriting.{Rewriting as Rewritten}
 
 -- 1 to 8, then 9, 10, 11, 20 as the chart is judged, then 21 if the buffer is too short for the rewritten file
 unfoldable pub rewrite_into : (K room : ℕ) → List ℕ → Answer Rewriting
@@ -20,17 +18,11 @@ abbrev pub new_file : Rewriting → List ℕ
 new_file x = file_of x.chart
 
 -- what is answered of a rewriting: how many timers of the board are used, and the length of the new file
-pub record RewritingValues : Type 0 where
-  pub used : ℕ
-  pub length : ℕ
+abbrev pub RewritingValues : Type 0
+RewritingValues = Rewritten
 
 unfoldable pub values_of : Rewriting → RewritingValues
 values_of x = record { used = x.used; length = length (file_of x.chart) }
 
 unfoldable pub rewrite_answer : (K room : ℕ) → List ℕ → Answer RewritingValues
 rewrite_answer K room bs = then (rewrite_into K room bs) (λ x. returned (values_of x))
-
--- what an answer of the code means
-abbrev pub rewritten_as : Rewritten → Answer RewritingValues
-rewritten_as (rewritten.File u n) = returned (record { used = u; length = n })
-rewritten_as (rewritten.Refused f) = refused_as f

@@ -6,124 +6,84 @@ ghost use Rattle.model.specs.Valid.{Storable};
 ghost use Rattle.model.specs.Spare.{spare_cleared};
 ghost use Rattle.model.specs.Places.{ReachedIfAsked};
 ghost use Rattle.model.specs.Rewrite.{Numbering, rewritten_by};
+ghost use Rattle.refusal.specs.Refused.{answer_as};
 ghost use Rattle.file_format.specs.File.{file_of};
-ghost use Rattle.chart_lists.specs.Lists.{lists, overwritten};
+ghost use Rattle.chart_lists.specs.Lists.{overwritten};
 ghost use Rattle.chart_lists.specs.Header.{header_of};
 ghost use Rattle.chart_lists.specs.Holds.{Holds};
-ghost use Rattle.chart_lists.specs.Lent.{passed, at_entry};
+ghost use Rattle.chart_lists.specs.Stored.{lists_in, stored};
 ghost use Rattle.renaming.specs.Renaming.{CellsOf};
-ghost use Rattle.writer.specs.Writing.{written_as};
 ghost use Rattle.rewriting.specs.Parts.{into_room};
 
 use allocation::MOST_CELLS;
-use chart_lists::{Header, MOST_LOCATIONS, MOST_TESTS, MOST_TRANSITIONS};
-use writer::Written;
+use chart_lists::{ChartLists, ChartStore, Header, MOST_TESTS, MOST_TRANSITIONS};
+use refusal::Refusal;
 
 // Renames the starts and the timers of tests by the cells of a numbering and writes the rewritten chart's file.
 fn write_renamed<'a>(
     header: Header,
-    accepting: &'a [u16; MOST_LOCATIONS],
-    sources: &'a [u16; MOST_TRANSITIONS],
-    targets: &'a [u16; MOST_TRANSITIONS],
-    events: &'a [u8; MOST_TRANSITIONS],
-    starts: &'a [u64; MOST_TRANSITIONS],
-    test_counts: &'a [u8; MOST_TRANSITIONS],
-    timers: &'a [u8; MOST_TESTS],
-    codes: &'a [u8; MOST_TESTS],
-    constants: &'a [u32; MOST_TESTS],
+    lists: ChartLists<'a>,
     used: u8,
     cells: &'a [u16; MOST_CELLS],
     out: &mut [u8],
-) -> Written
-    requires { (c : Chart) × (N : Numbering) × (header ≡ header_of c)
-        × Holds c (passed accepting sources targets events starts test_counts timers codes constants) × CellsOf c N cells.now }
-    ensures answer { ((c : Chart) (N : Numbering) → header ≡ header_of c
-        → Holds c (at_entry accepting sources targets events starts test_counts timers codes constants) → CellsOf c N cells.now
+) -> Result<usize, Refusal>
+    requires { (c : Chart) × (N : Numbering) × (header ≡ header_of c) × Holds c (lists_in lists) × CellsOf c N cells.now }
+    ensures answer { ((c : Chart) (N : Numbering) → header ≡ header_of c → Holds c (lists_in lists.entry) → CellsOf c N cells.now
         → Storable (rewritten_by N c) → used ≡ N.used
-        → written_as result ≡ then (into_room (length out.old) (rewritten_by N c)) (λ d. returned (length (file_of d)))) }
-    ensures lent { ((c : Chart) (N : Numbering) → header ≡ header_of c
-        → Holds c (at_entry accepting sources targets events starts test_counts timers codes constants) → CellsOf c N cells.now
+        → answer_as result ≡ then (into_room (length out.old) (rewritten_by N c)) (λ d. returned (length (file_of d)))) }
+    ensures lent { ((c : Chart) (N : Numbering) → header ≡ header_of c → Holds c (lists_in lists.entry) → CellsOf c N cells.now
         → Storable (rewritten_by N c) → used ≡ N.used
         → out.new ≡ overwritten file_of (into_room (length out.old) (rewritten_by N c)) out.old) }
 {
-    let mut new_starts = [0u64; MOST_TRANSITIONS];
-    renaming::rename_starts(header, targets, starts, cells, &mut new_starts);
-    let mut new_timers = [0u8; MOST_TESTS];
-    renaming::rename_tests(header, sources, test_counts, timers, cells, &mut new_timers);
+    let mut starts = [0u64; MOST_TRANSITIONS];
+    renaming::rename_starts(header, lists.targets, lists.starts, cells, &mut starts);
+    let mut timers = [0u8; MOST_TESTS];
+    renaming::rename_tests(
+        header,
+        lists.sources,
+        lists.test_counts,
+        lists.timers,
+        cells,
+        &mut timers,
+    );
     let board = Header {
-        version: header.version,
-        locations: header.locations,
-        initial: header.initial,
         timers: used,
-        accepting: header.accepting,
-        transitions: header.transitions,
+        ..header
     };
-    writer::write(
-        board,
-        accepting,
-        sources,
-        targets,
-        events,
-        &new_starts,
-        test_counts,
-        &new_timers,
-        codes,
-        constants,
-        out,
-    )
+    let renamed = ChartLists {
+        starts: &starts,
+        timers: &timers,
+        ..lists
+    };
+    writer::write(board, renamed, out)
 }
 
 // The same of a chart whose spare transitions lose their tests and starts first.
 pub fn write_cleared<'a>(
     header: Header,
-    accepting: &'a [u16; MOST_LOCATIONS],
-    sources: &'a [u16; MOST_TRANSITIONS],
-    targets: &'a [u16; MOST_TRANSITIONS],
-    events: &'a [u8; MOST_TRANSITIONS],
-    starts: &mut [u64; MOST_TRANSITIONS],
-    test_counts: &mut [u8; MOST_TRANSITIONS],
-    timers: &mut [u8; MOST_TESTS],
-    codes: &mut [u8; MOST_TESTS],
-    constants: &mut [u32; MOST_TESTS],
+    store: &mut ChartStore,
     used: u8,
     cells: &'a [u16; MOST_CELLS],
     out: &mut [u8],
-) -> Written
-    requires { (c : Chart) × (N : Numbering) × (header ≡ header_of c) × ReachedIfAsked c
-        × Holds c (lists accepting.now sources.now targets.now events.now starts.old test_counts.old timers.old codes.old constants.old)
+) -> Result<usize, Refusal>
+    requires { (c : Chart) × (N : Numbering) × (header ≡ header_of c) × ReachedIfAsked c × Holds c (stored store.old)
         × CellsOf (spare_cleared c) N cells.now }
-    ensures answer { ((c : Chart) (N : Numbering) → header ≡ header_of c → ReachedIfAsked c
-        → Holds c (lists accepting.now sources.now targets.now events.now starts.old test_counts.old timers.old codes.old constants.old)
+    ensures answer { ((c : Chart) (N : Numbering) → header ≡ header_of c → ReachedIfAsked c → Holds c (stored store.old)
         → CellsOf (spare_cleared c) N cells.now → Storable (rewritten_by N (spare_cleared c)) → used ≡ N.used
-        → written_as result ≡ then (into_room (length out.old) (rewritten_by N (spare_cleared c))) (λ d. returned (length (file_of d)))) }
-    ensures lent { ((c : Chart) (N : Numbering) → header ≡ header_of c → ReachedIfAsked c
-        → Holds c (lists accepting.now sources.now targets.now events.now starts.old test_counts.old timers.old codes.old constants.old)
+        → answer_as result ≡ then (into_room (length out.old) (rewritten_by N (spare_cleared c))) (λ d. returned (length (file_of d)))) }
+    ensures lent { ((c : Chart) (N : Numbering) → header ≡ header_of c → ReachedIfAsked c → Holds c (stored store.old)
         → CellsOf (spare_cleared c) N cells.now → Storable (rewritten_by N (spare_cleared c)) → used ≡ N.used
         → out.new ≡ overwritten file_of (into_room (length out.old) (rewritten_by N (spare_cleared c))) out.old) }
 {
     spare::clear_spare(
         header,
-        sources,
-        targets,
-        starts,
-        test_counts,
-        timers,
-        codes,
-        constants,
+        &store.sources,
+        &store.targets,
+        &mut store.starts,
+        &mut store.test_counts,
+        &mut store.timers,
+        &mut store.codes,
+        &mut store.constants,
     );
-    write_renamed(
-        header,
-        accepting,
-        sources,
-        targets,
-        events,
-        starts,
-        test_counts,
-        timers,
-        codes,
-        constants,
-        used,
-        cells,
-        out,
-    )
+    write_renamed(header, store.lists(), used, cells, out)
 }

@@ -5,11 +5,12 @@ use mathlib.Core.Bool.{Bool, true, false, and-false}
 use mathlib.Core.Option.{some}
 use Prim.Native.Nat.{ℕ, ◌+◌, ◌-◌, ◌≤◌, ◌<◌}
 use native.Mathlib.Omega.{arith}
-use lib.Dec.{eqb}
+use lib.Dec.{ltb, eqb}
 use lib.ListN.{length, get_or, get_elem?}
 use borrow.Author.Count.{below_more}
-use borrow.Author.Tests.{eq-eqb, ne_eqb}
-use Rattle.lists.proofs.Membership.{first_le, first_is}
+use borrow.Author.Tests.{eq-eqb, ne_eqb, lt-ltb, le-ltb, ltb-false}
+use Rattle.std.specs.Prelude.{Some, None}
+use Rattle.lists.proofs.Membership.{first_is}
 use Rattle.lists.proofs.Nth.{below_nth}
 use Rattle.model.specs.Chart.{Transition, Chart, Nth}
 use Rattle.model.specs.Run.{State, grown, enabled}
@@ -19,6 +20,7 @@ use Rattle.chart_lists.proofs.Begins.{begins_room}
 use Rattle.chart_lists.proofs.Holds.{events_each}
 use Rattle.chart_lists.proofs.InTurn.{source_at, event_at}
 use Rattle.controller_model.specs.Serving.{can_take, lowest_to_take}
+use Rattle.serving.specs.Served.{found_below}
 
 -- ---- one transition
 
@@ -43,6 +45,23 @@ module _ {c : Chart} {l : Lists} (h : Holds c l) {i : ℕ} {r : Transition} (n :
     tests_decide s d =
         rw (eq-eqb r.source x.location (sym (source_at n h.sources) ∙ s ∙ at), eq-eqb r.event e (sym (event_at n h.events) ∙ d)) refl
 
+-- ---- a number that is found below another, or none
+
+module _ (n k : ℕ) where
+  pub found_is : {i : ℕ} → Some i ≡ found_below n k → i ≡ k
+  found_is {i} e = go (ltb k n) refl
+    where
+      go : (b : Bool) → ltb k n ≡ b → i ≡ k
+      go true p = let q = rw p at e in cc
+      go false p = absurd (let q = rw p at e in cc)
+
+  pub found_past : None ≡ found_below n k → n ≤ k
+  found_past e = go (ltb k n) refl
+    where
+      go : (b : Bool) → ltb k n ≡ b → n ≤ k
+      go true p = absurd (let q = rw p at e in cc)
+      go false p = ltb-false k n p
+
 -- ---- all of them
 
 -- no transition below i can be taken
@@ -50,10 +69,6 @@ pub record NoneBelow (c : Chart) (x : State) (e t i : ℕ) : Type 0 where
   pub before : (k : ℕ) → k < i → (r : Transition) → get_elem? c.transitions k ≡ some r → can_take c x e t r ≡ false
 
 module _ (c : Chart) (x : State) (e t : ℕ) where
-  pub lowest_most : lowest_to_take c x e t ≤ length c.transitions
-  unfolding lowest_to_take
-  lowest_most = first_le (can_take c x e t) c.transitions
-
   pub none_yet : NoneBelow c x e t 0
   none_yet = record { before = λ k d. absurd (omega arith) }
 
@@ -65,13 +80,19 @@ module _ (c : Chart) (x : State) (e t : ℕ) where
             (λ r n. sym (tried r (record { there = n })) ∙ d);
       }
 
-      pub lowest_here : i < length c.transitions → b ≡ true → i ≡ lowest_to_take c x e t
+      lowest_here : i < length c.transitions → b ≡ true → i ≡ lowest_to_take c x e t
       unfolding lowest_to_take
       lowest_here h d =
           sym (first_is (can_take c x e t) c.transitions i (omega arith) (λ r n. sym (tried r (record { there = n })) ∙ d) w.before)
 
-    pub lowest_none : i ≡ length c.transitions → i ≡ lowest_to_take c x e t
+      pub found_here : {m : ℕ} → m ≡ length c.transitions → i < m → b ≡ true → Some i ≡ found_below m (lowest_to_take c x e t)
+      found_here {m} same h d = rw (sym (lowest_here (omega arith) d), lt-ltb i m h) refl
+
+    lowest_none : i ≡ length c.transitions → i ≡ lowest_to_take c x e t
     unfolding lowest_to_take
     lowest_none h =
         sym (first_is (can_take c x e t) c.transitions i (omega arith)
         (λ r n. absurd (omega (arith, below_nth c.transitions i n))) w.before)
+
+    pub found_none : {m : ℕ} → m ≡ length c.transitions → i ≡ m → None ≡ found_below m (lowest_to_take c x e t)
+    found_none {m} same h = rw (sym (lowest_none (h ∙ same)), le-ltb i m (omega arith)) refl

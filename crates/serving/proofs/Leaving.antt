@@ -1,13 +1,12 @@
 -- What a head is left with: its counts grown to the event's time, and the transition's target and starts, if one is taken. Each fact is one of the
 -- head and is read as one of the run's state.
-use mathlib.Core.Path.{◌≡◌, sym, ap, subst, ◌∙◌}
-use mathlib.Core.Bool.{Bool, true, false}
+use mathlib.Core.Path.{◌≡◌, refl, sym, ap, subst, ◌∙◌}
 use mathlib.Core.List.{List}
 use Prim.Native.Nat.{ℕ, ◌-◌, ◌≤◌, ◌<◌}
 use native.Mathlib.Omega.{arith}
-use lib.Dec.{ltb}
 use lib.ListN.{length, get_or}
 use borrow.Author.Tests.{lt-ltb, le-ltb}
+use Rattle.std.specs.Prelude.{Some, None}
 use Rattle.model.specs.Chart.{Transition, Chart, Nth}
 use Rattle.model.specs.Run.{State, grown, after, waited}
 use Rattle.chart_lists.specs.Lists.{Lists}
@@ -18,7 +17,6 @@ use Rattle.steps.proofs.TransitionPlaces.{no_transition, some_transition, transi
 use Rattle.controller_model.specs.declared.Head.{Head}
 use Rattle.controller_model.specs.Serving.{lowest_to_take, left_by}
 use Rattle.serving.specs.Served.{SoundServing, HeadShows, ServedAs}
-use Rattle.serving.proofs.Choosing.{lowest_most}
 
 -- a sound head's counts can grow to the time of its event
 pub room : {d : Head} {own : List ℕ} → SoundServing d own → (p : ℕ) → p ≤ d.waiting_time - d.time → Room own p
@@ -46,11 +44,8 @@ module _ (d : Head) {own : List ℕ} {x : State} (w : HeadShows d own x) {g : Li
     unfolding left_by
     left_waited many = ap (λ (k : ℕ). left_by c x k t) (sym e) ∙ rw (no_transition c i many, left_by)
 
-    some_taken : {b : Bool} → ltb i (length c.transitions) ≡ b → b ≡ ltb (lowest_to_take c x d.event t) (length c.transitions)
-    some_taken h = sym h ∙ ap (λ (k : ℕ). ltb k (length c.transitions)) e
-
     pub served_taken : {l : Lists} → Holds c l → i < length c.transitions → {v : List ℕ} → MovedOn (get_or l.starts i 0) 0 g v
-        → ServedAs c x d.event d.waiting_time (record { transition = i; taken = true; location = get_or l.targets i 0; counts = v })
+        → ServedAs c x d.event d.waiting_time (record { transition = Some i; location = get_or l.targets i 0; counts = v })
     unfolding after
     served_taken {l} held h {v} starting =
         let n = some_transition c i h in
@@ -59,21 +54,19 @@ module _ (d : Head) {own : List ℕ} {x : State} (w : HeadShows d own x) {g : Li
         let counts = started_agrees (get_or l.starts i 0) g v _ n.0.starts at.started grown_shows starting in
         record {
           number = starting.number;
-          transition = e;
-          taken = some_taken (lt-ltb i (length c.transitions) h);
+          transition = rw (sym e, lt-ltb i (length c.transitions) h) refl;
           location = at.target ∙ sym (ap (λ (s : State). s.location) same);
           counts = subst (CountsAgree v) (sym (ap (λ (s : State). s.counts) same)) counts;
         }
 
-    pub served_none : {m : ℕ} → m ≡ length c.transitions → m ≤ i
-        → ServedAs c x d.event d.waiting_time (record { transition = m; taken = false; location = d.location; counts = g })
+    pub served_none : length c.transitions ≤ i
+        → ServedAs c x d.event d.waiting_time (record { transition = None; location = d.location; counts = g })
     unfolding waited
-    served_none k h =
-        let same = left_waited (omega arith) in
+    served_none h =
+        let same = left_waited h in
         record {
           number = grows.number;
-          transition = omega (arith, lowest_most c x d.event t);
-          taken = some_taken (le-ltb i (length c.transitions) (omega arith));
+          transition = rw (sym e, le-ltb i (length c.transitions) h) refl;
           location = w.location ∙ sym (ap (λ (s : State). s.location) same);
           counts = subst (CountsAgree g) (sym (ap (λ (s : State). s.counts) same)) grown_shows;
         }

@@ -11,13 +11,17 @@ use native.Mathlib.Omega.{arith}
 use borrow.Author.Tests.{eq-eqb, ne_eqb}
 use lib.Bits.{and_le_l, and_le_r}
 use lib.Dec.{eqb}
+use lib.Pow.{pow_mono}
 use lib.ListN.{length, length-set, get_or}
 use lib.Seq.{get_or-set_same, get_or-set_other}
 use Rattle.lists.proofs.Bools.{not_both, is_yes, eqb_self, and_left, and_right, and_both, or_cases, or_left, or_right, same_number}
 use Rattle.timer_set.specs.Members.{member, joined, common, minus, added, removed}
-use Rattle.timer_set.proofs.Members.{member_empty, member_removed, member_joined, member_common, member_minus, member_added, minus_lt}
+use Rattle.timer_set.proofs.Members.{member_empty, member_removed, member_joined, member_common, member_minus, member_added, member_full, member_ext}
+use Rattle.timer_set.proofs.Members.{common_lt, minus_lt}
+use Rattle.timer_set.proofs.Digits.{below_power}
 use Rattle.timer_set.proofs.Machine.{machine_removed}
 use Rattle.timer_set.proofs.LowestMember.{removed_gone}
+use Rattle.model.specs.Floor.{most_searched}
 use Rattle.smallest_plan.specs.RowPlans.{meet_in}
 use Rattle.smallest_plan.specs.Search.{Completes, SearchReady, Answers, held_after}
 use Rattle.smallest_plan.proofs.Exchange.{exchanged, exchanged_to, first_fresh}
@@ -33,6 +37,21 @@ removed_less w v h l m = ⊎_elim (λ e. absurd (not_both (ap (λ (x : ℕ). mem
   where
     less : removed w v ≤ w
     less = rw (← machine_removed 64 w v h l) (and_le_l w ((2 ^ 64 - 1) - (1 * 2 ^ v) % 2 ^ 64))
+
+-- a set of families is a word
+pub word_of_families : (w : ℕ) → ((i : ℕ) → member w i ≡ true → i < most_searched) → w < 2 ^ 64
+unfolding common
+word_of_families w h = omega (arith, same, and_le_r w (2 ^ 20 - 1))
+  where
+    wide : w < 2 ^ (w + 20)
+    wide = grind (arith, below_power w, pow_mono)
+
+    kept : (i : ℕ) (b : Bool) → b ≡ member w i → b ≡ b && member (2 ^ 20 - 1) i
+    kept i true e = sym (member_full 20 i (h i (sym e)))
+    kept i false e = refl
+
+    same : w ≡ common w (2 ^ 20 - 1)
+    same = member_ext (w + 20) w _ wide (common_lt (w + 20) w _ wide) (λ i l. kept i _ refl ∙ sym (member_common w _ i))
 
 -- ---- a part of the unplaced families
 

@@ -3,7 +3,7 @@ ghost use Rattle.std.specs.Prelude.{◌≤◌};
 ghost use Rattle.model.specs.Floor.{most_searched};
 ghost use Rattle.smallest_plan.specs.Cliques.{Candidates, NumbersNeeded};
 
-use crate::{MOST_SEARCHED, smaller};
+use crate::MOST_SEARCHED;
 use timer_set::TimerSet;
 
 // The larger of `least` and of the size of the largest clique, that is, set of families that meet pairwise, among the candidates. The contract says
@@ -16,10 +16,11 @@ pub fn largest_clique(rows: &[u64; MOST_SEARCHED], candidates: TimerSet, least: 
 {
     let mut best = least;
     let mut left = candidates;
+    // stays: the loop ends where too few are left, and `for` goes on to the last.
     while best < left.count() as usize {
         let v = left.lowest() as usize;
         let row = TimerSet { bits: rows[v] };
-        best = largest_clique(rows, left.common(row), best - smaller(best, 1)) + 1;
+        best = largest_clique(rows, left.common(row), best.saturating_sub(1)) + 1;
         left = left.without_lowest();
     }
     best

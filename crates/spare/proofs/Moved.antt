@@ -1,14 +1,13 @@
--- Entries of a list that move up within it, one after another. What is hard: an entry is read where the list has been written over already; it is
--- still the old one, since the place that is written is never past the place that is read.
+-- Entries of a list that move up within it, and what is read behind those that are written over.
 use mathlib.Core.Path.{◌≡◌, sym, ap, ◌∙◌}
-use mathlib.Core.List.{List, [], ◌∷◌, ◌++◌, map, append-nil, append_assoc}
+use mathlib.Core.List.{List, [], ◌∷◌, ◌++◌, map, append_assoc}
 use Prim.Native.Nat.{ℕ, ◌+◌, ◌-◌, ◌≤◌, ◌<◌}
-use native.Mathlib.Numerals.{add-one}
 use native.Mathlib.Omega.{arith}
-use lib.ListN.{length, get_or, take, drop, set, length-append, length-drop, length-map, take-append-drop}
-use lib.Seq.{length-take-le, take-suc, take-add, get_or-drop, get_or-append-add, drop-append-add, drop-drop, set-get_or}
+use lib.ListN.{length, get_or, take, drop, set, length-append, length-take, length-drop, length-map}
+use lib.Seq.{get_or-drop, get_or-append-add, drop-append-add, drop-drop, set-get_or}
+use Rattle.std.specs.List.{copy_within}
 use Rattle.chart_lists.specs.Lists.{put}
-use Rattle.chart_lists.proofs.Put.{take_put, put_last, put_put, put_next}
+use Rattle.chart_lists.proofs.Put.{take_put, put_put, put_next}
 use Rattle.spare.specs.Cleared.{moved}
 
 -- ---- behind what is put over the front
@@ -25,11 +24,6 @@ module _ (xs l : List ℕ) {j : ℕ} (h : length xs ≤ j) where
   unfolding put
   drop_past = rw (gap, drop-append-add, drop-drop)
 
--- a front of the list itself
-pub put_front : (n : ℕ) (l : List ℕ) → n ≤ length l → put (take n l) l ≡ l
-unfolding put
-put_front n l h = rw (length-take-le n l h) (take-append-drop n l)
-
 -- the next item's number stands behind those of the items that are done already
 pub put_stays : {A : Type 0} (f : A → ℕ) (done : List A) (a : A) (l : List ℕ) {out : List ℕ} {k : ℕ} → k < length l → length done ≡ k
     → out ≡ put (map f done) l → get_or l k 0 ≡ f a → out ≡ put (map f (done ++ (a ∷ []))) l
@@ -40,33 +34,18 @@ put_stays f done a l {out} {k} h e o g =
 
 -- ---- entries that move up
 
-module _ (from to : ℕ) (up : to ≤ from) (l : List ℕ) where
-  pub moved_none : to ≤ length l → l ≡ moved from to 0 l
-  unfolding moved
-  moved_none h = rw append-nil (sym (put_front to l h))
+-- as the library's method moves them
+pub moved_within : (from to n : ℕ) (l : List ℕ) → to ≤ from → from + n ≤ length l → copy_within l from (from + n) to ≡ moved from to n l
+unfolding moved put
+moved_within from to n l up h =
+    let many : (from + n) - from ≡ n = omega arith in
+    let long : length (take to l ++ take n (drop from l)) ≡ to + n = simp (length-append, length-take, length-drop) (omega arith) in
+    rw (many, long, append_assoc)
 
-  pub moved_more : (k : ℕ) → from + k < length l → {out : List ℕ} → out ≡ moved from to k l
-      → set out (to + k) (get_or out (from + k) 0) ≡ moved from to (k + 1) l
-  unfolding moved
-  moved_more k h {out} o =
-      let b : k < length (drop from l) = simp length-drop (omega arith) in
-      let long : length (take to l ++ take k (drop from l)) ≡ to + k =
-      length-append (take to l) (take k (drop from l)) ∙ rw (length-take-le to l (omega arith), length-take-le k (drop from l) (omega arith)) in
-      let past : length (take to l ++ take k (drop from l)) ≤ from + k = omega arith in
-      let read : get_or out (from + k) 0 ≡ get_or (drop from l) k 0 =
-      ap (λ (t : List ℕ). get_or t (from + k) 0) o ∙ get_d_past (take to l ++ take k (drop from l)) l past ∙ sym (get_or-drop from l k 0) in
-      rw (read, add-one k, take-suc (drop from l) k 0 b, ← append_assoc)
-      (put_last (take to l ++ take k (drop from l)) l (get_or (drop from l) k 0) (omega arith) long o)
-
-  -- behind what is put over the front
-  pub moved_after : (done : List ℕ) (n : ℕ) {out : List ℕ} → length done ≡ to → out ≡ put done l
-      → moved from to n out ≡ put (done ++ take n (drop from l)) l
-  unfolding moved
-  moved_after done n e o =
-      let past : length done ≤ from = omega arith in
-      rw (o, take_put done l to e, drop_past done l past) (put_put done (take n (drop from l)) l)
-
--- nothing moves where both places are one
-pub moved_same : (a n : ℕ) (l : List ℕ) → a + n ≤ length l → l ≡ moved a a n l
+-- behind what is put over the front
+pub moved_after : (from to : ℕ) → to ≤ from → (l done : List ℕ) (n : ℕ) {out : List ℕ} → length done ≡ to → out ≡ put done l
+    → moved from to n out ≡ put (done ++ take n (drop from l)) l
 unfolding moved
-moved_same a n l h = rw (← take-add a n l) (sym (put_front (a + n) l h))
+moved_after from to up l done n e o =
+    let past : length done ≤ from = omega arith in
+    rw (o, take_put done l to e, drop_past done l past) (put_put done (take n (drop from l)) l)

@@ -4,41 +4,46 @@ use mathlib.Core.Bool.{true, false}
 use mathlib.Core.List.{List, [], ◌∷◌, ◌++◌, map}
 use Prim.Native.Nat.{ℕ, ◌+◌, ◌<◌}
 use native.Mathlib.Omega.{arith}
-use lib.ListN.{length, take, set, length-append}
+use lib.ListN.{length, take, set, replicate, length-append}
 use lib.Seq.{take-length}
 use Rattle.lists.specs.Lists.{filtered}
 use Rattle.model.specs.Chart.{Transition, Chart, Nth}
 use Rattle.model.specs.Valid.{Valid}
 use Rattle.model.specs.Live.{starts_set, tests_set, tested_sets, reached_sets}
 use Rattle.model.specs.Spare.{leaves_reached, reached_part}
+use Rattle.chart_lists.specs.Limits.{most_transitions}
 use Rattle.chart_lists.specs.Lists.{lists_of, put, sources_of, targets_of, starts_of}
 use Rattle.chart_lists.proofs.Put.{put_next}
 use Rattle.chart_lists.proofs.Begins.{begins_self, begins_put}
 use Rattle.chart_lists.proofs.Partly.{holds_of}
 use Rattle.chart_lists.proofs.InTurn.{take_next}
 use Rattle.spare.specs.Part.{PartListed}
+use Rattle.spare.specs.declared.Part.{Part}
 use Rattle.spare.proofs.Filtered.{filtered_yes, filtered_no}
 use Rattle.model.proofs.ReachedPart.{part_valid}
+
+abbrev zeros : List ℕ
+zeros = replicate most_transitions 0
 
 -- those of the first i transitions that leave a reached location
 abbrev pub kept_to : Chart → ℕ → List Transition
 kept_to c i = filtered (leaves_reached (reached_sets c)) (take i c.transitions)
 
-pub record PartTo (c : Chart) (sources₀ targets₀ starts₀ tested₀ sources targets starts tested : List ℕ) (count i : ℕ) : Type 0 where
-  pub count_is : length (kept_to c i) ≡ count
-  pub sources_are : sources ≡ put (sources_of (kept_to c i)) sources₀
-  pub targets_are : targets ≡ put (targets_of (kept_to c i)) targets₀
-  pub starts_are : starts ≡ put (starts_of (kept_to c i)) starts₀
-  pub tested_are : tested ≡ put (map tests_set (kept_to c i)) tested₀
+-- the lists hold those, and zeros behind them
+pub record PartTo (c : Chart) (p : Part) (i : ℕ) : Type 0 where
+  pub count_is : length (kept_to c i) ≡ p.count
+  pub sources_are : p.sources ≡ put (sources_of (kept_to c i)) zeros
+  pub targets_are : p.targets ≡ put (targets_of (kept_to c i)) zeros
+  pub starts_are : p.starts ≡ put (starts_of (kept_to c i)) zeros
+  pub tested_are : p.tested ≡ put (map tests_set (kept_to c i)) zeros
 
-pub part_none : (c : Chart) (sources targets starts tested : List ℕ) → PartTo c sources targets starts tested sources targets starts tested 0 0
+pub part_none : (c : Chart) → PartTo c (record { sources = zeros; targets = zeros; starts = zeros; tested = zeros; count = 0 }) 0
 unfolding filtered put
-part_none c s t w g = record { count_is = refl; sources_are = refl; targets_are = refl; starts_are = refl; tested_are = refl }
+part_none c = record { count_is = refl; sources_are = refl; targets_are = refl; starts_are = refl; tested_are = refl }
 
-module _ {c : Chart} {sources₀ targets₀ starts₀ tested₀ sources targets starts tested : List ℕ} {count i : ℕ}
-    (x : PartTo c sources₀ targets₀ starts₀ tested₀ sources targets starts tested count i) where
+module _ {c : Chart} {p : Part} {i : ℕ} (x : PartTo c p i) where
   module _ {r : Transition} (n : Nth c i r) where
-    pub part_skip : leaves_reached (reached_sets c) r ≡ false → PartTo c sources₀ targets₀ starts₀ tested₀ sources targets starts tested count (i + 1)
+    pub part_skip : leaves_reached (reached_sets c) r ≡ false → PartTo c p (i + 1)
     part_skip e =
         let same : kept_to c (i + 1) ≡ kept_to c i = rw (take_next n) (filtered_no (leaves_reached (reached_sets c)) (take i c.transitions) r e) in
         record {
@@ -52,31 +57,35 @@ module _ {c : Chart} {sources₀ targets₀ starts₀ tested₀ sources targets 
     -- what it has is stored behind the others
     module _ {source target started tests : ℕ} (s : source ≡ r.source) (t : target ≡ r.target) (w : started ≡ starts_set r)
         (g : tests ≡ tests_set r) where
-      pub part_more : leaves_reached (reached_sets c) r ≡ true
-          → count < length sources₀ → count < length targets₀ → count < length starts₀ → count < length tested₀
-          → PartTo c sources₀ targets₀ starts₀ tested₀ (set sources count source) (set targets count target) (set starts count started)
-          (set tested count tests) (count + 1) (i + 1)
-      part_more e hs ht hw hg =
+      pub part_more : leaves_reached (reached_sets c) r ≡ true → p.count < most_transitions
+          → PartTo c (record {
+            sources = set p.sources p.count source;
+            targets = set p.targets p.count target;
+            starts = set p.starts p.count started;
+            tested = set p.tested p.count tests;
+            count = p.count + 1;
+          }) (i + 1)
+      part_more e room =
           let more : kept_to c (i + 1) ≡ kept_to c i ++ (r ∷ []) =
           rw (take_next n) (filtered_yes (leaves_reached (reached_sets c)) (take i c.transitions) r e) in
           record {
             count_is = rw (more, length-append) (omega (arith, x.count_is));
-            sources_are = rw (more, s) (put_next (λ r. r.source) (kept_to c i) r sources₀ hs x.count_is x.sources_are);
-            targets_are = rw (more, t) (put_next (λ r. r.target) (kept_to c i) r targets₀ ht x.count_is x.targets_are);
-            starts_are = rw (more, w) (put_next starts_set (kept_to c i) r starts₀ hw x.count_is x.starts_are);
-            tested_are = rw (more, g) (put_next tests_set (kept_to c i) r tested₀ hg x.count_is x.tested_are);
+            sources_are = rw (more, s) (put_next (λ r. r.source) (kept_to c i) r zeros room x.count_is x.sources_are);
+            targets_are = rw (more, t) (put_next (λ r. r.target) (kept_to c i) r zeros room x.count_is x.targets_are);
+            starts_are = rw (more, w) (put_next starts_set (kept_to c i) r zeros room x.count_is x.starts_are);
+            tested_are = rw (more, g) (put_next tests_set (kept_to c i) r zeros room x.count_is x.tested_are);
           }
 
   -- all transitions are gone over
-  pub part_all : {W : ℕ} → Valid W c → i ≡ length c.transitions → PartListed c sources targets starts tested count
+  pub part_all : {W : ℕ} → Valid W c → i ≡ length c.transitions → PartListed c p.sources p.targets p.starts p.tested p.count
   unfolding reached_part lists_of tested_sets
   part_all valid e =
       let all : kept_to c i ≡ (reached_part c).transitions = rw (e, take-length) in
       record {
         count = rw all at (sym x.count_is);
         edges =
-            holds_of _ _ _ _ _ _ _ _ _ (part_valid valid) (begins_self _) (begins_put _ sources₀ (rw all at x.sources_are))
-            (begins_put _ targets₀ (rw all at x.targets_are)) (begins_self _) (begins_put _ starts₀ (rw all at x.starts_are)) (begins_self _)
+            holds_of _ _ _ _ _ _ _ _ _ (part_valid valid) (begins_self _) (begins_put _ zeros (rw all at x.sources_are))
+            (begins_put _ zeros (rw all at x.targets_are)) (begins_self _) (begins_put _ zeros (rw all at x.starts_are)) (begins_self _)
             (begins_self _) (begins_self _) (begins_self _);
-        tested_are = begins_put _ tested₀ (rw all at x.tested_are);
+        tested_are = begins_put _ zeros (rw all at x.tested_are);
       }

@@ -7,6 +7,7 @@ ghost use Rattle.model.specs.Chart.{Chart};
 ghost use Rattle.model.specs.Live.{tested_sets, reached_sets, is_empty};
 ghost use Rattle.model.specs.Spare.{spare_cleared};
 ghost use Rattle.model.specs.Places.{ReachedIfAsked};
+ghost use Rattle.chart_lists.specs.Limits.{most_transitions};
 ghost use Rattle.chart_lists.specs.Lists.{lists_of};
 ghost use Rattle.chart_lists.specs.Header.{header_of};
 ghost use Rattle.chart_lists.specs.Begins.{Begins};
@@ -15,8 +16,58 @@ ghost use Rattle.chart_lists.specs.Partly.{edges_of};
 ghost use Rattle.spare.specs.Part.{PartListed};
 ghost use Rattle.spare.specs.Cleared.{transitions_of, moved, StartsCleared, TestsCleared};
 
-use chart_lists::{Header, MOST_LOCATIONS};
+use chart_lists::{Header, MOST_LOCATIONS, MOST_TRANSITIONS};
 use timer_set::TimerSet;
+
+// Of each transition its source, its target, the set of the timers that it starts, and the set of those that it tests.
+#[derive(Clone, Copy)]
+pub struct Transitions<'a> {
+    pub sources: &'a [u16],
+    pub targets: &'a [u16],
+    pub starts: &'a [u64],
+    pub tested: &'a [u64],
+}
+
+// So many transitions, over the fronts of the four lists.
+// stays: lists side by side, since `number_lists` takes them as it takes a chart's own, which the C interface hands over so.
+#[derive(Clone, Copy)]
+pub struct Part {
+    pub sources: [u16; MOST_TRANSITIONS],
+    pub targets: [u16; MOST_TRANSITIONS],
+    pub starts: [u64; MOST_TRANSITIONS],
+    pub tested: [u64; MOST_TRANSITIONS],
+    pub count: u16,
+}
+
+impl Part {
+    const EMPTY: Part = Part {
+        sources: [0; MOST_TRANSITIONS],
+        targets: [0; MOST_TRANSITIONS],
+        starts: [0; MOST_TRANSITIONS],
+        tested: [0; MOST_TRANSITIONS],
+        count: 0,
+    };
+
+    // Transition i goes behind those that are there.
+    fn push(&mut self, transitions: Transitions, i: usize)
+        requires { (i < length transitions.sources.now) × (i < length transitions.targets.now) × (i < length transitions.starts.now)
+            × (i < length transitions.tested.now) × (self.old.count < most_transitions) }
+        ensures { self.new ≡ record {
+          sources = set self.old.sources self.old.count (get_or transitions.entry.sources.now i 0);
+          targets = set self.old.targets self.old.count (get_or transitions.entry.targets.now i 0);
+          starts = set self.old.starts self.old.count (get_or transitions.entry.starts.now i 0);
+          tested = set self.old.tested self.old.count (get_or transitions.entry.tested.now i 0);
+          count = self.old.count + 1;
+        } }
+    {
+        let place = self.count as usize;
+        self.sources[place] = transitions.sources[i];
+        self.targets[place] = transitions.targets[i];
+        self.starts[place] = transitions.starts[i];
+        self.tested[place] = transitions.tested[i];
+        self.count += 1;
+    }
+}
 
 // The reached set of each location: all timers if a path from the initial location reaches it, else none.
 fn reached_sets<'a>(header: Header, sources: &'a [u16], targets: &'a [u16]) -> [u64; MOST_LOCATIONS]
@@ -46,118 +97,40 @@ fn leaves_reached<'a>(sources: &'a [u16], reached: &'a [u64], i: usize) -> bool
     !set.is_empty()
 }
 
-// Transition i goes to one place of the four lists.
-fn copy_transition<'a>(
-    sources: &'a [u16],
-    targets: &'a [u16],
-    starts: &'a [u64],
-    tested: &'a [u64],
-    i: usize,
-    part_sources: &mut [u16],
-    part_targets: &mut [u16],
-    part_starts: &mut [u64],
-    part_tested: &mut [u64],
-    place: usize,
-)
-    requires { (i < length sources.now) × (i < length targets.now) × (i < length starts.now) × (i < length tested.now)
-        × (place < length part_sources.old) × (place < length part_targets.old) × (place < length part_starts.old)
-        × (place < length part_tested.old) }
-    ensures source { part_sources.new ≡ set part_sources.old place (get_or sources.now i 0) }
-    ensures target { part_targets.new ≡ set part_targets.old place (get_or targets.now i 0) }
-    ensures starts { part_starts.new ≡ set part_starts.old place (get_or starts.now i 0) }
-    ensures tested { part_tested.new ≡ set part_tested.old place (get_or tested.now i 0) }
+// The transitions that leave a reached location.
+fn keep_reached<'a>(n: usize, transitions: Transitions<'a>, reached: &'a [u64]) -> Part
+    requires { (c : Chart) × (n ≡ length c.transitions)
+        × Holds c (edges_of c transitions.sources.now transitions.targets.now transitions.starts.now)
+        × Begins (tested_sets c) transitions.tested.now × Begins (reached_sets c) reached.now }
+    ensures { (c : Chart) → n ≡ length c.transitions
+        → Holds c (edges_of c transitions.entry.sources.now transitions.entry.targets.now transitions.entry.starts.now)
+        → Begins (tested_sets c) transitions.entry.tested.now → Begins (reached_sets c) reached.now
+        → PartListed c result.sources result.targets result.starts result.tested result.count }
 {
-    part_sources[place] = sources[i];
-    part_targets[place] = targets[i];
-    part_starts[place] = starts[i];
-    part_tested[place] = tested[i];
-}
-
-// The transitions that leave a reached location, over the fronts of the four lists. How many there are.
-fn keep_reached<'a>(
-    n: usize,
-    sources: &'a [u16],
-    targets: &'a [u16],
-    starts: &'a [u64],
-    tested: &'a [u64],
-    reached: &'a [u64],
-    part_sources: &mut [u16],
-    part_targets: &mut [u16],
-    part_starts: &mut [u64],
-    part_tested: &mut [u64],
-) -> usize
-    requires { ((c : Chart) × (n ≡ length c.transitions) × Holds c (edges_of c sources.now targets.now starts.now)
-        × Begins (tested_sets c) tested.now × Begins (reached_sets c) reached.now)
-        × (n ≤ length part_sources.old) × (n ≤ length part_targets.old) × (n ≤ length part_starts.old)
-        × (n ≤ length part_tested.old) }
-    ensures few { result ≤ n }
-    ensures part { (c : Chart) → n ≡ length c.transitions
-        → Holds c (edges_of c sources.now targets.now starts.now)
-        → Begins (tested_sets c) tested.now → Begins (reached_sets c) reached.now
-        → PartListed c part_sources.new part_targets.new part_starts.new part_tested.new result }
-{
-    let mut count: usize = 0;
-    let mut i: usize = 0;
-    while i < n {
-        let k = i;
-        i += 1;
-        if leaves_reached(sources, reached, k) {
-            copy_transition(
-                sources,
-                targets,
-                starts,
-                tested,
-                k,
-                part_sources,
-                part_targets,
-                part_starts,
-                part_tested,
-                count,
-            );
-            count += 1;
+    let mut part = Part::EMPTY;
+    for i in 0..n {
+        if leaves_reached(transitions.sources, reached, i) {
+            part.push(transitions, i);
         }
     }
-    count
+    part
 }
 
-// The lists of the part of a chart that counts, over the fronts of the lent ones: the transitions that leave a reached location. How many there
-// are.
-pub fn reached_part<'a>(
-    header: Header,
-    sources: &'a [u16],
-    targets: &'a [u16],
-    starts: &'a [u64],
-    tested: &'a [u64],
-    part_sources: &mut [u16],
-    part_targets: &mut [u16],
-    part_starts: &mut [u64],
-    part_tested: &mut [u64],
-) -> u16
-    requires { ((c : Chart) × (header ≡ header_of c) × Holds c (edges_of c sources.now targets.now starts.now)
-        × Begins (tested_sets c) tested.now)
-        × (header.transitions ≤ length part_sources.old) × (header.transitions ≤ length part_targets.old)
-        × (header.transitions ≤ length part_starts.old) × (header.transitions ≤ length part_tested.old) }
+// The lists of the part of a chart that counts: the transitions that leave a reached location.
+pub fn reached_part<'a>(header: Header, transitions: Transitions<'a>) -> Part
+    requires { (c : Chart) × (header ≡ header_of c)
+        × Holds c (edges_of c transitions.sources.now transitions.targets.now transitions.starts.now)
+        × Begins (tested_sets c) transitions.tested.now }
     ensures { (c : Chart) → header ≡ header_of c
-        → Holds c (edges_of c sources.now targets.now starts.now) → Begins (tested_sets c) tested.now
-        → PartListed c part_sources.new part_targets.new part_starts.new part_tested.new result }
+        → Holds c (edges_of c transitions.entry.sources.now transitions.entry.targets.now transitions.entry.starts.now)
+        → Begins (tested_sets c) transitions.entry.tested.now
+        → PartListed c result.sources result.targets result.starts result.tested result.count }
 {
-    let n = header.transitions as usize;
-    let reached = reached_sets(header, sources, targets);
-    keep_reached(
-        n,
-        sources,
-        targets,
-        starts,
-        tested,
-        &reached,
-        part_sources,
-        part_targets,
-        part_starts,
-        part_tested,
-    ) as u16
+    let reached = reached_sets(header, transitions.sources, transitions.targets);
+    keep_reached(header.transitions as usize, transitions, &reached)
 }
 
-// So many tests move from the place `from` on to the place `to` on, which is no later. Where both are one place nothing is moved.
+// So many tests move from the place `from` on to the place `to` on, which is no later.
 fn move_tests(
     timers: &mut [u8],
     codes: &mut [u8],
@@ -172,18 +145,9 @@ fn move_tests(
     ensures codes { codes.new ≡ moved from to count codes.old }
     ensures constants { constants.new ≡ moved from to count constants.old }
 {
-    if from == to {
-        return;
-    }
-    let mut k: usize = 0;
-    while k < count {
-        let x = from + k;
-        let y = to + k;
-        timers[y] = timers[x];
-        codes[y] = codes[x];
-        constants[y] = constants[x];
-        k += 1;
-    }
+    timers.copy_within(from..from + count, to);
+    codes.copy_within(from..from + count, to);
+    constants.copy_within(from..from + count, to);
 }
 
 // The tests of the transitions that leave a reached location, one after another at the fronts of the three lists.
@@ -204,17 +168,13 @@ fn keep_tests<'a>(
 {
     let mut from: usize = 0;
     let mut to: usize = 0;
-    let mut i: usize = 0;
-    while i < n {
-        let transition = i;
-        let first = from;
-        let count = test_counts[transition] as usize;
-        i += 1;
-        from += count;
-        if leaves_reached(sources, reached, transition) {
-            move_tests(timers, codes, constants, first, to, count);
+    for i in 0..n {
+        let count = test_counts[i] as usize;
+        if leaves_reached(sources, reached, i) {
+            move_tests(timers, codes, constants, from, to, count);
             to += count;
         }
+        from += count;
     }
 }
 
@@ -232,19 +192,17 @@ fn clear_starts<'a>(
         sources.now (lists_of c).targets starts.old test_counts.old (lists_of c).timers (lists_of c).codes
         (lists_of c).constants) → StartsCleared c starts.new test_counts.new }
 {
-    let mut i: usize = 0;
-    while i < n {
-        let k = i;
-        i += 1;
-        if !leaves_reached(sources, reached, k) {
-            starts[k] = 0;
-            test_counts[k] = 0;
+    for i in 0..n {
+        if !leaves_reached(sources, reached, i) {
+            starts[i] = 0;
+            test_counts[i] = 0;
         }
     }
 }
 
 // The lists of the chart in which a transition that leaves a spare location has no tests and no starts, in place: the tests of the others move up.
 // Where the version of a chart that was judged allows no spare location, there is none.
+// stays: the contract of `clear_spare` has the lists lent one by one, of any length, some only to be read.
 pub fn clear_spare<'a>(
     header: Header,
     sources: &'a [u16],

@@ -14,7 +14,8 @@ use Rattle.file_format.specs.File.{chart_in, file_of}
 use Rattle.file_format.specs.Versions.{chart_in_version12}
 use Rattle.chart_lists.specs.Lists.{overwritten}
 use Rattle.judgement.specs.Judging.{judged_in}
-use Rattle.analysis.specs.Analysing.{AnalysisValues, analysed_chart, analysed_in, analyse_answer, values_of, analysed_sets}
+use Rattle.analysis.specs.declared.Analysis.{Analysis}
+use Rattle.analysis.specs.Analysing.{analysed_chart, analysed_in, analyse_answer, values_of, analysed_sets}
 use Rattle.rewriting.specs.Rewriting.{RewritingValues, new_file, rewrite_into, rewrite_answer}
 use Rattle.rewriting.specs.Rewriting.{values_of as rewritingValues}
 use Rattle.player.specs.Playing.{play_answer}
@@ -62,14 +63,14 @@ rewrite_answer_before K room bs = then (rewrite_before K room bs) (λ x. returne
 
 -- ---- the analysis
 
-unfoldable pub values_before : Chart → AnalysisValues
+unfoldable pub values_before : Chart → Analysis
 values_before c = record { used = used c; floor = floor c; searched = searched c; rounds = live_rounds c }
 
 -- 1 to 10, then 21; the lent list was left with the live sets
 unfoldable pub analysed_in_before : (room : ℕ) → List ℕ → Answer Chart
 analysed_in_before room bs = then (judged_in_before bs) (analysed_chart room)
 
-unfoldable pub analyse_answer_before : (room : ℕ) → List ℕ → Answer AnalysisValues
+unfoldable pub analyse_answer_before : (room : ℕ) → List ℕ → Answer Analysis
 analyse_answer_before room bs = then (analysed_in_before room bs) (λ c. returned (values_before c))
 
 -- ---- the players, and a controller, which sees the files only through the charts of its heads

@@ -17,13 +17,14 @@ use Rattle.model.specs.Run.{Counts, State as Run-as-State, grown, after, enabled
 use Rattle.model.proofs.Steps.{judged_step, attempt_none, attempt_some}
 use Rattle.chart_lists.specs.Lists.{Lists}
 use Rattle.chart_lists.specs.Holds.{Holds}
+use Rattle.std.specs.Prelude.{Ok, Err}
+use Rattle.refusal.specs.declared.Reason.{Reason}
 use Rattle.refusal.specs.declared.Refusal.{Refusal}
+use Rattle.refusal.specs.Reason.{number_of}
+use Rattle.refusal.specs.Refused.{refused_as}
 use Rattle.steps.specs.declared.State.{State}
-use Rattle.steps.specs.declared.Stepped.{Stepped}
-use Rattle.steps.specs.declared.Verdict.{Verdict}
-use Rattle.steps.specs.declared.Verdict.TheVariants as verdict
 use Rattle.steps.specs.Counts.{CountsAgree, Room, MovedOn}
-use Rattle.steps.specs.Stepping.{Shows, Small, Kept, step_at, refused_at, Answered}
+use Rattle.steps.specs.Stepping.{Shows, Small, step_at, refusal_at, Decided}
 use Rattle.steps.proofs.TransitionPlaces.{TransitionAt, no_transition, some_transition, transition_at}
 use Rattle.steps.proofs.MovedCounts.{count_started, count_grown, none_started, grown_agrees, started_agrees}
 
@@ -46,20 +47,10 @@ module _ (x : State) (q t starts : ℕ) {g v : List ℕ} (w : Small x) (h : x.ti
           let more = grows.count j l ∙ none_started _ j _ in
           omega (arith, starting.count j l ∙ count_grown starts _ j _ e, more, w.bound j l)
 
-pub taken_or_not : {v : Verdict} {f : Refusal} → v ≡ verdict.Taken → v ≡ verdict.Refused f → ⊥
-taken_or_not p q = let z : ◌≡◌ {A = ℕ} 0 1 = cc in omega arith
-
--- a refusal of the code for one of the run
-pub refused_as_lem : (k n : ℕ) (x : State) (z : Stepped) (y : Answer Run-as-State) → z ≡ refused_at k n x → y ≡ refused k n → Answered z y
-refused_as_lem k n x z y e f = subst (Answered z) (sym f) (ap (λ (q : Stepped). q.verdict) e)
-
--- and the state that it leaves: the one that it found
-pub refused_leaves : (k n : ℕ) (x : State) (z : Stepped) → Small x → z ≡ refused_at k n x → Small z.state × Kept z x
-refused_leaves k n x z w e = let same = ap (λ (q : Stepped). q.state) e in (subst Small (sym same) w, record { state = λ f v. same })
-
--- a step that is taken is not refused
-pub taken_kept : (x y : State) → Kept (record { verdict = verdict.Taken; state = y }) x
-taken_kept x y = record { state = λ f v. absurd (taken_or_not refl v) }
+-- a refusal of the code for one of a definition
+pub refused_as_lem : {A S : Type 0} (P : A → S → Type 0) (why : Reason) (n : ℕ) (f : Refusal) (y : Answer S) → f ≡ refusal_at why n
+    → y ≡ refused (number_of why) n → Decided P (Err f) y
+refused_as_lem P why n f y e told = subst (Decided P (Err f)) (sym told) (ap refused_as e)
 
 module _ {c : Chart} {l : Lists} (held : Holds c l) (k i t : ℕ) (x : State) (s : Run-as-State) (w : Shows x s) where
   abbrev told : Answer Run-as-State
@@ -117,8 +108,8 @@ module _ {c : Chart} {l : Lists} (held : Holds c l) (k i t : ℕ) (x : State) (s
           attempt_24 f = allowed ∙ rw (leaves, later, passed, f) refl
 
           pub attempt_taken : m ≡ true → (v : List ℕ) → MovedOn (get_or l.starts i 0) 0 g v
-              → Answered (record { verdict = verdict.Taken; state = next_state (get_or l.targets i 0) t v }) told
+              → Decided (λ done. Shows (next_state (get_or l.targets i 0) t v)) (Ok (tt {0})) told
           unfolding after
           attempt_taken f v starting =
               let counts = started_agrees (get_or l.starts i 0) g v _ r.starts at.started agrees starting in
-              rw (allowed, leaves, later, passed, f) (refl, record { location = at.target; time = refl; counts = counts })
+              rw (allowed, leaves, later, passed, f) (record { location = at.target; time = refl; counts = counts })

@@ -64,3 +64,8 @@ found_all f e h r = record { room = omega arith; place = λ k b. f.found k (omeg
 pub found_number : {c : Chart} {i n sum : ℕ} {firsts : List ℕ} → FoundTo c i sum firsts → n ≡ length c.transitions → n ≤ i
     → sum ≡ length (all_tests c.transitions)
 found_number {c} {i} f e h = f.next ∙ ap (λ (rs : List Transition). length (all_tests rs)) (take_all i c.transitions (omega arith))
+
+-- the tests of a transition end among all tests
+pub end_fits : {c : Chart} {l : Lists} → Holds c l → {firsts : List ℕ} → FirstTests c firsts → {i : ℕ} → i < length c.transitions
+    → get_or firsts i 0 + get_or l.test_counts i 0 ≤ 4096
+end_fits h f {i} b = sum_fits h (record { next = f.place i b; found = λ k d. f.place k (omega arith) }) b

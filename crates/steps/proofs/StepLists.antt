@@ -13,11 +13,9 @@ use Rattle.model.specs.Answer.{Answer, returned, refused, then}
 use Rattle.model.specs.Chart.{Chart}
 use Rattle.model.specs.Run.{State as Run-as-State, attempt, steps, player_time}
 use Rattle.model.specs.Player.{steps_of}
+use Rattle.std.specs.Prelude.{Ok, Err}
 use Rattle.refusal.specs.declared.Refusal.{Refusal}
-use Rattle.steps.specs.declared.Verdict.{Verdict}
-use Rattle.steps.specs.declared.Verdict.TheVariants as verdict
 use Rattle.steps.specs.Stepping.{step_at, Decided}
-use Rattle.steps.proofs.Attempts.{taken_or_not}
 
 -- ---- states of any kind
 
@@ -41,27 +39,29 @@ module _ {S X : Type 0} {Shown : X → S → Type 0} {t : StepSequence S} where
 
   module _ {k : ℕ} {s : S} {x : X} (w : Reached Shown t k s x) where
     -- no step is left
-    pub reached_end : t.number ≤ k → Decided verdict.Taken (Shown x) (t.rest 0 s)
-    reached_end h = subst (Decided verdict.Taken (Shown x)) (sym (w.same ∙ t.ended k w.state h)) (refl, w.shown)
+    pub reached_end : t.number ≤ k → Decided Shown (Ok x) (t.rest 0 s)
+    reached_end h = subst (Decided Shown (Ok x)) (sym (w.same ∙ t.ended k w.state h)) w.shown
 
     -- one step is tried, and then the rest
-    module _ (h : k < t.number) (v : Verdict) (y : X) (decided : (s' : S) → Shown x s' → Decided v (Shown y) (t.tried k s')) where
+    module _ (h : k < t.number) {A : Type 0} (next : A → X) where
       all : t.rest 0 s ≡ then (t.tried k w.state) (t.rest (suc k))
       all = w.same ∙ t.next k w.state h
 
-      pub reached_next : v ≡ verdict.Taken → Reached Shown t (k + 1) s y
-      reached_next e = rw add-one (go (t.tried k w.state) refl (decided w.state w.shown))
+      pub reached_next : (a : A) → ((s' : S) → Shown x s' → Decided (λ (b : A). Shown (next b)) (Ok a) (t.tried k s'))
+          → Reached Shown t (k + 1) s (next a)
+      reached_next a decided = rw add-one (go (t.tried k w.state) refl (decided w.state w.shown))
         where
-          go : (a : Answer S) → t.tried k w.state ≡ a → Decided v (Shown y) a → Reached Shown t (suc k) s y
-          go (returned s') p d = record { state = s'; shown = d.1; same = all ∙ ap (λ (q : Answer S). then q (t.rest (suc k))) p }
-          go (refused n p) q d = absurd (taken_or_not e d)
+          go : (q : Answer S) → t.tried k w.state ≡ q → Decided (λ (b : A). Shown (next b)) (Ok a) q → Reached Shown t (suc k) s (next a)
+          go (returned s') p d = record { state = s'; shown = d; same = all ∙ ap (λ (q : Answer S). then q (t.rest (suc k))) p }
+          go (refused n p) q d = absurd cc
 
-      pub reached_refused : {f : Refusal} → v ≡ verdict.Refused f → Decided v (Shown y) (t.rest 0 s)
-      reached_refused e = subst (Decided v (Shown y)) (sym all) (go (t.tried k w.state) (decided w.state w.shown))
+      pub reached_refused : (f : Refusal) → ((s' : S) → Shown x s' → Decided (λ (b : A). Shown (next b)) (Err f) (t.tried k s'))
+          → Decided Shown (Err f) (t.rest 0 s)
+      reached_refused f decided = subst (Decided Shown (Err f)) (sym all) (go (t.tried k w.state) (decided w.state w.shown))
         where
-          go : (a : Answer S) → Decided v (Shown y) a → Decided v (Shown y) (then a (t.rest (suc k)))
-          go (returned s') d = absurd (taken_or_not d.0 e)
-          go (refused n p) d = d
+          go : (q : Answer S) → Decided (λ (b : A). Shown (next b)) (Err f) q → Decided Shown (Err f) (then q (t.rest (suc k)))
+          go (returned s') d = absurd d
+          go (refused n p) d = cc
 
 -- ---- the player's
 

@@ -2,16 +2,13 @@
 -- transition alone.
 use mathlib.Core.Path.{◌≡◌, refl, sym, ap, ap₂, subst, ◌∙◌}
 use mathlib.Core.Bool.{Bool, true, false, ◌&&◌}
-use mathlib.Core.Option.{some-injective, none-ne-some}
+use mathlib.Core.Option.{none, some, some-injective, none-ne-some}
 use mathlib.Core.List.{List, [], ◌∷◌}
 use Prim.Native.Nat.{ℕ, zero, suc, ◌+◌, ◌-◌, ◌≤◌, ◌<◌}
 use native.Mathlib.Omega.{arith}
 use lib.ListN.{length, get_or, drop}
 use Rattle.comparison.specs.declared.Comparison.{Comparison}
-use Rattle.comparison.specs.declared.Decoded.{Decoded}
-use Rattle.comparison.specs.declared.Decoded.TheVariants as decoded
 use Rattle.comparison.specs.Comparison.{met, comparison_of, code_of}
-use Rattle.comparison.specs.Decoding.{decoded_of}
 use Rattle.comparison.proofs.Comparisons.{comparison_code}
 use Rattle.model.specs.Chart.{Test, Transition, Chart, Nth}
 use Rattle.model.specs.Run.{Counts, all_met, enabled}
@@ -23,11 +20,11 @@ use Rattle.steps.proofs.TransitionPlaces.{TestAt, nth_drop, transition_at, test_
 
 -- ---- the code of a comparison
 
-pub decoded_known : (d : Decoded) {x y : Comparison} (code : ℕ) → decoded_of d ≡ comparison_of code → d ≡ decoded.Known y → code ≡ code_of x → y ≡ x
-decoded_known d {x} {y} code e k h = some-injective _ _ (sym (ap decoded_of k) ∙ e ∙ ap comparison_of h ∙ comparison_code x)
+pub decoded_known : {x y : Comparison} (code : ℕ) → some y ≡ comparison_of code → code ≡ code_of x → y ≡ x
+decoded_known {x} code e h = some-injective _ _ (e ∙ ap comparison_of h ∙ comparison_code x)
 
-pub decoded_unknown : (d : Decoded) (x : Comparison) (code : ℕ) → decoded_of d ≡ comparison_of code → d ≡ decoded.Unknown → code ≡ code_of x → ⊥
-decoded_unknown d x code e k h = none-ne-some _ (sym (ap decoded_of k) ∙ e ∙ ap comparison_of h ∙ comparison_code x)
+pub decoded_unknown : (x : Comparison) (code : ℕ) → none ≡ comparison_of code → code ≡ code_of x → ⊥
+decoded_unknown x code e h = none-ne-some _ (e ∙ ap comparison_of h ∙ comparison_code x)
 
 -- ---- the tests of a transition
 

@@ -1,12 +1,11 @@
 -- How a state of the code shows a state of a run, and what the code answers to a step.
-use Rattle.std.specs.Prelude.{◌≡◌, ℕ, ◌+◌, ◌≤◌, ◌<◌, length, get_or}
+use Rattle.std.specs.Prelude.{◌≡◌, ℕ, ◌+◌, ◌≤◌, ◌<◌, length, get_or, Result, IsOkAnd}
 use Rattle.model.specs.Answer.{Answer, returned, refused}
 use Rattle.model.specs.Run.{Step, State as Run-as-State, largest_time}
+use Rattle.refusal.specs.declared.Reason.{Reason}
 use Rattle.refusal.specs.declared.Refusal.{Refusal}
+use Rattle.refusal.specs.Refused.{answer_as}
 use Rattle.steps.specs.declared.State.{State}
-use Rattle.steps.specs.declared.Verdict.{Verdict}
-use Rattle.steps.specs.declared.Verdict.TheVariants as verdict
-use Rattle.steps.specs.declared.Stepped.{Stepped}
 use Rattle.steps.specs.Counts.{CountsAgree}
 
 -- the same location, the same time, and the same counts of the 64 timers that a chart can have
@@ -24,19 +23,15 @@ pub record Small (x : State) : Type 0 where
 abbrev pub step_at : (transition time : ℕ) → Step
 step_at i t = record { transition = i; time = t }
 
--- step number n is refused, and the state is as it was
-abbrev pub refused_at : (number n : ℕ) → State → Stepped
-refused_at k n x = record { verdict = verdict.Refused (record { number = k; place = n }); state = x }
+-- step number n is refused
+abbrev pub refusal_at : Reason → (n : ℕ) → Refusal
+refusal_at why n = record { reason = why; place = n }
 
--- a refused step leaves the state as it was
-pub record Kept (r : Stepped) (x : State) : Type 0 where
-  pub state : (f : Refusal) → r.verdict ≡ verdict.Refused f → r.state ≡ x
+-- a result of the code is the answer of a definition: values of which P holds; or the same refusal
+abbrev pub Decided : {A S : Type 0} → (P : A → S → Type 0) → Result A Refusal → Answer S → Type 0
+Decided P r (returned s) = IsOkAnd r (λ x. P x s)
+Decided P r (refused k p) = answer_as r ≡ refused k p
 
--- a verdict of the code is the answer of a definition: taken, and the state after the step has P; or the same refusal
-abbrev pub Decided : {S : Type 0} → Verdict → (P : S → Type 0) → Answer S → Type 0
-Decided v P (returned s) = (v ≡ verdict.Taken) × P s
-Decided v P (refused k p) = v ≡ verdict.Refused (record { number = k; place = p })
-
--- the code's answer is that of the run: a state that the code's new state shows, or the same refusal
-abbrev pub Answered : Stepped → Answer Run-as-State → Type 0
-Answered r a = Decided r.verdict (Shows r.state) a
+-- the code's answer is that of the run: a state that the code's state shows, or the same refusal
+abbrev pub Answered : Result State Refusal → Answer Run-as-State → Type 0
+Answered r a = Decided Shows r a

@@ -10,10 +10,8 @@ pub fn grown(counts: [u32; 64], passed: u32) -> [u32; 64]
     ensures { MovedOn 0 passed counts result }
 {
     let mut next = counts;
-    let mut j: usize = 0;
-    while j < 64 {
-        next[j] = next[j] + passed;
-        j += 1;
+    for count in next.iter_mut() {
+        *count += passed;
     }
     next
 }
@@ -23,11 +21,9 @@ pub fn started(counts: [u32; 64], starts: u64) -> [u32; 64]
     ensures { MovedOn starts 0 counts result }
 {
     let mut next = counts;
-    let mut left = TimerSet { bits: starts };
-    while !left.is_empty() {
-        let j = left.lowest() as usize;
-        next[j] = 0;
-        left = left.without_lowest();
+    let set = TimerSet { bits: starts };
+    for j in set {
+        next[usize::from(j)] = 0;
     }
     next
 }
@@ -37,12 +33,7 @@ pub fn starting_counts(counts: &[u32]) -> [u32; 64]
     requires { length counts.now ≤ 64 }
     ensures { Starting counts.now result }
 {
-    let n = counts.len();
     let mut all = [0u32; 64];
-    let mut j: usize = 0;
-    while j < n {
-        all[j] = counts[j];
-        j += 1;
-    }
+    all[..counts.len()].copy_from_slice(counts);
     all
 }

@@ -6,10 +6,11 @@ ghost use Rattle.model.specs.Chart.{Transition, Chart, Nth};
 ghost use Rattle.model.specs.Run.{Counts, enabled as Run·enabled};
 ghost use Rattle.chart_lists.specs.Lists.{all_tests};
 ghost use Rattle.chart_lists.specs.Holds.{Holds};
-ghost use Rattle.steps.specs.StepLists.{FirstTests, test_lists, count_lists};
+ghost use Rattle.steps.specs.StepLists.{FirstTests, tests_in, count_lists};
 ghost use Rattle.steps.specs.Counts.{CountsAgree};
 
-use comparison::Decoded;
+use chart_lists::ChartLists;
+use comparison::Comparison;
 
 // Where the tests of each of the n transitions begin among all tests, and how many tests there are.
 pub fn find_firsts(test_counts: &[u8], n: usize, firsts: &mut [u16]) -> u16
@@ -21,11 +22,9 @@ pub fn find_firsts(test_counts: &[u8], n: usize, firsts: &mut [u16]) -> u16
         → result ≡ length (all_tests c.transitions) }
 {
     let mut sum: u16 = 0;
-    let mut i = 0;
-    while i < n {
+    for i in 0..n {
         firsts[i] = sum;
-        sum += test_counts[i] as u16;
-        i += 1;
+        sum += u16::from(test_counts[i]);
     }
     sum
 }
@@ -34,39 +33,28 @@ pub fn find_firsts(test_counts: &[u8], n: usize, firsts: &mut [u16]) -> u16
 fn test_met(code: u8, count: u32, constant: u32) -> bool
     ensures { (x : Comparison) → code ≡ code_of x → result ≡ met x count constant }
 {
-    let a = comparison::decode(code);
-    let Decoded::Known(x) = a else {
+    let Ok(x) = Comparison::try_from(code) else {
         return false;
     };
-    comparison::holds(x, count as u64, constant as u64)
+    comparison::holds(x, u64::from(count), u64::from(constant))
 }
 
 // Whether transition number i can be taken at these counts, grown by the time that passed: the condition of 24.
-pub fn enabled<'a>(
-    test_counts: &'a [u8],
-    firsts: &'a [u16],
-    timers: &'a [u8],
-    codes: &'a [u8],
-    constants: &'a [u32],
-    i: usize,
-    counts: &'a [u32],
-) -> bool
+pub fn enabled<'a>(lists: ChartLists<'a>, firsts: &'a [u16], i: usize, counts: &'a [u32]) -> bool
     requires i_in_bounds { (c : Chart) × (i < length c.transitions) × FirstTests c firsts.now
-        × Holds c (test_lists c test_counts.now timers.now codes.now constants.now) }
+        × Holds c (tests_in c lists) }
     requires counts_len { length counts.now ≡ 64 }
     ensures { (c : Chart) → FirstTests c firsts.now
-        → Holds c (test_lists c test_counts.now timers.now codes.now constants.now)
+        → Holds c (tests_in c lists.entry)
         → (tr : Transition) → Nth c i tr → (v : Counts) → CountsAgree counts.now v → result ≡ Run·enabled c tr v }
 {
     let first = firsts[i] as usize;
-    let end = first + test_counts[i] as usize;
-    let mut k = first;
-    while k < end {
-        let j = timers[k] as usize;
-        if !test_met(codes[k], counts[j], constants[k]) {
+    let end = first + lists.test_counts[i] as usize;
+    for k in first..end {
+        let j = lists.timers[k] as usize;
+        if !test_met(lists.codes[k], counts[j], lists.constants[k]) {
             return false;
         }
-        k += 1;
     }
     true
 }

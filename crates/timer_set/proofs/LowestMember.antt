@@ -1,6 +1,6 @@
 -- The lowest timer of a set, and the set without it. Hard: that w and w - 1 have all members of w in common but the lowest, by induction over its
 -- place: below it the borrow runs through digits 0.
-use mathlib.Core.Path.{◌≡◌, sym, ap, ◌∙◌}
+use mathlib.Core.Path.{◌≡◌, refl, sym, ap, ◌∙◌}
 use mathlib.Core.Bool.{Bool, true, false, ◌&&◌, not, and_self, and-true, and-false}
 use Prim.Native.Nat.{ℕ, zero, suc, ◌-◌, ◌/◌, ◌%◌, ◌^◌, ◌<◌}
 use native.Mathlib.Omega.{arith}
@@ -11,6 +11,7 @@ use borrow.Author.Tests.{eqb-true, eq-eqb}
 use Rattle.lists.proofs.Bools.{not_both, eqb_self}
 use Rattle.lists.proofs.Lowest.{lowest_most, lowest_passes, lowest_before}
 use Rattle.timer_set.specs.Members.{member, removed, lowest_member}
+use Rattle.timer_set.specs.Iteration.{Taken}
 use Rattle.timer_set.proofs.Digits.{member_zero, member_suc, member_and}
 use Rattle.timer_set.proofs.Members.{member_empty, member_removed, member_ext, some_member, none_empty, removed_lt}
 use Rattle.timer_set.proofs.Counts.{trailing_lowest}
@@ -55,6 +56,10 @@ module _ (w : ℕ) (h : w < 2 ^ 64) (some : w ≡ 0 → ⊥) where
   -- it is then a smaller number
   pub without_less : removed w (lowest_member w) < w
   without_less = omega (arith, sym machine_without_lowest, and_le_r w (w - 1))
+
+  -- so it is taken from the set
+  pub taken_lowest : Taken w (lowest_member w) (removed w (lowest_member w))
+  taken_lowest = record { lowest = refl; below = lowest_below; is_member = lowest_member_lem; left_is = refl; fewer = without_less }
 
 pub none_without : (i : ℕ) → 0 ≡ removed 0 i
 none_without i = sym (none_empty 64 (removed 0 i) (removed_lt 64 0 i (omega arith)) (λ j l. none j))

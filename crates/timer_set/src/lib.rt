@@ -3,9 +3,11 @@
 
 ghost use Rattle.std.specs.Prelude.{◌≡◌, ◌<◌, eqb};
 ghost use Rattle.std.specs.Int.Count.{ones};
+ghost use Rattle.std.specs.Iterator.{at_most};
+ghost use Rattle.timer_set.specs.Iteration.{SplitsLowest, TakesLowest, IsAllOf};
 ghost use Rattle.timer_set.specs.Members.{member, joined, common, minus, added, removed, all_below, lowest_missing, lowest_member};
 
-#[derive(Clone, Copy)]
+#[derive(Clone, Copy, Debug, PartialEq, Eq)]
 pub struct TimerSet {
     pub bits: u64,
 }
@@ -65,11 +67,7 @@ impl TimerSet {
     pub fn has(self, j: u8) -> bool
         ensures { result ≡ member self.bits j }
     {
-        if j < 64 {
-            self.bits >> j & 1 == 1
-        } else {
-            false
-        }
+        j < 64 && self.bits >> j & 1 == 1
     }
 
     pub fn is_empty(self) -> bool
@@ -81,7 +79,7 @@ impl TimerSet {
     pub fn count(self) -> u32
         ensures { result ≡ ones self.bits }
     {
-        u64::count_ones(self.bits)
+        self.bits.count_ones()
     }
 
     // Every timer of the set is below n.
@@ -89,7 +87,7 @@ impl TimerSet {
     pub fn all_below(self, n: u8) -> bool
         ensures { result ≡ all_below n self.bits }
     {
-        if n < 64 { self.bits >> n == 0 } else { true }
+        n >= 64 || self.bits >> n == 0
     }
 
     // The lowest timer that is not in the set, 64 where none is missing.
@@ -97,14 +95,15 @@ impl TimerSet {
     pub fn lowest_missing(self) -> u32
         ensures { result ≡ lowest_missing self.bits }
     {
-        u64::trailing_zeros(!self.bits)
+        (!self.bits).trailing_zeros()
     }
+
     // The lowest timer of the set, 64 where there is none.
     #[tactic(auto, using(crate::proofs::LowestMember::machine_lowest))]
     pub fn lowest(self) -> u32
         ensures { result ≡ lowest_member self.bits }
     {
-        u64::trailing_zeros(self.bits)
+        self.bits.trailing_zeros()
     }
 
     // The set without its lowest timer, if it has one.
@@ -118,5 +117,47 @@ impl TimerSet {
         TimerSet {
             bits: self.bits & self.bits - 1,
         }
+    }
+
+    // The lowest timer and the set without it, if the set has one.
+    pub fn split_lowest(self) -> Option<(u8, TimerSet)>
+        ensures { SplitsLowest self.bits result }
+    {
+        if self.is_empty() {
+            return None;
+        }
+        Some((self.lowest() as u8, self.without_lowest()))
+    }
+}
+
+// The timers of a set, rising, one after another.
+#[derive(Clone, Copy)]
+pub struct Timers {
+    left: TimerSet,
+}
+
+impl Iterator for Timers {
+    type Item = u8;
+
+    ghost next_gives = { TakesLowest };
+
+    ghost remaining = { λ s. at_most s.left.bits };
+
+    fn next(&mut self) -> Option<u8> {
+        let (lowest, others) = self.left.split_lowest()?;
+        self.left = others;
+        Some(lowest)
+    }
+}
+
+impl IntoIterator for TimerSet {
+    type Item = u8;
+
+    type IntoIter = Timers;
+
+    ghost into_iter_gives = { IsAllOf };
+
+    fn into_iter(self) -> Timers {
+        Timers { left: self }
     }
 }

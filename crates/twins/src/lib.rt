@@ -31,12 +31,9 @@ fn lowest_in_same(sets: &[u64], j: u8) -> u8
     requires { j < 64 }
     ensures { (n : ℕ) → j < n → result ≡ lowest_in_same sets.now n j }
 {
-    let n = sets.len();
     let mut alike = TimerSet::EVERY;
-    let mut i: usize = 0;
-    while i < n {
-        alike = narrow(alike, TimerSet { bits: sets[i] }, j);
-        i += 1;
+    for bits in sets {
+        alike = narrow(alike, TimerSet { bits: *bits }, j);
         if alike.lowest() == j as u32 {
             return j;
         }
@@ -51,88 +48,82 @@ pub fn lowest_twins(starts: &[u64], timers: u8, lowest: &mut [u8]) -> TimerSet
     ensures own { result.bits ≡ own_lowest starts.now timers }
 {
     let mut own = TimerSet::EMPTY;
-    let mut j: u8 = 0;
-    while j < timers {
-        let here = j;
-        let twin = lowest_in_same(starts, here);
-        lowest[here as usize] = twin;
-        j += 1;
-        if twin == here {
-            own = own.with(here);
+    for j in 0..timers {
+        let twin = lowest_in_same(starts, j);
+        lowest[j as usize] = twin;
+        if twin == j {
+            own = own.with(j);
         }
     }
     own
 }
 
-// The lowest twins of the timers of a set. Timers that are their own are taken over at once.
-fn merged_set(set: TimerSet, lowest: &[u8], own: TimerSet) -> TimerSet
-    requires { LowestListed set.bits lowest.now
-        × ((j : ℕ) → member set.bits j ≡ true → member own.bits j ≡ eqb (lowest_at lowest.now j) j) }
-    ensures { result.bits ≡ image (lowest_at lowest.now) set.bits }
-{
-    let mut merged = set.common(own);
-    let mut left = set.minus(own);
-    while !left.is_empty() {
-        let j = left.lowest() as usize;
-        merged = merged.with(lowest[j]);
-        left = left.without_lowest();
-    }
-    merged
+// The lowest twin of each timer, and which timers are their own.
+#[derive(Clone, Copy)]
+pub struct LowestTwins<'a> {
+    pub lowest: &'a [u8],
+    pub own: TimerSet,
 }
 
-// Each live set with twins counted as one: the lowest twin in place of each timer.
-pub fn merge_sets(live: &[u64], lowest: &[u8], own: TimerSet, merged: &mut [u64])
-    requires { LowestOf live.now lowest.now own.bits × (length merged.old ≡ length live.now) }
-    ensures { merged.new ≡ map (image (lowest_at lowest.now)) live.now }
-{
-    let n = live.len();
-    let mut q: usize = 0;
-    while q < n {
-        merged[q] = merged_set(TimerSet { bits: live[q] }, lowest, own).bits;
-        q += 1;
+impl LowestTwins<'_> {
+    // The lowest twins of the timers of a set. Timers that are their own are taken over at once.
+    fn merged_set(&self, set: TimerSet) -> TimerSet
+        requires { LowestListed set.bits self.now.lowest.now
+            × ((j : ℕ) → member set.bits j ≡ true → member self.now.own.bits j ≡ eqb (lowest_at self.now.lowest.now j) j) }
+        ensures { result.bits ≡ image (lowest_at self.now.lowest.now) set.bits }
+    {
+        let mut merged = set.common(self.own);
+        for j in set.minus(self.own) {
+            merged = merged.with(self.lowest[j as usize]);
+        }
+        merged
     }
-}
 
-// The cell of (q, j): that of its lowest twin if j is in the set, else that of no number.
-fn shared_cell(set: TimerSet, lowest: &[u8], cells: &[u16], q: usize, j: u8) -> u16
-    requires { LowestListed set.bits lowest.now × (64 * q + 64 ≤ length cells.now) × (j < 64) }
-    ensures { result ≡ shared_cell set.bits lowest.now cells.now q j }
-{
-    if set.has(j) {
-        cells[64 * q + lowest[j as usize] as usize]
-    } else {
-        NO_NUMBER
+    // Each live set with twins counted as one: the lowest twin in place of each timer.
+    pub fn merge_sets(&self, live: &[u64], merged: &mut [u64])
+        requires { LowestOf live.now self.now.lowest.now self.now.own.bits × (length merged.old ≡ length live.now) }
+        ensures { merged.new ≡ map (image (lowest_at self.now.lowest.now)) live.now }
+    {
+        for (q, bits) in live.iter().enumerate() {
+            merged[q] = self.merged_set(TimerSet { bits: *bits }).bits;
+        }
     }
-}
 
-// The row of cells of location q. Downwards, since a lowest twin is no higher: its own cell is read before it is written.
-fn share_row(set: TimerSet, lowest: &[u8], q: usize, cells: &mut [u16])
-    requires { LowestListed set.bits lowest.now × (64 * q + 64 ≤ length cells.old) }
-    ensures { RowShared set.bits lowest.now q cells.old 0 cells.new }
-{
-    let mut j: u8 = 64;
-    while j > 0 {
-        j -= 1;
-        cells[64 * q + j as usize] = shared_cell(set, lowest, cells, q, j);
+    // The cell of (q, j): that of its lowest twin if j is in the set, else that of no number.
+    fn shared_cell(&self, set: TimerSet, cells: &[u16], q: usize, j: u8) -> u16
+        requires { LowestListed set.bits self.now.lowest.now × (64 * q + 64 ≤ length cells.now) × (j < 64) }
+        ensures { result ≡ shared_cell set.bits self.now.lowest.now cells.now q j }
+    {
+        if set.has(j) {
+            cells[64 * q + self.lowest[j as usize] as usize]
+        } else {
+            NO_NUMBER
+        }
     }
-}
 
-// The cells of a numbering of lowest twins become those of all live timers: each has the number of its lowest twin. Where every live timer is its own
-// the row stays.
-pub fn share_numbers(live: &[u64], lowest: &[u8], own: TimerSet, cells: &mut [u16])
-    requires { LowestOf live.now lowest.now own.bits × (length cells.old ≡ 64 * length live.now) }
-    ensures { (N : Numbering) → cells.old ≡ cells_of N (length live.now)
-        → OnlyIn (map (image (lowest_at lowest.now)) live.now) N
-        → cells.new ≡ cells_of (through live.now (lowest_at lowest.now) N) (length live.now) }
-{
-    let n = live.len();
-    let mut q: usize = 0;
-    while q < n {
-        let here = q;
-        let set = TimerSet { bits: live[q] };
-        q += 1;
-        if !set.minus(own).is_empty() {
-            share_row(set, lowest, here, cells);
+    // The row of cells of location q. Downwards, since a lowest twin is no higher: its own cell is read before it is written.
+    fn share_row(&self, set: TimerSet, q: usize, cells: &mut [u16])
+        requires { LowestListed set.bits self.now.lowest.now × (64 * q + 64 ≤ length cells.old) }
+        ensures { RowShared set.bits self.now.lowest.now q cells.old 0 cells.new }
+    {
+        for j in (0..64).rev() {
+            cells[64 * q + j as usize] = self.shared_cell(set, cells, q, j);
+        }
+    }
+
+    // The cells of a numbering of lowest twins become those of all live timers: each has the number of its lowest twin. Where every live timer is its
+    // own the row stays.
+    pub fn share_numbers(&self, live: &[u64], cells: &mut [u16])
+        requires { LowestOf live.now self.now.lowest.now self.now.own.bits × (length cells.old ≡ 64 * length live.now) }
+        ensures { (N : Numbering) → cells.old ≡ cells_of N (length live.now)
+            → OnlyIn (map (image (lowest_at self.now.lowest.now)) live.now) N
+            → cells.new ≡ cells_of (through live.now (lowest_at self.now.lowest.now) N) (length live.now) }
+    {
+        for (q, bits) in live.iter().enumerate() {
+            let set = TimerSet { bits: *bits };
+            if !set.minus(self.own).is_empty() {
+                self.share_row(set, q, cells);
+            }
         }
     }
 }

@@ -3,61 +3,44 @@ use crate::input::*;
 use crate::lent::*;
 use crate::show::*;
 use chart_lists::*;
+use refusal::Refusal;
 
-// The nine lists, each as long as the largest chart's.
-#[derive(Clone, Copy)]
-struct Lists {
-    accepting: [u16; MOST_LOCATIONS],
-    sources: [u16; MOST_TRANSITIONS],
-    targets: [u16; MOST_TRANSITIONS],
-    events: [u8; MOST_TRANSITIONS],
-    starts: [u64; MOST_TRANSITIONS],
-    test_counts: [u8; MOST_TRANSITIONS],
-    timers: [u8; MOST_TESTS],
-    codes: [u8; MOST_TESTS],
-    constants: [u32; MOST_TESTS],
-}
+// Room for the lists of any chart, filled.
+const ROOM: ChartStore = ChartStore {
+    accepting: [u16::FILLED; MOST_LOCATIONS],
+    sources: [u16::FILLED; MOST_TRANSITIONS],
+    targets: [u16::FILLED; MOST_TRANSITIONS],
+    events: [u8::FILLED; MOST_TRANSITIONS],
+    starts: [u64::FILLED; MOST_TRANSITIONS],
+    test_counts: [u8::FILLED; MOST_TRANSITIONS],
+    timers: [u8::FILLED; MOST_TESTS],
+    codes: [u8::FILLED; MOST_TESTS],
+    constants: [u32::FILLED; MOST_TESTS],
+};
 
 // Reads a file into lists of the given lengths.
 pub fn read(file: &[u8], lengths: &[u8]) {
-    let mut accepting = [FILLED16; MOST_LOCATIONS];
-    let a = lent16(&mut accepting, lengths, 0);
-    let mut sources = [FILLED16; MOST_TRANSITIONS];
-    let b = lent16(&mut sources, lengths, 1);
-    let mut targets = [FILLED16; MOST_TRANSITIONS];
-    let c = lent16(&mut targets, lengths, 2);
-    let mut events = [FILLED8; MOST_TRANSITIONS];
-    let d = lent8(&mut events, lengths, 3);
-    let mut starts = [FILLED64; MOST_TRANSITIONS];
-    let e = lent64(&mut starts, lengths, 4);
-    let mut test_counts = [FILLED8; MOST_TRANSITIONS];
-    let f = lent8(&mut test_counts, lengths, 5);
-    let mut timers = [FILLED8; MOST_TESTS];
-    let g = lent8(&mut timers, lengths, 6);
-    let mut codes = [FILLED8; MOST_TESTS];
-    let h = lent8(&mut codes, lengths, 7);
-    let mut constants = [FILLED32; MOST_TESTS];
-    let i = lent32(&mut constants, lengths, 8);
-    let answer = reader::read_chart(file, a, b, c, d, e, f, g, h, i);
-    let lists = Lists {
-        accepting,
-        sources,
-        targets,
-        events,
-        starts,
-        test_counts,
-        timers,
-        codes,
-        constants,
-    };
+    let mut lists = ROOM;
+    let answer = reader::read_chart(
+        file,
+        lent(&mut lists.accepting, lengths, 0),
+        lent(&mut lists.sources, lengths, 1),
+        lent(&mut lists.targets, lengths, 2),
+        lent(&mut lists.events, lengths, 3),
+        lent(&mut lists.starts, lengths, 4),
+        lent(&mut lists.test_counts, lengths, 5),
+        lent(&mut lists.timers, lengths, 6),
+        lent(&mut lists.codes, lengths, 7),
+        lent(&mut lists.constants, lengths, 8),
+    );
     show_read(answer, lists);
 }
 
 // Shows a refusal, or a chart and the file that is written of it.
-fn show_read(answer: Read, lists: Lists) {
+fn show_read(answer: Result<Header, Refusal>, lists: ChartStore) {
     match answer {
-        Read::Refused(r) => refusal(r, changed(lists, 0, 0, 0)),
-        Read::Chart(header) => {
+        Err(r) => refusal(r, all_changed(lists, 0, 0, 0)),
+        Ok(header) => {
             show_chart(header, lists);
             write_again(header, lists);
         }
@@ -66,60 +49,41 @@ fn show_read(answer: Read, lists: Lists) {
 
 // Shows how many entries of given lists are not as if they were lent and left alone, from the given positions on.
 pub fn count_changed(vector: &[u8], positions: &[u8]) {
-    let mut accepting = [FILLED16; MOST_LOCATIONS];
-    list16(field(vector, 2), 0, &mut accepting);
-    let mut sources = [FILLED16; MOST_TRANSITIONS];
-    list16(field(vector, 3), 0, &mut sources);
-    let mut targets = [FILLED16; MOST_TRANSITIONS];
-    list16(field(vector, 4), 0, &mut targets);
-    let mut events = [FILLED8; MOST_TRANSITIONS];
-    list8(field(vector, 5), &mut events);
-    let mut starts = [FILLED64; MOST_TRANSITIONS];
-    list64(field(vector, 6), 0, &mut starts);
-    let mut test_counts = [FILLED8; MOST_TRANSITIONS];
-    list8(field(vector, 7), &mut test_counts);
-    let mut timers = [FILLED8; MOST_TESTS];
-    list8(field(vector, 8), &mut timers);
-    let mut codes = [FILLED8; MOST_TESTS];
-    list8(field(vector, 9), &mut codes);
-    let mut constants = [FILLED32; MOST_TESTS];
-    list32(field(vector, 10), 0, &mut constants);
-    let lists = Lists {
-        accepting,
-        sources,
-        targets,
-        events,
-        starts,
-        test_counts,
-        timers,
-        codes,
-        constants,
-    };
+    let mut lists = ROOM;
+    put_numbers(field(vector, 2), 0, &mut lists.accepting);
+    put_numbers(field(vector, 3), 0, &mut lists.sources);
+    put_numbers(field(vector, 4), 0, &mut lists.targets);
+    put_bytes(field(vector, 5), &mut lists.events);
+    put_numbers(field(vector, 6), 0, &mut lists.starts);
+    put_bytes(field(vector, 7), &mut lists.test_counts);
+    put_bytes(field(vector, 8), &mut lists.timers);
+    put_bytes(field(vector, 9), &mut lists.codes);
+    put_numbers(field(vector, 10), 0, &mut lists.constants);
     show_changed(lists, positions);
 }
 
-fn show_changed(lists: Lists, positions: &[u8]) {
+fn show_changed(lists: ChartStore, positions: &[u8]) {
     let a = count(positions, 0, MOST_LOCATIONS);
     let n = count(positions, 1, MOST_TRANSITIONS);
     let g = count(positions, 2, MOST_TESTS);
-    changes(changed(lists, a, n, g));
+    changes(all_changed(lists, a, n, g));
 }
 
 // How many entries are not as they were: from the a-th on in the list of accepting locations, from the n-th on in those of the transitions, and from
 // the g-th on in those of the tests.
-fn changed(lists: Lists, a: usize, n: usize, g: usize) -> usize {
-    let mut sum = changed16(0, &lists.accepting, a);
-    sum = changed16(sum, &lists.sources, n);
-    sum = changed16(sum, &lists.targets, n);
-    sum = changed8(sum, &lists.events, n);
-    sum = changed64(sum, &lists.starts, n);
-    sum = changed8(sum, &lists.test_counts, n);
-    sum = changed8(sum, &lists.timers, g);
-    sum = changed8(sum, &lists.codes, g);
-    changed32(sum, &lists.constants, g)
+fn all_changed(lists: ChartStore, a: usize, n: usize, g: usize) -> usize {
+    changed(&lists.accepting, a)
+        .wrapping_add(changed(&lists.sources, n))
+        .wrapping_add(changed(&lists.targets, n))
+        .wrapping_add(changed(&lists.events, n))
+        .wrapping_add(changed(&lists.starts, n))
+        .wrapping_add(changed(&lists.test_counts, n))
+        .wrapping_add(changed(&lists.timers, g))
+        .wrapping_add(changed(&lists.codes, g))
+        .wrapping_add(changed(&lists.constants, g))
 }
 
-fn show_chart(header: Header, lists: Lists) {
+fn show_chart(header: Header, lists: ChartStore) {
     let a = header.accepting as usize;
     let n = header.transitions as usize;
     item(b"version ", header.version as u64);
@@ -130,27 +94,27 @@ fn show_chart(header: Header, lists: Lists) {
     entries(&lists.accepting, a);
     item(b" transitions ", n as u64);
     let g = total(&lists.test_counts, n);
-    item(b" beyond ", changed(lists, a, n, g) as u64);
+    item(b" beyond ", all_changed(lists, a, n, g) as u64);
     end();
     transitions(lists, n);
 }
 
 fn entries(list: &[u16], n: usize) {
     for i in 0..n {
-        entry(entry16(list, i), is_shown(i, n, 4));
+        entry(at(list, i), is_shown(i, n, 4));
     }
 }
 
 // The number of tests of the first n transitions.
 fn total(test_counts: &[u8], n: usize) -> usize {
-    let mut sum = 0;
+    let mut sum: usize = 0;
     for i in 0..n {
-        sum = plus(sum, byte(test_counts, i) as usize);
+        sum = sum.wrapping_add(at(test_counts, i) as usize);
     }
     sum
 }
 
-fn transitions(lists: Lists, n: usize) {
+fn transitions(lists: ChartStore, n: usize) {
     for i in 0..n {
         if is_shown(i, n, 4) {
             transition(lists, i);
@@ -159,89 +123,80 @@ fn transitions(lists: Lists, n: usize) {
 }
 
 // The line of a transition. Its tests begin where those of the one before it end.
-fn transition(lists: Lists, i: usize) {
-    item(b"", entry16(&lists.sources, i));
-    item(b">", entry16(&lists.targets, i));
-    item(b" event ", byte(&lists.events, i));
-    item(b" starts ", entry64(&lists.starts, i));
-    item(b" tests ", byte(&lists.test_counts, i));
+fn transition(lists: ChartStore, i: usize) {
+    item(b"", at(&lists.sources, i));
+    item(b">", at(&lists.targets, i));
+    item(b" event ", at(&lists.events, i));
+    item(b" starts ", at(&lists.starts, i));
+    item(b" tests ", at(&lists.test_counts, i));
     tests(
         lists,
         total(&lists.test_counts, i),
-        total(&lists.test_counts, plus(i, 1)),
+        total(&lists.test_counts, i.wrapping_add(1)),
     );
     end();
 }
 
-fn tests(lists: Lists, from: usize, to: usize) {
+fn tests(lists: ChartStore, from: usize, to: usize) {
     for i in from..to {
         test(lists, i);
     }
 }
 
-fn test(lists: Lists, i: usize) {
-    item(b" ", byte(&lists.timers, i));
-    item(b":", byte(&lists.codes, i));
-    item(b":", entry32(&lists.constants, i));
+fn test(lists: ChartStore, i: usize) {
+    item(b" ", at(&lists.timers, i));
+    item(b":", at(&lists.codes, i));
+    item(b":", at(&lists.constants, i));
 }
 
-fn write_again(header: Header, lists: Lists) {
-    let mut out = [FILLED8; BUFFER];
-    let answer = writer::write(
-        header,
-        &lists.accepting,
-        &lists.sources,
-        &lists.targets,
-        &lists.events,
-        &lists.starts,
-        &lists.test_counts,
-        &lists.timers,
-        &lists.codes,
-        &lists.constants,
-        &mut out,
-    );
+fn write_again(header: Header, lists: ChartStore) {
+    let mut out = [u8::FILLED; BUFFER];
+    let answer = writer::write(header, lists.lists(), &mut out);
     show_written(answer, &out);
 }
 
 // Writes the nine lists of a vector.
 pub fn write(vector: &[u8], values: &[u8]) {
-    let mut out = [FILLED8; BUFFER];
-    write_lent(vector, header(values), lent8(&mut out, values, 6));
+    let mut out = [u8::FILLED; BUFFER];
+    write_lent(vector, header(values), lent(&mut out, values, 6));
 }
 
+// stays: a vector may have longer lists than a chart, and ChartStore has no room for those.
 fn write_lent(vector: &[u8], header: Header, out: &mut [u8]) {
     let mut accepting = [0u16; MOST_TRANSITIONS];
-    let a = list16(field(vector, 2), 0, &mut accepting);
     let mut sources = [0u16; MOST_TRANSITIONS];
-    let b = list16(field(vector, 3), 0, &mut sources);
     let mut targets = [0u16; MOST_TRANSITIONS];
-    let c = list16(field(vector, 4), 0, &mut targets);
-    let d = field(vector, 5);
     let mut starts = [0u64; MOST_TRANSITIONS];
-    let e = list64(field(vector, 6), 0, &mut starts);
-    let f = field(vector, 7);
-    let g = field(vector, 8);
-    let h = field(vector, 9);
     let mut constants = [0u32; MOST_TRANSITIONS];
-    let i = list32(field(vector, 10), 0, &mut constants);
-    let answer = writer::write(header, a, b, c, d, e, f, g, h, i, out);
+    let lists = ChartLists {
+        accepting: put_numbers(field(vector, 2), 0, &mut accepting),
+        sources: put_numbers(field(vector, 3), 0, &mut sources),
+        targets: put_numbers(field(vector, 4), 0, &mut targets),
+        events: field(vector, 5),
+        starts: put_numbers(field(vector, 6), 0, &mut starts),
+        test_counts: field(vector, 7),
+        timers: field(vector, 8),
+        codes: field(vector, 9),
+        constants: put_numbers(field(vector, 10), 0, &mut constants),
+    };
+    let answer = writer::write(header, lists, out);
     show_written(answer, out);
 }
 
 fn header(values: &[u8]) -> Header {
     Header {
-        version: low8(number(values, 0)),
-        locations: low16(number(values, 1)),
-        initial: low16(number(values, 2)),
-        timers: low8(number(values, 3)),
-        accepting: low16(number(values, 4)),
-        transitions: low16(number(values, 5)),
+        version: u8::low(number(values, 0)),
+        locations: u16::low(number(values, 1)),
+        initial: u16::low(number(values, 2)),
+        timers: u8::low(number(values, 3)),
+        accepting: u16::low(number(values, 4)),
+        transitions: u16::low(number(values, 5)),
     }
 }
 
-fn show_written(answer: writer::Written, out: &[u8]) {
+fn show_written(answer: Result<usize, Refusal>, out: &[u8]) {
     match answer {
-        writer::Written::Refused(r) => refusal(r, changed8(0, out, 0)),
-        writer::Written::File(n) => file(b"written ", out, n),
+        Err(r) => refusal(r, changed(out, 0)),
+        Ok(n) => file(b"written ", out, n),
     }
 }

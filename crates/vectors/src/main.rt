@@ -38,14 +38,14 @@ fn run(input: &[u8]) {
 fn run_vector(vector: &[u8]) {
     let values = field(vector, 1);
     let file = field(vector, 2);
-    match low8(byte(field(vector, 0), 0)) {
+    match u8::low(at(field(vector, 0), 0)) {
         b'r' => charts::read(file, values),
         b'w' => charts::write(vector, values),
         b'c' => charts::count_changed(vector, values),
         b'a' => calls::analyse(file, values),
         b'k' => calls::rewrite(file, values),
-        b'p' => calls::play(file, values, vector, false),
-        b'b' => calls::play(file, values, vector, true),
+        b'p' => calls::play(file, values, vector),
+        b'b' => calls::play_counter(file, values, vector),
         b'h' => controllers::drive(file, values, vector),
         _ => show::text(b"no such vector\n"),
     }

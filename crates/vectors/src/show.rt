@@ -1,5 +1,5 @@
 // Parts of the lines that are printed. Of long lists the first entries and the last are shown, of long files the last 8 bytes.
-use crate::input::*;
+use crate::input::at;
 use refusal::Refusal;
 
 pub fn text(s: &[u8]) {
@@ -17,7 +17,7 @@ pub fn item(label: &[u8], n: u64) {
 
 // The line of a refusal, with how many entries of the lent memory changed.
 pub fn refusal(r: Refusal, changed: usize) {
-    item(b"refused ", r.number as u64);
+    item(b"refused ", u64::from(r.reason.number()));
     item(b" ", r.place);
     text(b" ");
     changes(changed);
@@ -31,7 +31,7 @@ pub fn changes(n: usize) {
 
 // Whether the i-th of n entries is shown: one of so many first ones, or the last.
 pub fn is_shown(i: usize, n: usize, first: usize) -> bool {
-    if i < first { true } else { n <= plus(i, 1) }
+    i < first || n <= i.wrapping_add(1)
 }
 
 // An entry, if it is shown.
@@ -48,7 +48,7 @@ pub fn file(label: &[u8], out: &[u8], n: usize) {
     bytes(out, if n <= 64 { 0 } else { n - 8 }, n);
     text(b" next ");
     if n < out.len() {
-        bytes(out, n, plus(n, 1));
+        bytes(out, n, n.wrapping_add(1));
     } else {
         text(b"--");
     }
@@ -57,6 +57,6 @@ pub fn file(label: &[u8], out: &[u8], n: usize) {
 
 fn bytes(out: &[u8], from: usize, to: usize) {
     for i in from..to {
-        io::print_hex(1, byte(out, i), 2);
+        io::print_hex(1, at(out, i), 2);
     }
 }

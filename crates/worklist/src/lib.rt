@@ -21,9 +21,7 @@ pub fn list_edges(from: &[u16], first: &mut [u16], next: &mut [u16])
     ensures firsts { Firsts from.now first.new }
     ensures nexts { Nexts from.now next.new }
 {
-    let mut i = from.len();
-    while i > 0 {
-        i -= 1;
+    for i in (0..from.len()).rev() {
         let q = from[i] as usize;
         next[i] = first[q];
         first[q] = i as u16;

@@ -14,7 +14,7 @@ use Rattle.lists.proofs.Growing.{gather_length}
 use Rattle.lists.proofs.Nth.{get_d_nth}
 use Rattle.model.specs.Answer.{Answer, returned}
 use Rattle.model.specs.Chart.{Test, Transition, Chart}
-use Rattle.model.specs.Version.{width_of, widest, large_constant, large_in_version1}
+use Rattle.model.specs.Version.{width_of, large_constant, large_in_version1}
 use Rattle.model.proofs.Versions.{tests_most, by_version, small_constants}
 use Rattle.model.proofs.Answers.{result_same}
 use Rattle.file_format.specs.Parse.{digits, write_all}
@@ -24,15 +24,14 @@ use Rattle.file_format.specs.Lengths.{transition_length, body_length, file_lengt
 use Rattle.file_format.proofs.Lengths.{length_digits, length_transition, length_all, length_file}
 use Rattle.chart_lists.specs.Lists.{Lists}
 use Rattle.chart_lists.specs.declared.Header.{Header}
-use Rattle.list_judging.specs.FromLists.{transition_from, transitions_from}
+use Rattle.list_judging.specs.FromLists.{transitions_from}
 use Rattle.list_judging.specs.Parts.{total_sizes, check_transitions}
-use Rattle.list_judging.specs.Lent.{transition_lists}
-use Rattle.list_judging.proofs.Items.{each_all, each_nth, each_room}
-use Rattle.list_judging.proofs.Parts.{accepting_item, next_lowest, test_item, no_state, tests_each, next_tests, transitions_only}
+use Rattle.list_judging.proofs.Items.{each_nth, each_room}
+use Rattle.list_judging.proofs.Parts.{accepting_item, next_lowest}
 use Rattle.list_judging.proofs.WholeChart.{lengths_sum}
-use Rattle.list_judging.proofs.TransitionOf.{accepting_of, test_of, transition_of}
+use Rattle.list_judging.proofs.TransitionOf.{accepting_of}
 use Rattle.list_judging.proofs.Turns.{transitions_most}
-use Rattle.list_judging.proofs.ChartOf.{ChartOf, chart_of_lem, from_fields, each_accepted, accepted_length, each_transition, transition_count}
+use Rattle.list_judging.proofs.ChartOf.{ChartOf, chart_of_lem, from_fields, each_accepted, accepted_length, transition_count}
 use Rattle.writer.specs.Bytes.{number_bytes, front_bytes, Room, records, Fit, Writable}
 use Rattle.writer.proofs.FieldBytes.{gather_all}
 
@@ -83,10 +82,10 @@ module _ (m : Header) (l : Lists) (c : Chart) (h : ChartOf m l c) where
   -- ---- transitions
 
   abbrev listed : Answer (List Transition)
-  listed = transitions_from (transition_lists l) m.locations m.timers 0 0 m.transitions
+  listed = transitions_from l m.locations m.timers 0 0 m.transitions
 
   transitions_are : listed ≡ returned c.transitions
-  transitions_are = sym (transitions_only l m.locations m.timers m.transitions) ∙ h.transitions
+  transitions_are = h.transitions
 
   -- the version of the chart and its width
   abbrev W : ℕ
@@ -112,30 +111,19 @@ module _ (m : Header) (l : Lists) (c : Chart) (h : ChartOf m l c) where
       let tests = (tests_most m.version (total_sizes c.transitions).tests 4096 refl (omega (arith, most.1, h.few_transitions))).0 in
       omega (arith, records_length, lengths_sum W c.transitions, h.few_transitions, transition_count m l c h, most.0, tests)
 
-  -- the constants fit the width: those of version 1 are not large, and those of another have at most four bytes
-  module _ (small : large_in_version1 c ≡ false) (wide : (k : ℕ) → get_or l.constants k 0 < 256 ^ widest) where
-    abbrev Fitting : (w : ℕ) → Type 0
-    Fitting w = All (λ (r : Transition). All (λ (t : Test). t.constant < 256 ^ w) r.tests) c.transitions
+  -- the constants fit two bytes where the version gives them two
+  module _ (small : large_in_version1 c ≡ false) where
+    abbrev Fitting : List Transition → Type 0
+    Fitting rs = All (λ (r : Transition). All (λ (t : Test). t.constant < 256 ^ 2) r.tests) rs
 
-    tests_wide : (i k : ℕ) (r : Transition) → transition_from l m.locations m.timers i k ≡ returned r
-        → All (λ (t : Test). t.constant < 256 ^ widest) r.tests
-    tests_wide i k r e =
-        let x = transition_of l m.locations m.timers i k r e in
-        each_all (test_item l m.timers i) no_state _ (λ k s t q.
-        rw (← get_d_nth l.constants k 0 (test_of l m.timers i k t q).constant) (wide k)) k 0 r.tests
-        (tests_each l m.timers i k (length r.tests) r.tests x.tests)
-
-    all_wide : Fitting widest
-    all_wide = each_all (transition_from l m.locations m.timers) next_tests _ tests_wide 0 0 c.transitions (each_transition m l c h)
-
-    fits_version : Fitting W
+    narrow : W ≡ 2 → Fitting c.transitions
     unfolding large_in_version1
-    fits_version = by_version Fitting m.version
-        (λ e. small_constants c (subst (λ v. (eqb v 1 && large_constant c) ≡ false) (h.version ∙ e) small)) (λ e. all_wide)
+    narrow = by_version (λ w. w ≡ 2 → Fitting c.transitions) m.version
+        (λ e two. small_constants c (subst (λ v. (eqb v 1 && large_constant c) ≡ false) (h.version ∙ e) small))
+        (λ e two. absurd (omega (arith, two)))
 
-    records_fit : Fit W listed
-    records_fit rs e = subst (λ (x : List Transition). All (λ (r : Transition). All (λ (t : Test). t.constant < 256 ^ W) r.tests) x)
-        (result_same (sym transitions_are ∙ e)) fits_version
+    records_fit : W ≡ 2 → Fit 2 listed
+    records_fit two rs e = subst Fitting (result_same (sym transitions_are ∙ e)) (narrow two)
 
   -- ---- the parts of the file
 
@@ -160,7 +148,7 @@ pub record FileRoom (m : Header) (l : Lists) (n room : ℕ) : Type 0 where
   pub fits : n ≤ room
   pub accepting : m.accepting ≤ length l.accepting
   pub records_fit : (room' : ℕ) → rest ≤ room'
-      → Room (records (width_of m.version)) (transitions_from (transition_lists l) m.locations m.timers 0 0 m.transitions) room'
+      → Room (records (width_of m.version)) (transitions_from l m.locations m.timers 0 0 m.transitions) room'
 
 module _ (m : Header) (l : Lists) (n room : ℕ) (j : Writable m l n room) where
   writable_chart : ChartOf m l j.chart
@@ -176,11 +164,10 @@ module _ (m : Header) (l : Lists) (n room : ℕ) (j : Writable m l n room) where
     records_fit = records_room m l j.chart writable_chart;
   }
 
-  pub writable_fit : ((k : ℕ) → get_or l.constants k 0 < 256 ^ widest)
-      → Fit (width_of m.version) (transitions_from (transition_lists l) m.locations m.timers 0 0 m.transitions)
-  writable_fit wide = records_fit m l j.chart writable_chart (from_fields m l j.chart j.is).1 wide
+  pub writable_fit : width_of m.version ≡ 2 → Fit 2 (transitions_from l m.locations m.timers 0 0 m.transitions)
+  writable_fit = records_fit m l j.chart writable_chart (from_fields m l j.chart j.is).1
 
-  pub writable_transitions : transitions_from (transition_lists l) m.locations m.timers 0 0 m.transitions ≡ returned j.chart.transitions
+  pub writable_transitions : transitions_from l m.locations m.timers 0 0 m.transitions ≡ returned j.chart.transitions
   writable_transitions = transitions_are m l j.chart writable_chart
 
   pub writable_parts : ((front_bytes (n - 5) m ++ number_bytes 2 l.accepting m.accepting) ++ digits 2 m.transitions)

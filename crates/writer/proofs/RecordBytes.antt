@@ -23,7 +23,6 @@ use Rattle.chart_lists.specs.Lists.{Lists, put, overwritten}
 use Rattle.chart_lists.proofs.PutLoop.{PutLoop, put_loop_first, put_loop_done, put_loop_room, put_loop_again}
 use Rattle.chart_lists.proofs.Overwritten.{overwritten_result}
 use Rattle.list_judging.specs.FromLists.{tests_from, transition_from, transitions_from}
-use Rattle.list_judging.specs.Lent.{test_lists}
 use Rattle.list_judging.proofs.Items.{each_nth, each_room}
 use Rattle.list_judging.proofs.Parts.{test_item, no_state, tests_length, tests_each, TransitionsEach, transitions_length, transitions_each}
 use Rattle.list_judging.proofs.FromValid.{all_nth}
@@ -51,8 +50,8 @@ module _ (W : ℕ) (l : Lists) (timers i : ℕ) where
 -- the bytes that the code writes for transition i
 abbrev pub record_at : (W : ℕ) → Lists → (i k : ℕ) → List ℕ
 record_at W l i k =
-    record_bytes W (get_or l.sources i 0) (get_or l.targets i 0) (get_or l.events i 0) (get_or l.starts i 0)
-    (test_lists l.timers l.codes l.constants) k (get_or l.test_counts i 0)
+    record_bytes W (get_or l.sources i 0) (get_or l.targets i 0) (get_or l.events i 0) (get_or l.starts i 0) l k
+    (get_or l.test_counts i 0)
 
 module _ (W : ℕ) (l : Lists) (locations timers i k : ℕ) (r : Transition) (h : TransitionOf l locations timers i k r) where
   record_bytes_lem : record_at W l i k ≡ write_transition W r
@@ -74,12 +73,12 @@ module _ (W : ℕ) (l : Lists) (locations timers i k : ℕ) (r : Transition) (h 
       rw (get_d_nth l.starts i 0 h.starts, get_d_nth l.test_counts i 0 h.count, ← h.starts_are) (omega (arith, length_transition W r))
 
   -- its constants fit
-  constants_fit : All (λ (t : Test). t.constant < 256 ^ W) r.tests → FitFrom W l.constants k (get_or l.test_counts i 0)
+  constants_fit : All (λ (t : Test). t.constant < 256 ^ 2) r.tests → FitFrom 2 l.constants k (get_or l.test_counts i 0)
   constants_fit fit j b =
       let x = nth_below r.tests j (omega (arith, b, get_d_nth l.test_counts i 0 h.count)) in
       let each = tests_each l timers i k (length r.tests) r.tests h.tests in
       let is = each_nth (test_item l timers i) no_state (TestOf l timers) (λ k s t. test_of l timers i k t) k 0 r.tests each j x.0 x.1 in
-      rw (get_d_nth l.constants (k + j) 0 is.constant) (all_nth (λ (t : Test). t.constant < 256 ^ W) r.tests j fit x.1)
+      rw (get_d_nth l.constants (k + j) 0 is.constant) (all_nth (λ (t : Test). t.constant < 256 ^ 2) r.tests j fit x.1)
 
   -- there is an entry for each of its tests
   test_room : (f : Test → ℕ) (w : List ℕ) → ((k : ℕ) (t : Test) → TestOf l timers k t → get_elem? w k ≡ some (f t))
@@ -118,7 +117,7 @@ module _ (W : ℕ) (l : Lists) (locations timers n : ℕ) where
     pub left : TransitionsEach l locations timers i k (drop i (list_of listed))
     pub few : k ≤ 8 * i
 
-  module _ (first : List ℕ) (room : Room (records W) listed (length first)) (fit : Fit W listed) where
+  module _ (first : List ℕ) (room : Room (records W) listed (length first)) (fit : W ≡ 2 → Fit 2 listed) where
     listed_is : list_of listed ≡ room.item
     listed_is = ap list_of room.is
 
@@ -170,17 +169,17 @@ module _ (W : ℕ) (l : Lists) (locations timers n : ℕ) where
           pub timers_room : get_or l.test_counts i 0 ≤ length l.timers - k
           pub codes_room : get_or l.test_counts i 0 ≤ length l.codes - k
           pub constants_room : get_or l.test_counts i 0 ≤ length l.constants - k
-          pub constants_small : FitFrom W l.constants k (get_or l.test_counts i 0)
+          pub constants_small : W ≡ 2 → FitFrom 2 l.constants k (get_or l.test_counts i 0)
           pub fits : at + (9 + length (members (get_or l.starts i 0)) + (2 + W) * get_or l.test_counts i 0) ≤ length out
 
         next_bytes : record_of W (list_of listed) i ≡ write_transition W next
         unfolding record_of
         next_bytes = ap (written W) next_there.1
 
-        next_fits : All (λ (t : Test). t.constant < 256 ^ W) next.tests
-        next_fits =
-            all_nth (λ (r : Transition). All (λ (t : Test). t.constant < 256 ^ W) r.tests) (list_of listed) i
-            (rw listed_is (fit room.item room.is)) next_there.1
+        next_fits : W ≡ 2 → All (λ (t : Test). t.constant < 256 ^ 2) next.tests
+        next_fits two =
+            all_nth (λ (r : Transition). All (λ (t : Test). t.constant < 256 ^ 2) r.tests) (list_of listed) i
+            (rw listed_is (fit two room.item room.is)) next_there.1
 
         pub writing_next : Next
         unfolding records
@@ -196,7 +195,7 @@ module _ (W : ℕ) (l : Lists) (locations timers n : ℕ) where
               timers_room = test_room W l locations timers i k next h (λ t. t.timer) l.timers (λ k t o. o.timer);
               codes_room = test_room W l locations timers i k next h (λ t. code_of t.comparison) l.codes (λ k t o. o.code);
               constants_room = test_room W l locations timers i k next h (λ t. t.constant) l.constants (λ k t o. o.constant);
-              constants_small = constants_fit W l locations timers i k next h next_fits;
+              constants_small = λ two. constants_fit W l locations timers i k next h (next_fits two);
               fits = rw (record_size W l locations timers i k next h, ← next_bytes)
                   (put_loop_room w.wrote m (rw (all_records, listed_is) room.fits));
             }

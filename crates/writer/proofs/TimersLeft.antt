@@ -6,6 +6,7 @@ use mathlib.Core.Bool.{Bool, true, false, ◌&&◌, ◌||◌, not, and-true}
 use mathlib.Core.List.{List, [], ◌∷◌}
 use Prim.Native.Nat.{ℕ, suc, ◌+◌, ◌^◌, ◌≤◌, ◌<◌}
 use native.Mathlib.Omega.{arith}
+use lib.Count.{ones}
 use lib.Dec.{eqb}
 use lib.ListN.{length, get_or, drop, length-drop}
 use lib.Seq.{drop-cons, drop-drop}
@@ -16,9 +17,12 @@ use Rattle.lists.proofs.Bools.{yes_or_no, not_both, not-true, and_left, and_righ
 use Rattle.lists.proofs.Membership.{memb_head}
 use Rattle.lists.proofs.Lowest.{lowest_most}
 use Rattle.lists.proofs.Rising.{rising_same}
+use Rattle.timer_set.specs.Iteration.{Taken}
 use Rattle.timer_set.specs.Members.{member, removed, members, lowest_member}
 use Rattle.timer_set.proofs.Members.{member_empty, member_removed, removed_lt, memb_members, members_rising}
+use Rattle.timer_set.proofs.Counts.{ones_members}
 use Rattle.timer_set.proofs.LowestMember.{lowest_below, lowest_member_lem}
+use Rattle.list_judging.proofs.Turns.{members_few}
 
 -- a rising list none of which is below from rises from there
 rising_from : (limit lo from : ℕ) (xs : List ℕ) → Rising limit lo xs → ((k : ℕ) → memb k xs ≡ true → from ≤ k) → Rising limit from xs
@@ -54,7 +58,15 @@ members_none : members 0 ≡ []
 unfolding memb
 members_none = rising_same 64 64 0 (members 0) [] (members_rising 0) tt (λ k. memb_members 0 k (omega arith) ∙ member_empty k)
 
+-- s is how many timers the set w has
+pub counted : (w : ℕ) {s : ℕ} → s ≡ ones w → w < 2 ^ 64 → (s ≡ length (members w)) × (s ≤ 64)
+counted w e h = let is = e ∙ ones_members w h in (is, rw is (members_few w))
+
 -- ---- one timer of a set after another
+
+-- where a timer is taken, some are left
+pub some_left : {w j left : ℕ} → Taken w j left → w ≡ 0 → ⊥
+some_left t e = omega (arith, t.fewer)
 
 -- of the timers of w those from place at on are left
 pub record TimersLeft (w at left : ℕ) : Type 0 where

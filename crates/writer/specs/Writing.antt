@@ -2,13 +2,10 @@
 use Rattle.std.specs.Prelude.{ℕ, leb, length}
 use Rattle.model.specs.Answer.{Answer, returned, then, unless, nowhere}
 use Rattle.model.specs.Chart.{Chart}
-use Rattle.refusal.specs.Refused.{refused_as}
 use Rattle.file_format.specs.File.{file_of}
 use Rattle.chart_lists.specs.Lists.{Lists}
 use Rattle.chart_lists.specs.declared.Header.{Header}
 use Rattle.list_judging.specs.FromLists.{chart_from}
-use Rattle.writer.specs.declared.Written.{Written}
-use Rattle.writer.specs.declared.Written.TheVariants as written
 
 -- the chart whose file is written; 21 if the buffer is too short for it
 unfoldable pub write_into : (room : ℕ) → Header → Lists → Answer Chart
@@ -17,8 +14,3 @@ write_into room m l = then (chart_from m l) (λ c. unless (leb (length (file_of 
 -- the length of the file
 unfoldable pub write_answer : (room : ℕ) → Header → Lists → Answer ℕ
 write_answer room m l = then (write_into room m l) (λ c. returned (length (file_of c)))
-
--- what an answer of the code means
-abbrev pub written_as : Written → Answer ℕ
-written_as (written.File n) = returned n
-written_as (written.Refused f) = refused_as f

@@ -5,6 +5,7 @@ ghost use Rattle.file_format.specs.Parse.{digits};
 ghost use Rattle.chart_lists.specs.Lists.{put};
 ghost use Rattle.writer.specs.Bytes.{triple_bytes};
 
+// stays: one function for each width. A generic one takes the bytes and not the number: each call would say how they come about, and its proof too.
 pub fn put_byte(out: &mut [u8], v: u8)
     requires { 1 ≤ length out.old }
     ensures { out.new ≡ put (digits 1 v) out.old }
@@ -16,16 +17,14 @@ pub fn put_pair(out: &mut [u8], v: u16)
     requires { 2 ≤ length out.old }
     ensures { out.new ≡ put (digits 2 v) out.old }
 {
-    out[0] = (v / 256) as u8;
-    out[1] = (v % 256) as u8;
+    out[..2].copy_from_slice(&v.to_be_bytes());
 }
 
 pub fn put_quad(out: &mut [u8], v: u32)
     requires { 4 ≤ length out.old }
     ensures { out.new ≡ put (digits 4 v) out.old }
 {
-    put_pair(out, (v / 65536) as u16);
-    put_pair(&mut out[2..], (v % 65536) as u16);
+    out[..4].copy_from_slice(&v.to_be_bytes());
 }
 
 // A constant, in as many bytes as the version gives it. It fits them, so that nothing is cut.

@@ -2,40 +2,29 @@
 #![tactic(auto)]
 
 ghost use Rattle.std.specs.Prelude.{◌≡◌, ◌*◌, ◌≤◌, length};
+ghost use Rattle.refusal.specs.Refused.{answer_as};
 ghost use Rattle.file_format.specs.File.{file_of};
 ghost use Rattle.chart_lists.specs.Lists.{put, overwritten};
-ghost use Rattle.chart_lists.specs.Lent.{passed, at_entry};
+ghost use Rattle.chart_lists.specs.Stored.{lists_in};
 ghost use Rattle.list_judging.specs.FromLists.{chart_from};
 ghost use Rattle.writer.specs.Bytes.{number_bytes, front_bytes, Writable};
-ghost use Rattle.writer.specs.Writing.{write_into, write_answer, written_as};
+ghost use Rattle.writer.specs.Writing.{write_into, write_answer};
 
 mod fields;
 mod records;
 
 use crate::fields::{put_byte, put_pair, put_quad, put_triple};
 use crate::records::write_records;
-use chart_lists::Header;
-use list_judging::Judged;
+use chart_lists::{ChartLists, Header};
 use refusal::Refusal;
-
-// What writing a chart gives: the length of the file, or a refusal.
-#[derive(Clone, Copy)]
-pub enum Written {
-    File(usize),
-    Refused(Refusal),
-}
 
 // The first n accepting locations.
 fn put_accepting(out: &mut [u8], accepting: &[u16], n: u16)
     requires { (n ≤ length accepting.now) × (2 * n ≤ length out.old) }
     ensures { out.new ≡ put (number_bytes 2 accepting.now n) out.old }
 {
-    let mut at: usize = 0;
-    let mut i: u16 = 0;
-    while i < n {
-        put_pair(&mut out[at..], accepting[i as usize]);
-        at += 2;
-        i += 1;
+    for i in 0..n as usize {
+        put_pair(&mut out[2 * i..], accepting[i]);
     }
 }
 
@@ -56,99 +45,28 @@ fn put_front(out: &mut [u8], size: u32, header: Header)
 }
 
 // The file of a chart that was judged; n is its length.
-fn write_file<'a>(
-    out: &mut [u8],
-    n: usize,
-    header: Header,
-    accepting: &'a [u16],
-    sources: &'a [u16],
-    targets: &'a [u16],
-    events: &'a [u8],
-    starts: &'a [u64],
-    test_counts: &'a [u8],
-    timers: &'a [u8],
-    codes: &'a [u8],
-    constants: &'a [u32],
-)
-    requires { Writable header (passed accepting sources targets events starts test_counts timers codes constants)
-        n (length out.old) }
-    ensures { out.new ≡ overwritten file_of
-        (chart_from header (at_entry accepting sources targets events starts test_counts timers codes constants))
-        out.old }
+fn write_file<'a>(out: &mut [u8], n: usize, header: Header, lists: ChartLists<'a>)
+    requires { Writable header (lists_in lists) n (length out.old) }
+    ensures { out.new ≡ overwritten file_of (chart_from header (lists_in lists.entry)) out.old }
 {
     put_front(out, (n - 5) as u32, header);
-    put_accepting(&mut out[12..], accepting, header.accepting);
+    put_accepting(&mut out[12..], lists.accepting, header.accepting);
     let at = 12 + 2 * (header.accepting as usize);
     put_pair(&mut out[at..], header.transitions);
     let after = at + 2;
-    write_records(
-        &mut out[after..],
-        header,
-        sources,
-        targets,
-        events,
-        starts,
-        test_counts,
-        timers,
-        codes,
-        constants,
-    );
+    write_records(&mut out[after..], header, lists);
 }
 
-// Judges all of the chart, then the room, and only then writes its file over the front of the buffer.
-pub fn write<'a>(
-    header: Header,
-    accepting: &'a [u16],
-    sources: &'a [u16],
-    targets: &'a [u16],
-    events: &'a [u8],
-    starts: &'a [u64],
-    test_counts: &'a [u8],
-    timers: &'a [u8],
-    codes: &'a [u8],
-    constants: &'a [u32],
-    out: &mut [u8],
-) -> Written
-    ensures answer { written_as result ≡ write_answer (length out.old) header
-        (at_entry accepting sources targets events starts test_counts timers codes constants) }
-    ensures lent { out.new ≡ overwritten file_of
-        (write_into (length out.old) header
-        (at_entry accepting sources targets events starts test_counts timers codes constants))
-        out.old }
+// Judges all of the chart, then the room, and only then writes its file over the front of the buffer: the file's length.
+pub fn write<'a>(header: Header, lists: ChartLists<'a>, out: &mut [u8]) -> Result<usize, Refusal>
+    ensures answer { answer_as result ≡ write_answer (length out.old) header (lists_in lists.entry) }
+    ensures lent { out.new
+        ≡ overwritten file_of (write_into (length out.old) header (lists_in lists.entry)) out.old }
 {
-    let a = list_judging::judge(
-        header,
-        accepting,
-        sources,
-        targets,
-        events,
-        starts,
-        test_counts,
-        timers,
-        codes,
-        constants,
-    );
-    match a {
-        Judged::Refused(f) => Written::Refused(f),
-        Judged::File(n) => {
-            if out.len() < n {
-                return Written::Refused(refusal::NO_ROOM);
-            }
-            write_file(
-                out,
-                n,
-                header,
-                accepting,
-                sources,
-                targets,
-                events,
-                starts,
-                test_counts,
-                timers,
-                codes,
-                constants,
-            );
-            Written::File(n)
-        }
+    let n = list_judging::judge(header, lists)?;
+    if out.len() < n {
+        return Err(refusal::NO_ROOM);
     }
+    write_file(out, n, header, lists);
+    Ok(n)
 }

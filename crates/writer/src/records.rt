@@ -5,11 +5,11 @@ ghost use Rattle.model.specs.Version.{width_of};
 ghost use Rattle.file_format.specs.Parse.{digits, write_all};
 ghost use Rattle.chart_lists.specs.Lists.{put, overwritten};
 ghost use Rattle.list_judging.specs.FromLists.{transitions_from};
-ghost use Rattle.list_judging.specs.Lent.{transitions_passed, transitions_at_entry, tests_at_entry};
+ghost use Rattle.chart_lists.specs.Stored.{lists_in};
 ghost use Rattle.writer.specs.Bytes.{test_bytes, tests_bytes, head_bytes, record_bytes, FitFrom, Fit, Room, records};
 
 use crate::fields::{put_byte, put_constant, put_pair, put_triple};
-use chart_lists::Header;
+use chart_lists::{ChartLists, Header};
 use timer_set::TimerSet;
 
 fn put_test(out: &mut [u8], version: u8, timer: u8, code: u8, constant: u32)
@@ -22,50 +22,36 @@ fn put_test(out: &mut [u8], version: u8, timer: u8, code: u8, constant: u32)
 }
 
 // g tests from place k on.
-fn put_tests<'a>(
-    out: &mut [u8],
-    version: u8,
-    timers: &'a [u8],
-    codes: &'a [u8],
-    constants: &'a [u32],
-    k: usize,
-    g: u8,
-)
-    requires g_in_bounds { (g ≤ length timers.now - k) × (g ≤ length codes.now - k) × (g ≤ length constants.now - k)
+#[tactic(auto, using(model::proofs::Versions::width_most))]
+fn put_tests<'a>(out: &mut [u8], version: u8, lists: ChartLists<'a>, k: usize, g: u8)
+    requires g_in_bounds { (g ≤ length lists.timers.now - k) × (g ≤ length lists.codes.now - k) × (g ≤ length lists.constants.now - k)
         × ((2 + width_of version) * g ≤ length out.old) }
-    requires fit_from { FitFrom (width_of version) constants.now k g }
-    ensures { out.new ≡ put (tests_bytes (width_of version) (tests_at_entry timers codes constants) k g) out.old }
+    requires fit_from { width_of version ≡ 2 → FitFrom 2 lists.constants.now k g }
+    ensures { out.new ≡ put (tests_bytes (width_of version) (lists_in lists.entry) k g) out.old }
 {
     let size = 2 + file_format::width_of(version) as usize;
-    let mut at: usize = 0;
-    let mut here = k;
-    let mut t: u8 = 0;
-    while t < g {
+    for t in 0..g as usize {
+        let here = k + t;
+        let constant = lists.constants[here];
         put_test(
-            &mut out[at..],
+            &mut out[size * t..],
             version,
-            timers[here],
-            codes[here],
-            constants[here],
+            lists.timers[here],
+            lists.codes[here],
+            constant,
         );
-        at += size;
-        here += 1;
-        t += 1;
     }
 }
 
-// The timers of a set, rising: the lowest that is left, one a turn.
+// The timers of a set, rising.
 fn put_starts(out: &mut [u8], set: TimerSet)
     requires { length (members set.bits) ≤ length out.old }
     ensures { out.new ≡ put (write_all (digits 1) (members set.bits)) out.old }
 {
     let mut at: usize = 0;
-    let mut left = set;
-    while !left.is_empty() {
-        let j = left.lowest() as u8;
+    for j in set {
         put_byte(&mut out[at..], j);
         at += 1;
-        left = left.without_lowest();
     }
 }
 
@@ -82,6 +68,8 @@ fn put_head(out: &mut [u8], version: u8, source: u16, target: u16, event: u8, s:
 }
 
 // The record of one transition, and how many bytes it has.
+#[tactic(auto, using(crate::proofs::TimersLeft::counted, model::proofs::Versions::tests_most, model::proofs::Versions::width_most))]
+// stays: the five entries of the transition one by one, since they are read once, for this one call, and `record_bytes` takes them so.
 fn write_record<'a>(
     out: &mut [u8],
     version: u8,
@@ -89,18 +77,16 @@ fn write_record<'a>(
     target: u16,
     event: u8,
     set: TimerSet,
-    timers: &'a [u8],
-    codes: &'a [u8],
-    constants: &'a [u32],
+    lists: ChartLists<'a>,
     k: usize,
     g: u8,
 ) -> usize
-    requires g_bound { (g ≤ 8) × (g ≤ length timers.now - k) × (g ≤ length codes.now - k) × (g ≤ length constants.now - k)
+    requires g_bound { (g ≤ 8) × (g ≤ length lists.timers.now - k) × (g ≤ length lists.codes.now - k) × (g ≤ length lists.constants.now - k)
         × (9 + length (members set.bits) + (2 + width_of version) * g ≤ length out.old) }
-    requires fit_from { FitFrom (width_of version) constants.now k g }
+    requires fit_from { width_of version ≡ 2 → FitFrom 2 lists.constants.now k g }
     ensures size { result ≡ 9 + length (members set.bits) + (2 + width_of version) * g }
     ensures written { out.new
-        ≡ put (record_bytes (width_of version) source target event set.bits (tests_at_entry timers codes constants) k g) out.old }
+        ≡ put (record_bytes (width_of version) source target event set.bits (lists_in lists.entry) k g) out.old }
 {
     let s = set.count();
     put_head(out, version, source, target, event, s as u8, g);
@@ -108,55 +94,37 @@ fn write_record<'a>(
     let at = 8 + s as usize;
     put_byte(&mut out[at..], g);
     let after = at + 1;
-    put_tests(&mut out[after..], version, timers, codes, constants, k, g);
+    put_tests(&mut out[after..], version, lists, k, g);
     after + (2 + file_format::width_of(version) as usize) * (g as usize)
 }
 
 // The records of all transitions.
-pub fn write_records<'a>(
-    out: &mut [u8],
-    header: Header,
-    sources: &'a [u16],
-    targets: &'a [u16],
-    events: &'a [u8],
-    starts: &'a [u64],
-    test_counts: &'a [u8],
-    timers: &'a [u8],
-    codes: &'a [u8],
-    constants: &'a [u32],
-)
+pub fn write_records<'a>(out: &mut [u8], header: Header, lists: ChartLists<'a>)
     requires room { Room (records (width_of header.version))
-        (transitions_from (transitions_passed sources targets events starts test_counts timers codes constants)
-        header.locations header.timers 0 0 header.transitions)
-        (length out.old) }
-    requires fit { Fit (width_of header.version)
-        (transitions_from (transitions_passed sources targets events starts test_counts timers codes constants)
-        header.locations header.timers 0 0 header.transitions) }
+        (transitions_from (lists_in lists) header.locations header.timers 0 0 header.transitions) (length out.old) }
+    requires fit { width_of header.version ≡ 2
+        → Fit 2 (transitions_from (lists_in lists) header.locations header.timers 0 0 header.transitions) }
     ensures { out.new ≡ overwritten (records (width_of header.version))
-        (transitions_from (transitions_at_entry sources targets events starts test_counts timers codes constants)
-        header.locations header.timers 0 0 header.transitions)
+        (transitions_from (lists_in lists.entry) header.locations header.timers 0 0 header.transitions)
         out.old }
 {
     let mut at: usize = 0;
     let mut k: usize = 0;
-    let mut i: usize = 0;
-    while i < header.transitions as usize {
-        let g = test_counts[i];
-        let set = TimerSet { bits: starts[i] };
+    for i in 0..header.transitions as usize {
+        let g = lists.test_counts[i];
         at += write_record(
             &mut out[at..],
             header.version,
-            sources[i],
-            targets[i],
-            events[i],
-            set,
-            timers,
-            codes,
-            constants,
+            lists.sources[i],
+            lists.targets[i],
+            lists.events[i],
+            TimerSet {
+                bits: lists.starts[i],
+            },
+            lists,
             k,
             g,
         );
         k += g as usize;
-        i += 1;
     }
 }

@@ -1,71 +1,49 @@
 -- `allocate` meets its contract: the links, cleared arrays, and then the locations in turn. What is hard is only which part of which array is lent.
-use mathlib.Core.Path.{refl, sym, ap, ◌∙◌, subst}
+use mathlib.Core.Path.{refl, ap, ◌∙◌, subst}
 use mathlib.Core.List.{List}
-use Prim.Native.Nat.{ℕ, ◌≤◌}
-use native.Mathlib.Omega.{arith}
+use Rattle.std.proofs.Common.{rules}
 use lib.ListN.{length}
-use lib.Seq.{length-take-le}
 use Rattle.model.specs.Family.{Family}
 use Rattle.model.specs.FirstFit.{Placed, used_by}
 use Rattle.model.specs.Rewrite.{numbering}
-use Rattle.families.specs.Pairs.{pairs_of, SafeTransitions}
+use Rattle.families.specs.Pairs.{pairs_of, pairs_in, SafeChart}
+use Rattle.families.specs.declared.LiveChart.{LiveChart}
+use Rattle.families.specs.declared.links.Link.{Link}
 use Rattle.families.specs.Propagation.{LinkLists}
 use Rattle.families.proofs.CodePairs.{formed}
+use Rattle.families.proofs.Propagated.{zeros}
 use Rattle.allocation.specs.Cells.{cells_of}
 use Rattle.allocation.specs.FamiliesAt.{FamiliesAt}
 use Rattle.allocation.specs.Turns.{Described}
-use Rattle.chart_lists.specs.Limits.{most_transitions}
 use Rattle.allocation.proofs.AllFamilies.{all_families, all_placed}
-use Rattle.allocation.proofs.Cleared.{front_length, fresh}
+use Rattle.allocation.proofs.Cleared.{filled, fresh}
 use Rattle.allocation.proofs.allocate.Goals as goal
 
 -- the links that were found are those of the pairs
-described : (sources targets starts live : List ℕ) (timers : ℕ) (ones others linked : List ℕ) → SafeTransitions sources targets starts live timers
-    → LinkLists (pairs_of sources targets starts live timers) ones others linked
-    → Described (pairs_of sources targets starts live timers) live ones others linked
+described : (chart : LiveChart) (links : List Link) → SafeChart chart → LinkLists (pairs_in chart) links
+    → Described (pairs_in chart) chart.live.now links
 unfolding pairs_of
-described sources targets starts live timers ones others linked safe links =
-    record { formed = formed safe; sets_are = refl; locations_are = refl; links_are = links }
-
-pub slice_bounds-number_locations-end : goal.slice_bounds-number_locations-end
-slice_bounds-number_locations-end c = let few : c.find_links-k.result ≤ most_transitions =
-    omega (arith, c.find_links-k.ensures.few, c.requires.0.few_transitions) in
-    sym (length-take-le c.find_links-k.result c.find_links-k.new.ones (omega (arith, few, c.find_links-k.auto.ones)))
-
-pub slice_bounds-number_locations-end-2 : goal.slice_bounds-number_locations-end-2
-slice_bounds-number_locations-end-2 c = let few : c.find_links-k.result ≤ most_transitions =
-    omega (arith, c.find_links-k.ensures.few, c.requires.0.few_transitions) in
-    sym (length-take-le c.find_links-k.result c.find_links-k.new.others (omega (arith, few, c.find_links-k.auto.others)))
-
-pub slice_bounds-number_locations-end-3 : goal.slice_bounds-number_locations-end-3
-slice_bounds-number_locations-end-3 c = let few : c.find_links-k.result ≤ most_transitions =
-    omega (arith, c.find_links-k.ensures.few, c.requires.0.few_transitions) in
-    sym (length-take-le c.find_links-k.result c.find_links-k.new.linked (omega (arith, few, c.find_links-k.auto.linked)))
-
-pub slice_bounds-number_locations-end-4 : goal.slice_bounds-number_locations-end-4
-slice_bounds-number_locations-end-4 c = sym (front_length _ c.requires.0.few_locations)
-
-pub slice_bounds-number_locations-end-5 : goal.slice_bounds-number_locations-end-5
-slice_bounds-number_locations-end-5 c = sym (front_length _ c.requires.0.few_locations)
+described chart links safe found = record { formed = formed safe; sets_are = refl; locations_are = refl; links_are = found }
 
 pub number_locations-requires : goal.number_locations-requires
 number_locations-requires c = (
   (
-    pairs_of c.args.sources.now c.args.targets.now c.args.starts.now c.args.live.now c.args.timers,
-    described _ _ _ _ _ _ _ _ c.requires.0 c.find_links-k.ensures.links,
+    pairs_in c.args.chart,
+    rw c.as_slice.ensures (described c.args.chart _ c.requires.0 c.find_links-links.ensures.links),
   ),
-  c.find_links-k.ensures.ends,
-  fresh c.args.live.now c.clear.new.cells c.clear-2.new.sets c.requires.0.few_locations (c.clear.auto.cells ∙ c.requires.1)
-      (λ y h. c.clear.ensures y (omega (arith, c.requires.1))) (c.clear-2.auto.sets ∙ c.requires.2) c.clear-2.ensures,
+  rw c.as_slice.ensures c.find_links-links.ensures.ends,
+  fresh c.args.chart.live.now c.fill.new.self c.fill-2.new.self c.requires.0.few_locations (c.fill.auto.self ∙ c.requires.1)
+      (filled _ _ (c.fill.ensures.after (search rules)) c.requires.1) (c.fill-2.auto.self ∙ c.requires.2)
+      (zeros _ (c.fill-2.ensures.after (search rules))),
 )
 
 pub returns : goal.returns
 unfolding pairs_of
-returns c = let n = c.number_locations.ensures (pairs_of c.args.sources.now c.args.targets.now c.args.starts.now c.args.live.now c.args.timers)
-    (described _ _ _ _ _ _ _ _ c.requires.0 c.find_links-k.ensures.links) in
+returns c = let n = c.number_locations.ensures (pairs_in c.args.chart)
+    (rw c.as_slice.ensures (described c.args.chart _ c.requires.0 c.find_links-links.ensures.links)) in
     let all = all_families (formed c.requires.0) in
     let e = all_placed (formed c.requires.0) in record {
-      cells = n.cells_are ∙ ap (λ (ps : List Placed). cells_of (numbering ps) (length c.args.live.now)) e;
+      cells = n.cells_are ∙ ap (λ (ps : List Placed). cells_of (numbering ps) (length c.args.chart.live.now)) e;
       used = n.used_is ∙ ap used_by e;
       families = n.count_is ∙ ap length all;
       at = subst (λ (fs : List Family). FamiliesAt fs c.number_locations.new.families_at) all n.at_are;

@@ -1,56 +1,35 @@
 -- `propagate` meets its contract: the sets come by joins from the one set at q, and their sum grows until all links agree.
-use Rattle.std.proofs.Common.{◌<◌, length, length-set, sym, ◌∙◌, arith, rules}
-use Rattle.lists.proofs.Bools.{not-true, not-false}
+use Rattle.std.proofs.Common.{◌≡◌, ℕ, ◌<◌, length, get_or, length-set, refl, sym, ◌∙◌, arith, rules}
 use Rattle.families.specs.Propagation.Joins.{none}
-use Rattle.families.proofs.Sweeps.{ends_long, joins_trans, joins_long, joins_small, empty_alone}
-use Rattle.families.proofs.Propagated.{one_small, propagated_over}
+use Rattle.families.proofs.Sweeps.{ends_long, joins_trans, joins_small, empty_alone}
+use Rattle.families.proofs.Propagated.{zeros, one_small, propagated_over}
 use Rattle.families.proofs.propagate.Goals as goal
 
-pub offset_bounds-sets-q : goal.offset_bounds-sets-q
-offset_bounds-sets-q c = omega (arith, c.requires.1, c.requires.0.few_locations)
-
-pub bounds-sets-q : goal.bounds-sets-q
-bounds-sets-q c = omega (arith, c.requires.1, c.clear.auto.sets)
-
-pub overflow_add-end : goal.overflow_add-end
-overflow_add-end c = omega (arith, c.requires.1, c.requires.0.few_locations)
-
-pub loop-q-init : goal.loop-q-init
-loop-q-init c =
-    let inside : c.args.q < length c.clear.new.sets = omega (arith, c.requires.1, c.clear.auto.sets) in (
-      ends_long (sym c.clear.auto.sets ∙ sym (length-set c.clear.new.sets c.args.q c.args.roots.bits)) c.requires.0,
-      one_small c.clear.new.sets c.args.q c.args.roots.bits inside c.clear.ensures (search rules),
+pub loop-next-init : goal.loop-next-init
+loop-next-init c =
+    let empty : (s : ℕ) → get_or c.fill.new.self s 0 ≡ 0 = zeros _ (c.fill.ensures.after (search rules)) in
+    let inside : c.args.q < length c.fill.new.self = omega (arith, c.requires.1, c.fill.auto.self) in (
+      ends_long (sym c.fill.auto.self ∙ sym (length-set c.fill.new.self c.args.q c.args.roots.bits)) c.requires.0,
+      one_small c.fill.new.self c.args.q c.args.roots.bits inside empty (search rules),
       none,
-      empty_alone c.clear.new.sets c.args.q c.args.roots.bits inside c.clear.ensures,
+      empty_alone c.fill.new.self c.args.q c.args.roots.bits inside empty,
     )
 
-pub sweep-swept-requires : goal.sweep-swept-requires
-sweep-swept-requires c =
-    let v = c.loop-q.invariant in (ends_long (sym (joins_long _ _ _ v.0 v.2)) v.0, v.3)
+pub loop-next-smaller : goal.loop-next-smaller
+loop-next-smaller c =
+    let v = c.loop-next.invariant in
+    let x = c.in-Some.ensures.swept in
+    omega (arith, x.grows refl, joins_small _ v.0 (joins_trans _ v.2 x.joins) v.1)
 
-pub shape_of-sets-then-not-swept : goal.shape_of-sets-then-not-swept
-shape_of-sets-then-not-swept c =
-    let v = c.loop-q.invariant in
-    joins_long _ _ _ v.0 (joins_trans _ _ _ v.2 c.sweep-swept.ensures.swept.joins) ∙ length-set c.clear.new.sets _ _ ∙ c.clear.auto.sets
+pub loop-next-preserved : goal.loop-next-preserved
+loop-next-preserved c =
+    let v = c.loop-next.invariant in (v.0, v.1, joins_trans _ v.2 c.in-Some.ensures.swept.joins, c.in-Some.ensures.end)
 
-pub returns-then-not-swept : goal.returns-then-not-swept
-returns-then-not-swept c =
-    let v = c.loop-q.invariant in
-    let x = c.sweep-swept.ensures.swept in
-    let inside : c.args.q < length c.clear.new.sets = omega (arith, c.requires.1, c.clear.auto.sets) in
-    let still = (x.same (not-true _ c.if-not-swept.true)).1 in
-    record {
-      families = λ p formed long links.
-          propagated_over c.clear.new.sets c.args.q c.args.roots.bits inside c.clear.ensures v.0 p links _ (joins_trans _ _ _ v.2 x.joins) still;
-      end = c.sweep-swept.ensures.end;
-    }
-
-pub loop-q-smaller : goal.loop-q-smaller
-loop-q-smaller c =
-    let v = c.loop-q.invariant in
-    let x = c.sweep-swept.ensures.swept in
-    omega (arith, x.grows (not-false _ c.if-not-swept.false), joins_small _ _ _ v.0 (joins_trans _ _ _ v.2 x.joins) v.1)
-
-pub loop-q-preserved : goal.loop-q-preserved
-loop-q-preserved c =
-    let v = c.loop-q.invariant in (v.0, v.1, joins_trans _ _ _ v.2 c.sweep-swept.ensures.swept.joins, c.sweep-swept.ensures.end)
+pub returns-clause-families : goal.returns-clause-families
+returns-clause-families c =
+    let v = c.loop-next.invariant in
+    let x = c.in_default.ensures.swept in
+    let empty : (s : ℕ) → get_or c.fill.new.self s 0 ≡ 0 = zeros _ (c.fill.ensures.after (search rules)) in
+    let inside : c.args.q < length c.fill.new.self = omega (arith, c.requires.1, c.fill.auto.self) in
+    λ p formed long links. propagated_over c.fill.new.self c.args.q c.args.roots.bits inside empty v.0 p links _ (joins_trans _ v.2 x.joins)
+    (x.same refl).1

@@ -1,13 +1,8 @@
-use mathlib.Core.Path.{◌≡◌}
-use Prim.Native.Nat.{◌-◌, ◌≤◌}
-use lib.ListN.{length}
+use Rattle.std.specs.Prelude.{◌≡◌, length, is_some, unwrap_or}
 use Rattle.families.specs.Propagation.{Swept, EmptyFrom}
 use Rattle.families.proofs.sweep.Given as goal
 
-abbrev pub invariant-loop-k : goal.invariant-loop-k
-invariant-loop-k l =
-    (l.k ≤ l.n) × (length l.sets ≡ length l.initial.sets)
-    × Swept l.ones l.others l.linked l.k l.initial.sets l.sets l.grew × EmptyFrom l.last l.sets
-
-abbrev pub decreases-loop-k : goal.decreases-loop-k
-decreases-loop-k l = l.n - l.k
+abbrev pub invariant-loop-link : goal.invariant-loop-link
+invariant-loop-link l =
+    (length l.sets ≡ length l.initial.sets) × Swept l.links l.link-index l.initial.sets l.sets (is_some l.grown)
+    × EmptyFrom (unwrap_or l.grown l.end) l.sets

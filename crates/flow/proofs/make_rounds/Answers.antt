@@ -1,19 +1,29 @@
 -- `make_rounds` makes the first round over all edges, and each round after it over those that leave changed locations. What is hard stands in Turns.
-use Rattle.std.proofs.Common.{◌≡◌, List, ℕ, ◌+◌, ◌≤◌, length, replicate, refl, sym, ap, ◌∙◌, arith, rules}
+use Rattle.std.proofs.Common.{◌≡◌, List, ℕ, ◌+◌, ◌≤◌, ◌<◌, length, take, replicate, refl, sym, ap, ◌∙◌, arith, rules}
 use lib.ListN.{length-replicate}
+use Rattle.std.proofs.lemmas.List.{length-take-le, get_or-take}
 use Rattle.chart_lists.specs.Limits.{most_locations}
 use Rattle.worklist.proofs.Waiting.{worklist_none}
 use Rattle.flow.specs.Edges.{flow_of}
 use Rattle.flow.proofs.EdgeLists.{shaped_lists, few_rounds}
 use Rattle.flow.proofs.Turns.{before_long, after_long, goes_on, ends_here, turn_first, turn_next}
 use Rattle.flow.proofs.make_rounds.Goals as goal
+use Rattle.flow.proofs.make_rounds.Goals.{After-take_over}
 
 -- a list of empty sets is as long as it was made
 zeros_long : (sets : List ℕ) (n : ℕ) → sets ≡ replicate n 0 → length sets ≡ n
 zeros_long sets n e = ap length e ∙ length-replicate {A = ℕ} n 0
 
-pub copy-requires : goal.copy-requires
-copy-requires c = c.requires.1 ∙ sym (zeros_long _ _ c.requires.2)
+-- the changed locations are those at the front of the array
+in_front : (changed : List ℕ) (depth k : ℕ) → depth ≤ length changed → k < length (take depth changed) → k < depth
+in_front changed depth k h l = omega (arith, l, length-take-le depth changed h)
+
+room : (c : After-take_over) → c.loop-depth.depth ≤ length c.take_over.new.changed
+room c =
+    let v = c.loop-depth.invariant in omega (arith, v.3.differing.worklist.room, v.1, v.2, c.take_over.auto.changed)
+
+pub copy_from_slice-requires : goal.copy_from_slice-requires
+copy_from_slice-requires c = c.requires.1 ∙ sym (zeros_long _ _ c.requires.2)
 
 pub first_round-requires : goal.first_round-requires
 first_round-requires c = (c.requires.0.gains, zeros_long _ _ c.requires.2, c.requires.0.into_below)
@@ -32,8 +42,8 @@ loop-depth-init c =
       search rules,
       search rules,
       refl,
-      turn_first {f = flow_of a.into.now a.from.now a.cut.now a.gain.now a.own.now} (c.copy.ensures ∙ c.requires.2) (c.first_round.ensures _ _) waits
-          c.push_nonempty-depth.ensures.empty,
+      turn_first {f = flow_of a.into.now a.from.now a.cut.now a.gain.now a.own.now} (c.copy_from_slice.ensures.after ∙ c.requires.2)
+          (c.first_round.ensures _ _) waits c.push_nonempty-depth.ensures.empty,
     )
 
 pub take_over-requires : goal.take_over-requires
@@ -47,8 +57,8 @@ next_round-depth-requires c =
     let v = c.loop-depth.invariant in (
       (c.args.from.now, rw (after_long v.3) c.requires.3),
       ap length c.take_over.ensures.sets,
-      omega (arith, v.3.differing.worklist.room, v.1, v.2, c.take_over.auto.changed),
-      (λ k h. rw (c.take_over.ensures.changed k h) (v.3.differing.worklist.below k h)),
+      (λ k l. let b = in_front _ _ _ (room (goal.at.next_round-depth-requires c).After-take_over) l in
+          rw (get_or-take c.loop-depth.depth c.take_over.new.changed k 0 b, c.take_over.ensures.changed k b) (v.3.differing.worklist.below k b)),
       c.take_over.ensures.none,
     )
 
@@ -68,12 +78,14 @@ unfolding flow_of
 loop-depth-preserved c =
     let v = c.loop-depth.invariant in
     let shaped = shaped_lists _ _ _ _ _ c.requires.0 (λ i. (c.type_inv.gain i).fits) (λ i. (c.type_inv.own i).fits) in
-    let e = c.next_round-depth.ensures in (
+    let e = c.next_round-depth.ensures in
+    let long = length-take-le c.loop-depth.depth c.take_over.new.changed (room (goal.at.loop-depth-preserved c).After-take_over) in (
       search rules,
       search rules,
       search rules,
-      turn_next c.requires.0 shaped v.3 c.loop-depth-test.true c.take_over.ensures.changed c.take_over.ensures.sets
-          (e.over _ (rw (after_long v.3) c.requires.3)) e.worklist e.less (λ q. (c.type_inv.after q).fits),
+      turn_next c.requires.0 shaped v.3 c.loop-depth-test.true
+          (λ i b. get_or-take c.loop-depth.depth c.take_over.new.changed i 0 b ∙ c.take_over.ensures.changed i b) c.take_over.ensures.sets
+          (rw long at (e.over c.args.from.now (rw (after_long v.3) c.requires.3))) e.worklist e.less (λ q. (c.type_inv.after q).fits),
     )
 
 pub overflow_add-result : goal.overflow_add-result

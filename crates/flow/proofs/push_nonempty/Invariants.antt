@@ -1,5 +1,5 @@
 use mathlib.Core.Path.{◌≡◌}
-use Prim.Native.Nat.{ℕ, ◌-◌}
+use Prim.Native.Nat.{ℕ}
 use lib.ListN.{length, get_or}
 use Rattle.worklist.specs.Worklist.{Worklist}
 use Rattle.flow.proofs.Differing.{Passed}
@@ -7,8 +7,5 @@ use Rattle.flow.proofs.push_nonempty.Given as goal
 
 abbrev pub invariant-loop-i : goal.invariant-loop-i
 invariant-loop-i l =
-    (l.n ≡ length l.sets) × (length l.idle ≡ length l.initial.idle) × (length l.waiting ≡ length l.initial.waiting)
+    (length l.idle ≡ length l.initial.idle) × (length l.waiting ≡ length l.initial.waiting)
     × Worklist (length l.sets) l.idle l.waiting l.depth × Passed l.sets l.idle l.i × (((q : ℕ) → get_or l.sets q 0 ≡ 0) → l.depth ≡ 0)
-
-abbrev pub decreases-loop-i : goal.decreases-loop-i
-decreases-loop-i l = l.n - l.i

@@ -1,23 +1,28 @@
--- `first_empty` returns the lowest place of an empty set: no set before it is empty.
-use mathlib.Core.Path.{refl, sym, ◌∙◌}
+-- `first_empty` returns the lowest place of an empty set: the search finds the first that passes, if one does.
+use mathlib.Core.Path.{◌≡◌, refl, sym, ◌∙◌}
+use mathlib.Core.Bool.{true, false}
+use mathlib.Core.List.{List, ◌∷◌}
+use Prim.Native.Nat.{ℕ, ◌+◌}
 use native.Mathlib.Omega.{arith}
-use borrow.Author.Count.{below_more, below_none}
+use borrow.Author.Tests.{tests}
+use Rattle.std.proofs.Common.{rules}
+use Rattle.std.proofs.lemmas.Iterator.{YieldsList-from_slice, IsFirst-from_position, index_from_first}
+use Rattle.lists.specs.Lists.{lowest}
 use Rattle.model.specs.Live.{is_empty}
 use Rattle.judgement.specs.Places.{first_empty}
-use Rattle.lists.proofs.Lowest.{lowest_is}
 use Rattle.judgement.proofs.first_empty.Goals as goal
 
-pub loop-q-init : goal.loop-q-init
-loop-q-init c = (omega arith, refl, below_none _)
+hit : (w : ℕ) (ws : List ℕ) → is_empty w ≡ true → first_empty (w ∷ ws) ≡ 0
+unfolding first_empty lowest
+hit w ws e = rw (e, lowest)
 
-pub returns-then-is_empty : goal.returns-then-is_empty
-unfolding first_empty is_empty
-returns-then-is_empty c = sym (lowest_is _ _ c.loop-q.q c.loop-q.invariant.0 (λ h. sym c.is_empty.ensures ∙ c.if-is_empty.true) c.loop-q.invariant.2)
-
-pub loop-q-preserved : goal.loop-q-preserved
-unfolding is_empty
-loop-q-preserved c = (omega arith, refl, below_more _ c.loop-q.q c.loop-q.invariant.2 (sym c.is_empty.ensures ∙ c.if-is_empty.false))
+miss : (w : ℕ) (ws : List ℕ) → is_empty w ≡ false → first_empty (w ∷ ws) ≡ first_empty ws + 1
+unfolding first_empty lowest
+miss w ws e = rw (e, lowest) (omega arith)
 
 pub returns : goal.returns
-unfolding first_empty
-returns c = sym (lowest_is _ _ _ (omega arith) (λ h. absurd (omega arith)) (λ k h. c.loop-q.invariant.2 k (omega arith)))
+unfolding first_empty lowest is_empty
+returns c = c.unwrap_or.ensures
+    ∙ sym (index_from_first first_empty (λ w. is_empty w ≡ true) (λ w. is_empty w ≡ false) refl hit miss c.args.sets.now c.position.result
+    (IsFirst-from_position _ _ _ (λ w. is_empty w ≡ true) (λ w. is_empty w ≡ false) c.position.ensures.ran (YieldsList-from_slice c.args.sets.now cc)
+    (λ w q k. search (rules, tests)) (λ w q k. search (rules, tests))))

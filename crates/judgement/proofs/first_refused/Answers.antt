@@ -4,8 +4,9 @@ use Rattle.judgement.proofs.Judging.{refused_none, refused_unreached}
 use Rattle.judgement.proofs.first_refused.Goals as goal
 
 pub returns-then-allows_spare : goal.returns-then-allows_spare
-returns-then-allows_spare c = refused_none c.args.version c.args.timers c.args.initial _ _ _ (sym c.allows_spare.ensures ∙ c.if-allows_spare.true)
+returns-then-allows_spare c = let m = c.args.header in
+    refused_none m.version m.timers m.initial _ _ _ (sym c.allows_spare.ensures ∙ c.if-allows_spare.true)
 
 pub returns : goal.returns
-returns c = c.first_unreached.ensures
-    ∙ refused_unreached c.args.version c.args.timers c.args.initial _ _ _ (sym c.allows_spare.ensures ∙ c.if-allows_spare.false)
+returns c = let m = c.args.header in
+    c.first_unreached.ensures ∙ refused_unreached m.version m.timers m.initial _ _ _ (sym c.allows_spare.ensures ∙ c.if-allows_spare.false)

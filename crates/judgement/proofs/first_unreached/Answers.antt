@@ -6,8 +6,8 @@ use Rattle.judgement.specs.Places.{first_empty}
 use Rattle.judgement.proofs.Judging.{unreached_few, unreached_all}
 use Rattle.judgement.proofs.first_unreached.Goals as goal
 
-pub returns-then-timers-lt64 : goal.returns-then-timers-lt64
-returns-then-timers-lt64 c = c.first_empty.ensures ∙ unreached_few c.args.initial _ _ _ c.if-timers-lt64.true
+pub returns-then-header-lt64 : goal.returns-then-header-lt64
+returns-then-header-lt64 c = c.first_empty.ensures ∙ unreached_few c.args.header.initial _ _ _ c.if-header-lt64.true
 
 pub slice_bounds-reached-end : goal.slice_bounds-reached-end
 slice_bounds-reached-end c = few_locations c.requires
@@ -26,4 +26,4 @@ slice_bounds-first_empty-end c = sym (seen_length c.requires c.settle_reached.en
 
 pub returns : goal.returns
 returns c = c.first_empty-2.ensures ∙ ap first_empty (seen_sets c.requires c.settle_reached.ensures _)
-    ∙ unreached_all c.args.initial _ _ _ c.if-timers-lt64.false
+    ∙ unreached_all c.args.header.initial _ _ _ c.if-header-lt64.false

@@ -1,9 +1,5 @@
-use Prim.Native.Nat.{◌-◌}
 use Rattle.list_judging.proofs.Turns.{AcceptingTurn}
 use Rattle.list_judging.proofs.judge_accepting.Given as goal
 
 abbrev pub invariant-loop-k : goal.invariant-loop-k
 invariant-loop-k l = AcceptingTurn l.locations l.accepting l.n l.lowest l.k
-
-abbrev pub decreases-loop-k : goal.decreases-loop-k
-decreases-loop-k l = l.n - l.k

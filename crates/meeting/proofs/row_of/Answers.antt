@@ -1,7 +1,6 @@
--- `row_of` meets its contract: the locations below s are looked at.
+-- `row_of` meets its contract: the words that the loop has passed are looked at.
 use mathlib.Core.Path.{◌≡◌, sym, ap, ◌∙◌}
 use mathlib.Core.Bool.{Bool, not, ◌&&◌, ◌||◌}
-use mathlib.Core.List.{List}
 use Prim.Native.Nat.{ℕ}
 use native.Mathlib.Omega.{arith}
 use lib.Dec.{eqb}
@@ -12,35 +11,28 @@ use Rattle.allocation.specs.Rows.{in_family, any_below, some_in}
 use Rattle.allocation.proofs.Below.{some_yes, some_no}
 use Rattle.meeting.specs.Meeting.{meet_at}
 use Rattle.meeting.proofs.row_of.Goals as goal
+use Rattle.meeting.proofs.row_of.Goals.{then-has, else-has}
 
--- one of the first locations has both families
-abbrev both : (at : List ℕ) → (i j locations : ℕ) → Bool
-both at i j locations = some_in at i (λ s. in_family at j s) locations
-
-pub loop-s-init : goal.loop-s-init
+pub loop-word-init : goal.loop-word-init
 unfolding any_below some_in
-loop-s-init c = (omega arith, c.requires, λ j. member_empty j)
+loop-word-init c = (c.requires, λ j. member_empty j)
 
-pub loop-s-preserved-then-has : goal.loop-s-preserved-then-has
-loop-s-preserved-then-has c = (
-  omega arith,
-  c.loop-s.invariant.1,
-  λ j. ap (λ (w : ℕ). member w j) c.join-row.ensures ∙ member_joined c.loop-s.row.bits _ j
-      ∙ ap (λ (b : Bool). b || in_family c.args.families_at.now j c.loop-s.s) (c.loop-s.invariant.2 j)
-      ∙ some_yes c.args.families_at.now c.args.i (λ s. in_family c.args.families_at.now j s) c.loop-s.s
-      (sym c.has.ensures ∙ c.if-has.true),
-)
-
-pub loop-s-preserved : goal.loop-s-preserved
-loop-s-preserved c = (
-  omega arith,
-  c.loop-s.invariant.1,
-  λ j. c.loop-s.invariant.2 j
-      ∙ some_no c.args.families_at.now c.args.i (λ s. in_family c.args.families_at.now j s) c.loop-s.s (sym c.has.ensures ∙ c.if-has.false),
+pub loop-word-preserved : goal.loop-word-preserved
+loop-word-preserved c = (
+  c.requires,
+  elim c.if-has.branch [
+    | then-has w ↦ λ j. rw (w.row-is, w.join-row.ensures) (member_joined c.loop-word.row.bits _ j)
+        ∙ ap (λ (b : Bool). b || in_family c.args.families_at.now j c.loop-word.word-index) (c.loop-word.invariant.1 j)
+        ∙ some_yes c.args.families_at.now c.args.i (λ s. in_family c.args.families_at.now j s) c.loop-word.word-index
+        (sym c.has.ensures ∙ w.if-has.true)
+    | else-has w ↦ λ j. rw w.row-is (c.loop-word.invariant.1 j)
+        ∙ some_no c.args.families_at.now c.args.i (λ s. in_family c.args.families_at.now j s) c.loop-word.word-index
+        (sym c.has.ensures ∙ w.if-has.false)
+  ],
 )
 
 pub returns : goal.returns
 unfolding meet_at
-returns c = let e : c.loop-s.s ≡ length c.args.families_at.now = omega arith in
-    λ j. ap (λ (w : ℕ). member w j) c.without.ensures ∙ member_removed c.loop-s.row.bits c.args.i j
-    ∙ ap (λ (b : Bool). b && not (eqb j c.args.i)) (rw e at (c.loop-s.invariant.2 j))
+returns c = let e : c.loop-word.word-index ≡ length c.args.families_at.now = omega arith in
+    λ j. ap (λ (w : ℕ). member w j) c.without.ensures ∙ member_removed c.loop-word.row.bits c.args.i j
+    ∙ ap (λ (b : Bool). b && not (eqb j c.args.i)) (rw e at (c.loop-word.invariant.1 j))

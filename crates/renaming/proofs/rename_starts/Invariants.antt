@@ -1,5 +1,4 @@
 use mathlib.Core.Path.{◌≡◌}
-use Prim.Native.Nat.{◌-◌, ◌≤◌}
 use lib.ListN.{length}
 use Rattle.model.specs.Chart.{Chart}
 use Rattle.model.specs.Rewrite.{Numbering}
@@ -11,8 +10,5 @@ use Rattle.renaming.proofs.Sets.{starts_to}
 use Rattle.renaming.proofs.rename_starts.Given as goal
 
 abbrev pub invariant-loop-i : goal.invariant-loop-i
-invariant-loop-i l = (l.i ≤ l.n) × (length l.renamed ≡ length l.initial.renamed) × ((c : Chart) (N : Numbering) → l.n ≡ length c.transitions
-    → Holds c (edges_of c (lists_of c).sources l.targets l.starts) → CellsOf c N l.cells → l.renamed ≡ put (starts_to c N l.i) l.initial.renamed)
-
-abbrev pub decreases-loop-i : goal.decreases-loop-i
-decreases-loop-i l = l.n - l.i
+invariant-loop-i l = (c : Chart) (N : Numbering) → l.fn.header.transitions ≡ length c.transitions
+    → Holds c (edges_of c (lists_of c).sources l.targets l.starts) → CellsOf c N l.cells → l.renamed ≡ put (starts_to c N l.i) l.initial.renamed

@@ -1,5 +1,4 @@
 use mathlib.Core.Path.{◌≡◌}
-use Prim.Native.Nat.{◌-◌, ◌≤◌}
 use lib.ListN.{length}
 use Rattle.model.specs.Chart.{Chart}
 use Rattle.model.specs.Rewrite.{Numbering}
@@ -10,8 +9,5 @@ use Rattle.renaming.proofs.Timers.{TestsRenamed}
 use Rattle.renaming.proofs.rename_tests.Given as goal
 
 abbrev pub invariant-loop-i : goal.invariant-loop-i
-invariant-loop-i l = (l.i ≤ l.n) × (length l.renamed ≡ length l.initial.renamed) × ((c : Chart) (N : Numbering) → l.n ≡ length c.transitions
-    → Holds c (tests_of c l.sources l.test_counts l.timers) → CellsOf c N l.cells → TestsRenamed c N l.initial.renamed l.renamed l.base l.i)
-
-abbrev pub decreases-loop-i : goal.decreases-loop-i
-decreases-loop-i l = l.n - l.i
+invariant-loop-i l = (c : Chart) (N : Numbering) → l.fn.header.transitions ≡ length c.transitions
+    → Holds c (tests_of c l.sources l.test_counts l.timers) → CellsOf c N l.cells → TestsRenamed c N l.initial.renamed l.renamed l.base l.i

@@ -1,5 +1,4 @@
 use mathlib.Core.Path.{◌≡◌}
-use Prim.Native.Nat.{◌-◌, ◌≤◌}
 use lib.ListN.{length}
 use Rattle.model.specs.Chart.{Chart}
 use Rattle.model.specs.Live.{reached_sets}
@@ -11,11 +10,7 @@ use Rattle.spare.proofs.Clearing.{StartsTo}
 use Rattle.spare.proofs.clear_starts.Given as goal
 
 abbrev pub invariant-loop-i : goal.invariant-loop-i
-invariant-loop-i l = (l.i ≤ l.n) × (length l.starts ≡ length l.initial.starts) × (length l.test_counts ≡ length l.initial.test_counts)
-    × ((c : Chart) → l.n ≡ length c.transitions → Begins (reached_sets c) l.reached
+invariant-loop-i l = (c : Chart) → l.n ≡ length c.transitions → Begins (reached_sets c) l.reached
     → Holds c (transitions_of c l.sources (lists_of c).targets l.initial.starts l.initial.test_counts (lists_of c).timers (lists_of c).codes
     (lists_of c).constants)
-    → StartsTo c l.initial.starts l.initial.test_counts l.starts l.test_counts l.i)
-
-abbrev pub decreases-loop-i : goal.decreases-loop-i
-decreases-loop-i l = l.n - l.i
+    → StartsTo c l.initial.starts l.initial.test_counts l.starts l.test_counts l.i

@@ -1,5 +1,4 @@
 use mathlib.Core.Path.{◌≡◌}
-use Prim.Native.Nat.{◌-◌, ◌≤◌}
 use lib.ListN.{length}
 use Rattle.model.specs.Chart.{Chart}
 use Rattle.model.specs.Live.{reached_sets}
@@ -11,11 +10,6 @@ use Rattle.spare.proofs.Clearing.{TestsTo}
 use Rattle.spare.proofs.keep_tests.Given as goal
 
 abbrev pub invariant-loop-i : goal.invariant-loop-i
-invariant-loop-i l = (l.i ≤ l.n) × (length l.timers ≡ length l.initial.timers) × (length l.codes ≡ length l.initial.codes)
-    × (length l.constants ≡ length l.initial.constants)
-    × ((c : Chart) → l.n ≡ length c.transitions → Begins (reached_sets c) l.reached
+invariant-loop-i l = (c : Chart) → l.n ≡ length c.transitions → Begins (reached_sets c) l.reached
     → Holds c (transitions_of c l.sources (lists_of c).targets (lists_of c).starts l.test_counts l.initial.timers l.initial.codes l.initial.constants)
-    → TestsTo c l.initial.timers l.initial.codes l.initial.constants l.timers l.codes l.constants l.from l.to l.i)
-
-abbrev pub decreases-loop-i : goal.decreases-loop-i
-decreases-loop-i l = l.n - l.i
+    → TestsTo c l.initial.timers l.initial.codes l.initial.constants l.timers l.codes l.constants l.from l.to l.i

@@ -1,34 +1,30 @@
 -- `take_steps` takes one step after another. The laws of a list of steps say what each leaves.
-use mathlib.Core.Path.{refl}
 use native.Mathlib.Omega.{arith}
+use Rattle.std.proofs.lemmas.Result.{err_from_is_err_and}
 use Rattle.steps.proofs.StepLists.{reached_start, reached_next, reached_refused, reached_end}
 use Rattle.steps.proofs.take_steps.Goals as goal
 
 pub loop-k-init : goal.loop-k-init
-loop-k-init c = (c.requires.n_value, c.requires.small, c.requires.times_len, refl, omega arith, omega arith, λ ch n f L s w. reached_start w)
+loop-k-init c = (c.requires.n_value, c.requires.small, c.requires.times_len, λ ch n f L s w. reached_start w)
 
-pub step-next-requires : goal.step-next-requires
-step-next-requires c = record { n_value = c.loop-k.invariant.0; small_2 = c.loop-k.invariant.1 }
+pub step-requires : goal.step-requires
+step-requires c = record { n_value = c.loop-k.invariant.0; small_2 = c.loop-k.invariant.1 }
 
-pub returns-in_default : goal.returns-in_default
-returns-in_default c = λ ch n f L s w.
-    let tried = c.step-next.ensures.answer ch n f L in
-    reached_refused (c.loop-k.invariant.6 ch n f L s w) (omega arith) _ _ tried c.in_default.is
-
-pub overflow_add-k : goal.overflow_add-k
-overflow_add-k c = omega (arith, c.loop-k.invariant.4)
+pub returns-in_err-step : goal.returns-in_err-step
+returns-in_err-step c = λ ch n f L s w.
+    let p = err_from_is_err_and c.from_residual.result c.from_residual.ensures.1 in
+    let tried = c.in_err-step.ensures.answer ch n f L in
+    rw (p.1, p.2) (reached_refused (c.loop-k.invariant.3 ch n f L s w) (omega arith) (λ (done : Unit {0}). c.step.new.state) _ tried)
 
 pub loop-k-preserved : goal.loop-k-preserved
 loop-k-preserved c = (
   c.loop-k.invariant.0,
-  c.step-next.ensures.small,
+  c.step.ensures.small,
   c.loop-k.invariant.2,
-  c.loop-k.invariant.3,
-  c.loop-k.invariant.4,
-  omega arith,
   λ ch n f L s w.
-      reached_next (c.loop-k.invariant.6 ch n f L s w) (omega arith) _ _ (c.step-next.ensures.answer ch n f L) c.in-Taken.is,
+      let tried = c.in_ok-step.ensures.answer ch n f L in
+      reached_next (c.loop-k.invariant.3 ch n f L s w) (omega arith) (λ (done : Unit {0}). c.step.new.state) _ tried,
 )
 
 pub returns : goal.returns
-returns c = λ ch n f L s w. reached_end (c.loop-k.invariant.6 ch n f L s w) (omega arith)
+returns c = λ ch n f L s w. reached_end (c.loop-k.invariant.3 ch n f L s w) (omega arith)

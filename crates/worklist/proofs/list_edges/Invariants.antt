@@ -8,6 +8,3 @@ abbrev pub invariant-loop-i : goal.invariant-loop-i
 invariant-loop-i l =
     (l.i ≤ length l.from) × (length l.first ≡ length l.initial.first) × (length l.next ≡ length l.initial.next)
     × ListedFrom l.from l.first l.next l.i
-
-abbrev pub decreases-loop-i : goal.decreases-loop-i
-decreases-loop-i l = l.i

@@ -71,7 +71,7 @@ write_records-requires c =
     let k = writable_room _ _ _ _ c.requires in
     record {
       room = k.records_fit _ (omega (arith, k.size, k.fits));
-      fit = writable_fit _ _ _ _ c.requires (λ k. omega (arith, c.type_inv.constants k));
+      fit = writable_fit _ _ _ _ c.requires;
     }
 
 pub returns : goal.returns

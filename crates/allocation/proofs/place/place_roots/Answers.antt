@@ -1,77 +1,44 @@
--- `place_roots` meets its contract: the families of the timers below j have their numbers and are marked.
-use mathlib.Core.Path.{◌≡◌, sym, ◌∙◌, subst}
+-- `place_roots` meets its contract: the families of the timers that the loop has taken have their numbers and are marked.
+use mathlib.Core.Path.{◌≡◌, sym, ap, ◌∙◌, subst}
 use Prim.Native.Nat.{ℕ, ◌+◌, ◌*◌}
 use native.Mathlib.Omega.{arith}
 use lib.ListN.{length}
+use Rattle.timer_set.specs.Members.{member}
+use Rattle.timer_set.proofs.Members.{member_empty}
 use Rattle.allocation.specs.Turns.{NumberedTo}
-use Rattle.allocation.proofs.InTurn.{unnumbered_kept, turn_no, turn_yes}
+use Rattle.allocation.proofs.InTurn.{turn_taken, unnumbered_kept, turns_to, turn_yes}
 use Rattle.allocation.proofs.place.place_roots.Goals as goal
 
-pub loop-j-init : goal.loop-j-init
-loop-j-init c = (
-  omega arith,
-  c.requires.0.lengths,
-  c.requires.0.words_agree,
-  c.requires.0.within,
-  λ i h k m. c.requires.0.unnumbered i m,
-  (c.requires.1, omega (arith, c.requires.2)),
-  λ p q g so. subst (λ (x : ℕ). NumberedTo p x c.args.cells.now c.args.families_at.now c.args.counts.used c.args.counts.families) (omega arith) so,
-)
-
-pub place_family-number-requires : goal.place_family-number-requires
-place_family-number-requires c = let m = sym c.has.ensures ∙ c.if-has.true in (
-  omega arith,
-  c.loop-j.invariant.1,
-  c.loop-j.invariant.2,
-  c.loop-j.invariant.3 c.loop-j.j m,
-  c.loop-j.invariant.4 c.loop-j.j (omega arith) (omega arith) m,
-)
-
-pub mark-requires : goal.mark-requires
-mark-requires c = (c.loop-j.invariant.1.few_locations, c.loop-j.invariant.5.0, c.loop-j.invariant.3 c.loop-j.j (sym c.has.ensures ∙ c.if-has.true))
-
-pub loop-j-preserved-then-has : goal.loop-j-preserved-then-has
-loop-j-preserved-then-has c = let long : length c.place_family-number.new.cells ≡ 64 * length c.args.sets.now = c.place_family-number.auto.cells
-    ∙ c.loop-j.invariant.1.cells_long in
-    let wide = c.mark.auto.families_at ∙ c.loop-j.invariant.5.0 in
-    let kept = unnumbered_kept c.args.sets.now c.loop-j.j c.place_family-number.result c.loop-j.cells c.place_family-number.new.cells
-    c.place_family-number.ensures.cells in (
-      omega arith,
-      record {
-        few_locations = c.loop-j.invariant.1.few_locations;
-        cells_long = long;
-        held_long = c.place_family-number.auto.held ∙ c.loop-j.invariant.1.held_long;
-      },
-      c.place_family-number.ensures.held,
-      c.loop-j.invariant.3,
-      λ i h k n. kept i k (λ e. omega arith) (c.loop-j.invariant.4 i (omega arith) k n),
-      (wide, omega (arith, c.loop-j.invariant.5.1)),
-      λ p q g so.
-          let next = turn_yes g c.loop-j.j (omega arith) c.loop-j.cells c.loop-j.families_at c.loop-j.most c.loop-j.count
-          (c.loop-j.invariant.6 p q g so) (sym c.has.ensures ∙ c.if-has.true) c.loop-j.invariant.1.few_locations in
-          subst (λ (u : ℕ). NumberedTo p (64 * q + (c.loop-j.j + 1)) c.place_family-number.new.cells c.mark.new.families_at u (c.loop-j.count + 1))
-          (sym c.larger-most.ensures)
-          (next c.place_family-number.result c.place_family-number.ensures.number c.place_family-number.new.cells long
-          c.place_family-number.ensures.cells c.loop-j.invariant.5.0 c.mark.new.families_at wide c.mark.ensures),
+pub loop-j-preserved : goal.loop-j-preserved
+loop-j-preserved c =
+    let v = c.loop-j.invariant in
+    let few = v.0.0.few_locations in
+    let turn = turn_taken v.2.1 c.in-Some.ensures.steps in
+    let number = c.place-number.ensures in
+    let long : length c.place-number.new.cells ≡ 64 * length c.args.spread.sets.now = c.place-number.auto.cells ∙ v.0.0.cells_long in
+    let wide = c.mark.auto.families_at ∙ v.0.2 in
+    let kept = unnumbered_kept c.args.spread.sets.now c.in-Some.j c.place-number.result c.loop-j.cells c.place-number.new.cells number.cells in (
+      (record { few_locations = few; cells_long = long; held_long = c.place-number.auto.held ∙ v.0.0.held_long }, number.held, wide),
+      v.1,
+      (
+        c.in-Some.j + 1,
+        turn.rest,
+        omega (arith, v.2.2, turn.above),
+        λ i h k n. kept i k (λ e. omega arith) (v.2.3 i (omega (arith, turn.above, h)) k n),
+        λ p q g so.
+            let before = turns_to g v.2.0 c.in-Some.j turn.above (omega (arith, turn.below)) turn.between
+            c.loop-j.cells c.loop-j.families_at c.loop-j.next.used
+            c.loop-j.next.families (v.2.4 p q g so) in
+            subst (λ (u : ℕ). NumberedTo p (64 * q + (c.in-Some.j + 1)) c.place-number.new.cells c.mark.new.families_at u
+            (c.loop-j.next.families + 1))
+            (sym c.max.ensures)
+            (turn_yes g c.in-Some.j turn.below c.loop-j.cells c.loop-j.families_at c.loop-j.next.used c.loop-j.next.families before turn.is_member few
+            c.place-number.result number.number c.place-number.new.cells long number.cells v.0.2 c.mark.new.families_at wide c.mark.ensures),
+      ),
     )
 
-pub loop-j-preserved : goal.loop-j-preserved
-loop-j-preserved c = (
-  omega arith,
-  c.loop-j.invariant.1,
-  c.loop-j.invariant.2,
-  c.loop-j.invariant.3,
-  λ i h k m. c.loop-j.invariant.4 i (omega arith) k m,
-  (c.loop-j.invariant.5.0, omega (arith, c.loop-j.invariant.5.1)),
-  λ p q g so.
-      turn_no g c.loop-j.j (omega arith) c.loop-j.cells c.loop-j.families_at c.loop-j.most c.loop-j.count (c.loop-j.invariant.6 p q g so)
-      (sym c.has.ensures ∙ c.if-has.false),
-)
-
-pub returns : goal.returns
-returns c = record {
-  held = c.loop-j.invariant.2;
-  numbered = let e : c.loop-j.j ≡ 64 = omega arith in
-      λ p q g so. subst (λ (x : ℕ). NumberedTo p (64 * q + x) c.loop-j.cells c.loop-j.families_at c.loop-j.most c.loop-j.count) e
-      (c.loop-j.invariant.6 p q g so);
-}
+pub returns-clause-numbered : goal.returns-clause-numbered
+returns-clause-numbered c =
+    let v = c.loop-j.invariant in
+    λ p q g so. turns_to g v.2.0 64 v.2.1.few (omega arith) (λ i h l. sym (v.2.1.same i h) ∙ ap (λ (w : ℕ). member w i) c.in-None.ensures.steps
+    ∙ member_empty i) c.loop-j.cells c.loop-j.families_at c.loop-j.next.used c.loop-j.next.families (v.2.4 p q g so)

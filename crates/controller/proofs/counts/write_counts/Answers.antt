@@ -1,19 +1,14 @@
--- `write_counts` writes the entries one after another.
-use mathlib.Core.Path.{refl}
+-- `write_counts` copies the entries over the middle of the list.
+use mathlib.Core.Path.{◌≡◌}
+use Prim.Native.Nat.{◌+◌, ◌-◌}
 use native.Mathlib.Omega.{arith}
-use Rattle.controller.proofs.Written.{written_none, written_more, written_all}
+use lib.ListN.{length}
+use Rattle.chart_lists.specs.Lists.{put}
+use Rattle.controller_model.specs.Parts.{written}
 use Rattle.controller.proofs.counts.write_counts.Goals as goal
 
-pub loop-j-init : goal.loop-j-init
-loop-j-init c = (omega arith, refl, omega arith, written_none _ _ _)
-
-pub loop-j-preserved : goal.loop-j-preserved
-loop-j-preserved c = (
-  c.loop-j.invariant.0,
-  c.loop-j.invariant.1,
-  c.loop-j.invariant.2,
-  written_more _ _ _ c.loop-j.j _ c.loop-j.invariant.3 (omega arith) (omega arith),
-)
-
 pub returns : goal.returns
-returns c = written_all _ _ _ c.loop-j.j _ c.loop-j.invariant.3 (omega arith)
+unfolding written put
+returns c =
+    let e : c.args.o + length c.args.entries.now - c.args.o ≡ length c.args.entries.now = omega arith in
+    rw (c.copy_from_slice.ensures.after, e)

@@ -6,16 +6,12 @@ use Rattle.controller.proofs.StartHeads.{none_stand, next_stands, all_stand}
 use Rattle.controller.proofs.start.start_heads.Goals as goal
 
 pub loop-h-init : goal.loop-h-init
-loop-h-init c = (c.requires, omega arith, none_stand _)
+loop-h-init c = none_stand _
 
 pub loop-h-preserved : goal.loop-h-preserved
-loop-h-preserved c = (
-  c.loop-h.invariant.0,
-  omega arith,
-  next_stands _ c.loop-h.h c.loop-h.heads (omega arith) c.start_head-head.ensures c.loop-h.invariant.2,
-)
+loop-h-preserved c = next_stands _ c.loop-h.h c.loop-h.heads (omega arith) c.start_head.ensures c.loop-h.invariant
 
 pub returns : goal.returns
 returns c = λ cs e are.
     let q : c.loop-h.h ≡ length cs = omega arith in
-    all_stand _ cs c.loop-h.heads are (rw q at c.loop-h.invariant.2)
+    all_stand _ cs c.loop-h.heads are (rw q at c.loop-h.invariant)

@@ -1,10 +1,6 @@
-use Rattle.std.proofs.Common.{◌-◌, ◌≤◌}
 use Rattle.steps.proofs.MovedCounts.{ChangedTo}
 use Rattle.counter_player.proofs.RisenCounts.{risen_by}
 use Rattle.counter_player.proofs.counts.risen.Given as goal
 
-abbrev pub invariant-loop-j : goal.invariant-loop-j
-invariant-loop-j l = (l.j ≤ 64) × ChangedTo (risen_by l.passed) l.j l.initial.next l.next
-
-abbrev pub decreases-loop-j : goal.decreases-loop-j
-decreases-loop-j l = 64 - l.j
+abbrev pub invariant-loop-count : goal.invariant-loop-count
+invariant-loop-count l = ChangedTo (risen_by l.passed) l.count-index l.fn.counts l.count-items

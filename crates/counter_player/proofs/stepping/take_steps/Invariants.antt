@@ -1,7 +1,7 @@
-use Rattle.std.proofs.Common.{◌≡◌, ◌-◌, ◌^◌, ◌<◌, ◌≤◌, length}
+use Rattle.std.proofs.Common.{◌≡◌, length}
 use Rattle.model.specs.Chart.{Chart}
 use Rattle.chart_lists.specs.Holds.{Holds}
-use Rattle.steps.specs.StepLists.{FirstTests, step_lists}
+use Rattle.steps.specs.StepLists.{FirstTests, steps_in}
 use Rattle.steps.proofs.StepLists.{Reached}
 use Rattle.counter_model.specs.CounterRun.{CounterState}
 use Rattle.counter_player.specs.Stepping.{Shows}
@@ -10,11 +10,8 @@ use Rattle.counter_player.proofs.stepping.take_steps.Given as goal
 
 abbrev pub invariant-loop-k : goal.invariant-loop-k
 invariant-loop-k l = ((c : Chart) × (l.n ≡ length c.transitions) × FirstTests c l.firsts
-    × Holds c (step_lists c l.sources l.targets l.starts l.test_counts l.timers l.codes l.constants))
-    × (length l.readings ≡ length l.transitions) × (l.last ≡ length l.transitions) × (l.last < 2 ^ 64) × (l.k ≤ l.last)
+    × Holds c (steps_in c l.lists))
+    × (length l.readings ≡ length l.transitions)
     × ((c : Chart) → l.n ≡ length c.transitions → FirstTests c l.firsts
-    → Holds c (step_lists c l.sources l.targets l.starts l.test_counts l.timers l.codes l.constants)
+    → Holds c (steps_in c l.lists)
     → (s : CounterState) → Shows l.initial.state s → Reached Shows (counter_sequence c l.transitions l.readings) l.k s l.state)
-
-abbrev pub decreases-loop-k : goal.decreases-loop-k
-decreases-loop-k l = l.last - l.k

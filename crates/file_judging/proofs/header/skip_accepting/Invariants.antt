@@ -1,10 +1,6 @@
-use Prim.Native.Nat.{◌-◌}
 use lib.ListN.{drop}
 use Rattle.file_judging.proofs.Loops.{AcceptingRead}
 use Rattle.file_judging.proofs.header.skip_accepting.Given as goal
 
 abbrev pub invariant-loop-k : goal.invariant-loop-k
-invariant-loop-k l = AcceptingRead l.locations l.n l.k l.lowest (drop l.at l.s) (drop l.here l.s)
-
-abbrev pub decreases-loop-k : goal.decreases-loop-k
-decreases-loop-k l = l.n - l.k
+invariant-loop-k l = AcceptingRead l.locations l.n l._k l.lowest (drop l.at l.s) (drop l.here l.s)

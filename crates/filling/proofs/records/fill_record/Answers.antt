@@ -1,9 +1,7 @@
 -- `fill_record` stores a record's head and then its tests.
-use mathlib.Core.Path.{◌∙◌}
+use mathlib.Core.Path.{sym, ◌∙◌}
 use Rattle.model.specs.Version.{width_of}
 use Rattle.file_format.proofs.Parsed.{value_refused}
-use Rattle.fields.specs.Meaning.{head_as}
-use Rattle.fields.proofs.Answers.{told}
 use Rattle.fields.proofs.Parts.{transition_head_refused}
 use Rattle.file_judging.proofs.RecordParts.{skip_head_refused, skip_tests_left}
 use Rattle.filling.proofs.RecordsLoop.{head_stored, tests_behind}
@@ -13,25 +11,24 @@ pub returns-in_default : goal.returns-in_default
 returns-in_default c =
     record {
       read =
-          let e = told (head_as c.args.s.now) c.in_default.is c.head_at-a.ensures in
-          rw (c.head_refusal.ensures, c.in_default.is) (skip_head_refused (width_of c.args.version) c.args.locations c.args.limit c.args.k _ e);
+          let e = sym (rw c.unwrap_err.ensures at c.head_at-a.ensures) in
+          skip_head_refused (width_of c.args.chart.version) c.args.chart.locations c.args.chart.timers c.args.k _ e;
       stored =
-          let e = told (head_as c.args.s.now) c.in_default.is c.head_at-a.ensures in
-          (λ r t q. absurd (value_refused q (transition_head_refused (width_of c.args.version) c.args.locations c.args.limit c.args.k _ e)));
+          let e = sym (rw c.unwrap_err.ensures at c.head_at-a.ensures) in
+          (λ r t q. absurd (value_refused q
+          (transition_head_refused (width_of c.args.chart.version) c.args.chart.locations c.args.chart.timers c.args.k _ e)));
     }
 
 pub fill_tests-requires : goal.fill_tests-requires
-fill_tests-requires c = let f = c.requires.record_fits.fits _ _ (told (head_as c.args.s.now) c.in-Found.is c.head_at-a.ensures) in
-    (f.timers, f.codes, f.constants)
+fill_tests-requires c = let f = c.requires.record_fits.fits _ _ (sym c.in-Ok.ensures) in (f.timers, f.codes, f.constants)
 
 pub returns : goal.returns
 returns c = record {
-  read = c.fill_tests.ensures.read ∙ skip_tests_left (width_of c.args.version) c.args.locations c.args.limit c.args.k _
-      (told (head_as c.args.s.now) c.in-Found.is c.head_at-a.ensures);
+  read = c.fill_tests.ensures.read
+      ∙ skip_tests_left (width_of c.args.chart.version) c.args.chart.locations c.args.chart.timers c.args.k _ (sym c.in-Ok.ensures);
   stored = (λ r t q. (
-    head_stored (width_of c.args.version) c.args.locations c.args.limit c.args.k _ (told (head_as c.args.s.now) c.in-Found.is c.head_at-a.ensures) r
-        t q,
-    c.fill_tests.ensures.stored r.tests t (tests_behind (width_of c.args.version) c.args.locations c.args.limit c.args.k _
-        (told (head_as c.args.s.now) c.in-Found.is c.head_at-a.ensures) r t q),
+    head_stored (width_of c.args.chart.version) c.args.chart.locations c.args.chart.timers c.args.k _ (sym c.in-Ok.ensures) r t q,
+    c.fill_tests.ensures.stored r.tests t (tests_behind (width_of c.args.chart.version) c.args.chart.locations c.args.chart.timers c.args.k _
+        (sym c.in-Ok.ensures) r t q),
   ));
 }

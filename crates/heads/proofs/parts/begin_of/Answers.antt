@@ -1,5 +1,4 @@
 -- `begin_of` goes from the end of one part to the end of the next, each cut where the list ends.
-use mathlib.Core.Path.{◌≡◌}
 use native.Mathlib.Omega.{arith}
 use Rattle.lists.specs.Lists.{sum_of}
 use Rattle.controller_model.specs.Parts.{offset}
@@ -8,11 +7,7 @@ use Rattle.heads.proofs.parts.begin_of.Goals as goal
 
 pub loop-g-init : goal.loop-g-init
 unfolding offset sum_of
-loop-g-init c = (omega arith, omega arith)
+loop-g-init c = omega arith
 
 pub loop-g-preserved : goal.loop-g-preserved
-loop-g-preserved c = (omega arith, omega (arith, c.end_of-at.ensures, offset_next c.args.lengths c.loop-g.g))
-
-pub returns : goal.returns
-returns c = let e : c.loop-g.g ≡ c.args.h = omega arith in
-    rw e at c.loop-g.invariant.1
+loop-g-preserved c = omega (arith, c.end_of-at.ensures, offset_next c.args.lengths c.loop-g.g)

@@ -1,11 +1,7 @@
-use mathlib.Core.Path.{◌≡◌}
-use Prim.Native.Nat.{◌-◌, ◌+◌}
-use Rattle.list_judging.specs.Lent.{test_lists}
+use Prim.Native.Nat.{◌+◌}
+use Rattle.chart_lists.specs.Stored.{lists_in}
 use Rattle.list_judging.proofs.Turns.{TestsTurn}
 use Rattle.list_judging.proofs.transition.judge_tests.Given as goal
 
 abbrev pub invariant-loop-t : goal.invariant-loop-t
-invariant-loop-t l = (l.at ≡ l.k + l.t) × TestsTurn (test_lists l.timers l.codes l.constants) l.limit l.place l.k l.g l.at l.t
-
-abbrev pub decreases-loop-t : goal.decreases-loop-t
-decreases-loop-t l = l.g - l.t
+invariant-loop-t l = TestsTurn (lists_in l.lists) l.limit l.place l.k l.g (l.k + l.t) l.t

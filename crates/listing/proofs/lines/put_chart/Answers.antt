@@ -14,8 +14,8 @@ room a b h = omega (arith, h, length-append a b)
 
 pub put_first_line-at-requires : goal.put_first_line-at-requires
 put_first_line-at-requires c =
-    let first = first_line c.args.used c.args.floor c.args.searched c.args.limit in
-    let r = room first (lines_in c.args.cells.now c.args.header.timers c.args.header.locations) c.requires.3 in
+    let first = first_line c.args.numbers.used c.args.numbers.floor c.args.numbers.searched c.args.limit in
+    let r = room first (lines_in c.args.cells.now c.args.numbers.header.timers c.args.numbers.header.locations) c.requires.3 in
     omega (arith, r)
 
 pub slice_bounds-put_lines-start : goal.slice_bounds-put_lines-start
@@ -26,8 +26,8 @@ slice_bounds-put_lines-count c = bytes_cover c.put_first_line-at.ensures
 
 pub put_lines-requires : goal.put_lines-requires
 put_lines-requires c =
-    let first = first_line c.args.used c.args.floor c.args.searched c.args.limit in
-    let r = room first (lines_in c.args.cells.now c.args.header.timers c.args.header.locations) c.requires.3 in (
+    let first = first_line c.args.numbers.used c.args.numbers.floor c.args.numbers.searched c.args.limit in
+    let r = room first (lines_in c.args.cells.now c.args.numbers.header.timers c.args.numbers.header.locations) c.requires.3 in (
       c.requires.0,
       c.requires.1,
       c.requires.2,
@@ -36,8 +36,8 @@ put_lines-requires c =
 
 pub overflow_add-result : goal.overflow_add-result
 overflow_add-result c =
-    let first = first_line c.args.used c.args.floor c.args.searched c.args.limit in
-    let r = room first (lines_in c.args.cells.now c.args.header.timers c.args.header.locations) c.requires.3 in
+    let first = first_line c.args.numbers.used c.args.numbers.floor c.args.numbers.searched c.args.limit in
+    let r = room first (lines_in c.args.cells.now c.args.numbers.header.timers c.args.numbers.header.locations) c.requires.3 in
     omega (arith, r, c.put_first_line-at.ensures.size_is, c.put_lines.ensures.size_is)
 
 pub returns : goal.returns

@@ -1,5 +1,5 @@
 -- `fullest`: the larger of the most so far and the fullest of the sets to come is the fullest of all.
-use mathlib.Core.Path.{◌≡◌, refl, sym, ap, ◌∙◌}
+use mathlib.Core.Path.{◌≡◌, sym, ap, ◌∙◌}
 use mathlib.Core.List.{List}
 use Prim.Native.Nat.{ℕ, max, ◌+◌, ◌<◌}
 use native.Mathlib.Omega.{arith}
@@ -19,34 +19,16 @@ none : (sets : List ℕ) {q : ℕ} → q ≡ length sets → fullest (drop q set
 unfolding fullest
 none sets e = ap (λ (k : ℕ). fullest (drop k sets)) e ∙ ap fullest (drop-length sets)
 
-pub loop-q-init : goal.loop-q-init
-loop-q-init c = (omega arith, refl, omega arith)
+pub loop-bits-init : goal.loop-bits-init
+loop-bits-init c = omega arith
 
-pub loop-q-preserved-then-most-count : goal.loop-q-preserved-then-most-count
-loop-q-preserved-then-most-count c = (
-  omega arith,
-  refl,
-  omega (
-    arith,
-    c.loop-q.invariant.2,
-    (let counted : fullest (drop c.loop-q.q c.args.sets.now) ≡ max c.count-count.result (fullest (drop (c.loop-q.q + 1) c.args.sets.now)) =
-        rw c.count-count.ensures (next c.args.sets.now c.loop-q.q (omega arith)) in
-        counted),
-  ),
-)
-
-pub loop-q-preserved : goal.loop-q-preserved
-loop-q-preserved c = (
-  omega arith,
-  refl,
-  omega (
-    arith,
-    c.loop-q.invariant.2,
-    (let counted : fullest (drop c.loop-q.q c.args.sets.now) ≡ max c.count-count.result (fullest (drop (c.loop-q.q + 1) c.args.sets.now)) =
-        rw c.count-count.ensures (next c.args.sets.now c.loop-q.q (omega arith)) in
-        counted),
-  ),
-)
+pub loop-bits-preserved : goal.loop-bits-preserved
+loop-bits-preserved c =
+    let i = c.loop-bits.bits-index in
+    let sets = c.args.sets.now in
+    let counted : fullest (drop i sets) ≡ max c.count-count.result (fullest (drop (i + 1) sets)) =
+    rw c.count-count.ensures (next sets i (omega arith)) in
+    omega (arith, c.loop-bits.invariant, counted)
 
 pub returns : goal.returns
-returns c = omega (arith, c.loop-q.invariant.2, none c.args.sets.now {q = c.loop-q.q} (omega arith))
+returns c = omega (arith, c.loop-bits.invariant, none c.args.sets.now {q = c.loop-bits.bits-index} (omega arith))

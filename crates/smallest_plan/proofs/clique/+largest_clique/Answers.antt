@@ -1,5 +1,5 @@
 -- `largest_clique` takes each candidate left in turn, and calls itself for those that it meets.
-use Rattle.std.proofs.Common.{◌≡◌, true, List, ℕ, ◌-◌, ◌+◌, ◌<◌, ◌^◌, min, get_or, arith, ap, ◌∙◌}
+use Rattle.std.proofs.Common.{◌≡◌, true, List, ℕ, ◌-◌, ◌+◌, ◌<◌, ◌^◌, get_or, arith, ap, ◌∙◌}
 use lib.Count.{ones}
 use Rattle.timer_set.specs.Members.{member, common, lowest_member, removed}
 use Rattle.timer_set.proofs.LowestMember.{lowest_member_lem, without_less}
@@ -21,11 +21,10 @@ fewer : (w b n r : ℕ) → w < 2 ^ 64 → n ≡ ones w → b < n → r ≡ remo
 fewer w b n r h e l q = rw q (without_less w h (some_left w b n e l))
 
 -- the sum is a bound again
-next : (rows : List ℕ) (left v w least best few met r : ℕ) → member left v ≡ true → ((i : ℕ) → member left i ≡ true → member w i ≡ true)
-    → NumbersNeeded rows w least best → few ≡ min best 1 → met ≡ common left (get_or rows v 0) → NumbersNeeded rows met (best - few) r
+next : (rows : List ℕ) (left v w least best met r : ℕ) → member left v ≡ true → ((i : ℕ) → member left i ≡ true → member w i ≡ true)
+    → NumbersNeeded rows w least best → met ≡ common left (get_or rows v 0) → NumbersNeeded rows met (best - 1) r
     → NumbersNeeded rows w least (r + 1)
-next rows left v w least best few met r m s A f e B =
-    let q : best - few ≡ best - 1 = omega arith in one_more rows left v m s A (rw (q, e) at B)
+next rows left v w least best met r m s A e B = one_more rows left v m s A (rw e at B)
 
 pub loop-best-init : goal.loop-best-init
 loop-best-init t c = (omega arith, λ i m. m, given _ _ _)
@@ -48,7 +47,7 @@ pub overflow_add-best : goal.overflow_add-best
 overflow_add-best t c =
     let v = c.loop-best.invariant in
     let m = taken _ _ _ _ (omega arith) c.count.ensures c.loop-best-test.true c.lowest-v.ensures in
-    let N = next _ _ _ _ _ _ _ _ _ m v.1 v.2 c.smaller.ensures c.common.ensures c.largest_clique-best.ensures in
+    let N = next _ _ _ _ _ _ _ _ m v.1 v.2 c.common.ensures (rw c.saturating_sub.ensures at c.largest_clique-best.ensures) in
     omega (arith, few c.requires.1 N c.requires.0)
 
 pub loop-best-smaller : goal.loop-best-smaller
@@ -60,7 +59,7 @@ loop-best-preserved t c =
     let m = taken _ _ _ _ (omega arith) c.count.ensures c.loop-best-test.true c.lowest-v.ensures in (
       omega (arith, fewer _ _ _ _ (omega arith) c.count.ensures c.loop-best-test.true c.without_lowest-left.ensures, v.0),
       λ i m. v.1 i (removed_in _ _ i (rw c.without_lowest-left.ensures at m)),
-      next _ _ _ _ _ _ _ _ _ m v.1 v.2 c.smaller.ensures c.common.ensures c.largest_clique-best.ensures,
+      next _ _ _ _ _ _ _ _ m v.1 v.2 c.common.ensures (rw c.saturating_sub.ensures at c.largest_clique-best.ensures),
     )
 
 pub returns : goal.returns

@@ -4,14 +4,16 @@ use native.Mathlib.Omega.{arith}
 use Rattle.steps.proofs.MovedCounts.{changed_none, changed_more, grown_all}
 use Rattle.steps.proofs.counts.grown.Goals as goal
 
-pub loop-j-init : goal.loop-j-init
-loop-j-init c = (omega arith, c.requires, changed_none _ _ c.requires.number)
+pub loop-count-init : goal.loop-count-init
+loop-count-init c = (c.requires, changed_none _ _ c.requires.number)
 
-pub overflow_add-next : goal.overflow_add-next
-overflow_add-next c = record { fits = rw (c.loop-j.invariant.2.kept c.loop-j.j (omega arith)) (c.loop-j.invariant.1.fits c.loop-j.j (omega arith)) }
+pub overflow_add-count : goal.overflow_add-count
+overflow_add-count c =
+    let i = c.loop-count.count-index in
+    record { fits = rw (c.loop-count.invariant.1.kept i (omega arith)) (c.loop-count.invariant.0.fits i (omega arith)) }
 
-pub loop-j-preserved : goal.loop-j-preserved
-loop-j-preserved c = (omega arith, c.loop-j.invariant.1, changed_more _ _ c.loop-j.j _ refl (omega arith) c.loop-j.invariant.2)
+pub loop-count-preserved : goal.loop-count-preserved
+loop-count-preserved c = (c.loop-count.invariant.0, changed_more _ _ c.loop-count.count-index _ refl (omega arith) c.loop-count.invariant.1)
 
 pub returns : goal.returns
-returns c = grown_all _ _ c.loop-j.j _ (omega arith) c.loop-j.invariant.2
+returns c = grown_all _ _ c.loop-count.count-index _ (omega arith) c.loop-count.invariant.1

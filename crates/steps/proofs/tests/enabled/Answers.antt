@@ -9,6 +9,7 @@ use Rattle.model.specs.Chart.{Test, Chart}
 use Rattle.chart_lists.specs.Lists.{Lists}
 use Rattle.chart_lists.specs.Holds.{Holds}
 use Rattle.steps.specs.StepLists.{FirstTests}
+use Rattle.steps.proofs.FirstPlaces.{end_fits}
 use Rattle.steps.proofs.TransitionPlaces.{TestAt, some_transition, transition_at}
 use Rattle.steps.proofs.TestTurns.{none_done, some_test, test_passed, test_failed, tests_done}
 use Rattle.steps.proofs.tests.enabled.Goals as goal
@@ -28,15 +29,14 @@ bounds-firsts-i c = let p = c.requires.i_in_bounds in omega (arith, p.1, p.2.roo
 pub overflow_cast-first : goal.overflow_cast-first
 overflow_cast-first c = omega (arith, c.type_inv.firsts c.args.i)
 
-pub bounds-test_counts-i : goal.bounds-test_counts-i
-bounds-test_counts-i c = let p = c.requires.i_in_bounds in (transition_at p.3 (some_transition p.0 c.args.i p.1).1).number_within
+pub bounds-lists-i : goal.bounds-lists-i
+bounds-lists-i c = let p = c.requires.i_in_bounds in (transition_at p.3 (some_transition p.0 c.args.i p.1).1).number_within
 
 pub overflow_cast-end : goal.overflow_cast-end
-overflow_cast-end c = omega (arith, c.type_inv.test_counts c.args.i)
+overflow_cast-end c = let p = c.requires.i_in_bounds in omega (arith, end_fits p.3 p.2 p.1)
 
--- both numbers are of 16 and of 8 binary digits
 pub overflow_add-end : goal.overflow_add-end
-overflow_add-end c = omega (arith, c.type_inv.firsts c.args.i, c.type_inv.test_counts c.args.i)
+overflow_add-end c = let p = c.requires.i_in_bounds in omega (arith, end_fits p.3 p.2 p.1)
 
 pub loop-k-init : goal.loop-k-init
 loop-k-init c = (
@@ -45,18 +45,17 @@ loop-k-init c = (
   refl,
   refl,
   omega arith,
-  omega arith,
   λ ch f h tr n v a. none_done ch tr v (get_or c.args.firsts.now c.args.i 0),
 )
 
-pub bounds-timers-k : goal.bounds-timers-k
-bounds-timers-k c = let p = c.requires.i_in_bounds in (here p.1 p.2 p.3 c.loop-k.k (omega arith) (omega arith)).1.timer_within
+pub bounds-lists-k : goal.bounds-lists-k
+bounds-lists-k c = let p = c.requires.i_in_bounds in (here p.1 p.2 p.3 c.loop-k.k (omega arith) (omega arith)).1.timer_within
 
 pub overflow_cast-j : goal.overflow_cast-j
 overflow_cast-j c = let p = c.requires.i_in_bounds in omega (arith, timer_small p.1 p.2 p.3 c.loop-k.k (omega arith) (omega arith))
 
-pub bounds-codes-k : goal.bounds-codes-k
-bounds-codes-k c = let p = c.requires.i_in_bounds in (here p.1 p.2 p.3 c.loop-k.k (omega arith) (omega arith)).1.code_within
+pub bounds-lists-k-in-loop-k : goal.bounds-lists-k-in-loop-k
+bounds-lists-k-in-loop-k c = let p = c.requires.i_in_bounds in (here p.1 p.2 p.3 c.loop-k.k (omega arith) (omega arith)).1.code_within
 
 pub offset_bounds-counts-j : goal.offset_bounds-counts-j
 offset_bounds-counts-j c = let p = c.requires.i_in_bounds in omega (arith, timer_small p.1 p.2 p.3 c.loop-k.k (omega arith) (omega arith))
@@ -66,19 +65,16 @@ bounds-counts-j c =
     let p = c.requires.i_in_bounds in
     omega (arith, timer_small p.1 p.2 p.3 c.loop-k.k (omega arith) (omega arith), c.loop-k.invariant.1)
 
-pub offset_bounds-constants-k : goal.offset_bounds-constants-k
-offset_bounds-constants-k c = omega (arith, c.type_inv.firsts c.args.i, c.type_inv.test_counts c.args.i)
+pub offset_bounds-lists-k : goal.offset_bounds-lists-k
+offset_bounds-lists-k c = let p = c.requires.i_in_bounds in omega (arith, end_fits p.3 p.2 p.1)
 
-pub bounds-constants-k : goal.bounds-constants-k
-bounds-constants-k c = let p = c.requires.i_in_bounds in (here p.1 p.2 p.3 c.loop-k.k (omega arith) (omega arith)).1.constant_within
+pub bounds-lists-k-in-loop-k-2 : goal.bounds-lists-k-in-loop-k-2
+bounds-lists-k-in-loop-k-2 c = let p = c.requires.i_in_bounds in (here p.1 p.2 p.3 c.loop-k.k (omega arith) (omega arith)).1.constant_within
 
 pub returns-then-not-test_met : goal.returns-then-not-test_met
 returns-then-not-test_met c ch f h tr n v a =
     let fails = test_failed h f n _ v a c.loop-k.k (omega arith) (omega arith) (λ x e. sym c.if-not-test_met.true ∙ c.test_met.ensures x e) in
-    sym (c.loop-k.invariant.6 ch f h tr n v a ∙ fails)
-
-pub overflow_add-k : goal.overflow_add-k
-overflow_add-k c = omega (arith, c.type_inv.firsts c.args.i, c.type_inv.test_counts c.args.i)
+    sym (c.loop-k.invariant.5 ch f h tr n v a ∙ fails)
 
 pub loop-k-preserved : goal.loop-k-preserved
 loop-k-preserved c = (
@@ -87,11 +83,10 @@ loop-k-preserved c = (
   c.loop-k.invariant.2,
   c.loop-k.invariant.3,
   omega arith,
-  omega arith,
   λ ch f h tr n v a.
       let met = test_passed h f n _ v a c.loop-k.k (omega arith) (omega arith) (λ x e. sym c.if-not-test_met.false ∙ c.test_met.ensures x e) in
-      c.loop-k.invariant.6 ch f h tr n v a ∙ met,
+      c.loop-k.invariant.5 ch f h tr n v a ∙ met,
 )
 
 pub returns : goal.returns
-returns c ch f h tr n v a = sym (c.loop-k.invariant.6 ch f h tr n v a ∙ tests_done h f n _ v a c.loop-k.k (omega arith))
+returns c ch f h tr n v a = sym (c.loop-k.invariant.5 ch f h tr n v a ∙ tests_done h f n _ v a c.loop-k.k (omega arith))

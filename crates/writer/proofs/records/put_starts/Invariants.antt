@@ -6,9 +6,6 @@ use Rattle.chart_lists.proofs.PutLoop.{PutLoop}
 use Rattle.writer.proofs.records.put_starts.Given as goal
 
 -- the timers before place at are written, the others are left
-abbrev pub invariant-loop-left : goal.invariant-loop-left
-invariant-loop-left l = TimersLeft l.initial.left.bits l.at l.left.bits
-    × PutLoop (λ i. digits 1 (get_or (members l.initial.left.bits) i 0)) (length (members l.initial.left.bits)) l.initial.out l.out l.at l.at
-
-abbrev pub decreases-loop-left : goal.decreases-loop-left
-decreases-loop-left l = l.left.bits
+abbrev pub invariant-loop-j : goal.invariant-loop-j
+invariant-loop-j l = TimersLeft l.fn.set.bits l.at l.j-iterator.left.bits
+    × PutLoop (λ i. digits 1 (get_or (members l.fn.set.bits) i 0)) (length (members l.fn.set.bits)) l.initial.out l.out l.at l.at

@@ -10,13 +10,13 @@ use Rattle.writer.proofs.records.write_records.Goals as goal
 pub loop-i-init : goal.loop-i-init
 loop-i-init c = writing_first _ _ _ _ _ _ c.requires.room c.requires.fit
 
-pub bounds-test_counts-i : goal.bounds-test_counts-i
-bounds-test_counts-i c =
+pub bounds-lists-i : goal.bounds-lists-i
+bounds-lists-i c =
     let n = writing_next _ _ _ _ _ _ c.requires.room c.requires.fit c.loop-i.invariant c.loop-i-test.true in
     n.count
 
-pub bounds-starts-i : goal.bounds-starts-i
-bounds-starts-i c =
+pub bounds-lists-i-in-loop-i-4 : goal.bounds-lists-i-in-loop-i-4
+bounds-lists-i-in-loop-i-4 c =
     let n = writing_next _ _ _ _ _ _ c.requires.room c.requires.fit c.loop-i.invariant c.loop-i-test.true in
     n.starts
 
@@ -30,18 +30,18 @@ slice_bounds-write_record-count c =
     let n = writing_next _ _ _ _ _ _ c.requires.room c.requires.fit c.loop-i.invariant c.loop-i-test.true in
     omega (arith, n.fits)
 
-pub bounds-sources-i : goal.bounds-sources-i
-bounds-sources-i c =
+pub bounds-lists-i-in-loop-i : goal.bounds-lists-i-in-loop-i
+bounds-lists-i-in-loop-i c =
     let n = writing_next _ _ _ _ _ _ c.requires.room c.requires.fit c.loop-i.invariant c.loop-i-test.true in
     n.source
 
-pub bounds-targets-i : goal.bounds-targets-i
-bounds-targets-i c =
+pub bounds-lists-i-in-loop-i-2 : goal.bounds-lists-i-in-loop-i-2
+bounds-lists-i-in-loop-i-2 c =
     let n = writing_next _ _ _ _ _ _ c.requires.room c.requires.fit c.loop-i.invariant c.loop-i-test.true in
     n.target
 
-pub bounds-events-i : goal.bounds-events-i
-bounds-events-i c =
+pub bounds-lists-i-in-loop-i-3 : goal.bounds-lists-i-in-loop-i-3
+bounds-lists-i-in-loop-i-3 c =
     let n = writing_next _ _ _ _ _ _ c.requires.room c.requires.fit c.loop-i.invariant c.loop-i-test.true in
     n.event
 

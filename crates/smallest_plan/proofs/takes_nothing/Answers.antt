@@ -1,5 +1,0 @@
--- `takes_nothing` meets its contract.
-use Rattle.smallest_plan.proofs.takes_nothing.Goals as goal
-
-pub returns : goal.returns
-returns c = cc
