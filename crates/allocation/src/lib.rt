@@ -16,7 +16,7 @@ ghost use Rattle.allocation.specs.Cells.{cells_of, no_number};
 ghost use Rattle.allocation.specs.FamiliesAt.{FamiliesAt};
 ghost use Rattle.allocation.specs.Turns.{NumberedTo, Described, Fresh};
 
-use families::{Link, LiveChart};
+use families::{Link, Links, LiveChart};
 use family::Spread;
 use place::place_roots;
 use timer_set::TimerSet;
@@ -104,7 +104,8 @@ pub fn allocate(chart: LiveChart, cells: &mut [u16], families_at: &mut [u64]) ->
     ensures families { result.families ≡ length (Family·families (pairs_in chart.entry)) }
     ensures at { FamiliesAt (Family·families (pairs_in chart.entry)) families_at.new }
 {
-    let links = families::find_links(chart);
+    let mut links = Links::NONE;
+    families::find_links(chart, &mut links);
     cells.fill(NO_NUMBER);
     families_at.fill(0);
     let n = chart.live.len();

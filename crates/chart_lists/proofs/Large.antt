@@ -1,5 +1,5 @@
--- Whether one of the first entries of the list of constants is over 65,535 is whether some transition has such a constant. What is hard is that the
--- constants stand in one list, the tests of all transitions one after another.
+-- Whether one of the first entries of the list of constants is over 65,535, by its entries, and that this is whether some transition has such a
+-- constant. What is hard is that the constants stand in one list, the tests of all transitions one after another.
 use mathlib.Core.Path.{◌≡◌, refl, sym, ap, ◌∙◌}
 use mathlib.Core.Bool.{Bool, true, false, ◌||◌, or_assoc}
 use mathlib.Core.List.{List, [], ◌∷◌, ◌++◌}
@@ -16,6 +16,27 @@ use Rattle.chart_lists.specs.Lists.{all_tests, constants_of}
 use Rattle.chart_lists.specs.Begins.{Begins}
 use Rattle.chart_lists.specs.Large.{large_among}
 use Rattle.chart_lists.proofs.Begins.{begins_take}
+
+-- ---- by entries
+
+any_at : (l : List ℕ) (n k : ℕ) → k < n → n ≤ length l → most_in_two_bytes < get_or l k 0 → any_of is_large (take n l) ≡ true
+unfolding any_of is_large
+any_at l zero k h m o = absurd (omega arith)
+any_at [] (suc n) k h m o = absurd (omega arith)
+any_at (x ∷ l) (suc n) zero h m o = or_left (any_of is_large (take n l)) (lt-ltb most_in_two_bytes x o)
+any_at (x ∷ l) (suc n) (suc k) h m o = or_right (is_large x) (any_at l n k (omega arith) (omega arith) o)
+
+pub large_at : (l : List ℕ) (n k : ℕ) → k < n → n ≤ length l → most_in_two_bytes < get_or l k 0 → large_among n l ≡ true
+large_at l n k h m o = sym (any_of_list_any is_large (take n l)) ∙ any_at l n k h m o
+
+any_none : (l : List ℕ) (n : ℕ) → ((k : ℕ) → k < n → get_or l k 0 ≤ most_in_two_bytes) → any_of is_large (take n l) ≡ false
+unfolding any_of is_large
+any_none l zero h = refl
+any_none [] (suc n) h = refl
+any_none (x ∷ l) (suc n) h = rw (le-ltb most_in_two_bytes x (h 0 (omega arith))) (any_none l n (λ k b. h (suc k) (omega arith)))
+
+pub large_none : (l : List ℕ) (n : ℕ) → ((k : ℕ) → k < n → get_or l k 0 ≤ most_in_two_bytes) → large_among n l ≡ false
+large_none l n h = sym (any_of_list_any is_large (take n l)) ∙ any_none l n h
 
 -- ---- by transitions
 

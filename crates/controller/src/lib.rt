@@ -1,4 +1,4 @@
-// The calls of a controller of several heads on values: set-up, an event, a turn. Each answers with the state that it leaves.
+// The calls of a controller of several heads: set-up, an event, a turn. Each changes the state that it is lent, or refuses and leaves it.
 #![tactic(auto)]
 
 ghost use Rattle.std.specs.Prelude.{◌≡◌, true, List, ℕ, ◌≤◌, length};

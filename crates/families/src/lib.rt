@@ -14,7 +14,7 @@ use timer_set::TimerSet;
 
 // What families are formed of: of each transition its source, its target and the timers that it starts, of each location the timers that are live
 // there, and the number of timers.
-// stays: a list for each part of a transition, as the chart_* functions of exports have them from C.
+// stays: a list for each part of a transition, as a ChartStore and a Part of `spare` have them.
 #[derive(Clone, Copy)]
 pub struct LiveChart<'a> {
     pub sources: &'a [u16],
@@ -35,14 +35,15 @@ fn linked_timers(from: u64, to: u64, starts: u64) -> TimerSet
     both.minus(started)
 }
 
-// The links of the chart that have timers.
-pub fn find_links(chart: LiveChart) -> Links
+// The links of the chart that have timers, in place of those that were there. They are lent, not handed back: a copy of so many takes 8,200 bytes of
+// the stack.
+pub fn find_links(chart: LiveChart, links: &mut Links)
     requires { SafeChart chart }
-    ensures few { length (stored result) ≤ length chart.entry.sources.now }
-    ensures links { LinkLists (pairs_in chart.entry) (stored result) }
-    ensures ends { Ends (length chart.entry.live.now) (stored result) }
+    ensures few { length (stored links.new) ≤ length chart.entry.sources.now }
+    ensures links { LinkLists (pairs_in chart.entry) (stored links.new) }
+    ensures ends { Ends (length chart.entry.live.now) (stored links.new) }
 {
-    let mut links = Links::NONE;
+    links.count = 0;
     for i in 0..chart.sources.len() {
         let one = chart.sources[i];
         let other = chart.targets[i];
@@ -55,7 +56,6 @@ pub fn find_links(chart: LiveChart) -> Links
             links.push(Link { one, other, timers });
         }
     }
-    links
 }
 
 impl Link {

@@ -24,7 +24,7 @@ impl Link {
 #[derive(Clone, Copy)]
 pub struct Links {
     all: [Link; chart_lists::MOST_TRANSITIONS],
-    count: usize,
+    pub(crate) count: usize,
     ghost few: { count ≤ most_transitions },
 }
 

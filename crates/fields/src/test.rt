@@ -2,7 +2,7 @@
 ghost use Rattle.std.specs.Prelude.{◌≡◌, drop};
 ghost use Rattle.model.specs.Version.{width_of};
 ghost use Rattle.file_format.specs.Body.{read_test};
-ghost use Rattle.fields.specs.Meaning.{test_as};
+ghost use Rattle.fields.specs.Meaning.{NumberAt, test_as};
 
 use crate::{Parsed, number_at, number_below};
 use chart_lists::Header;
@@ -14,6 +14,17 @@ pub struct Test {
     pub timer: u8,
     pub comparison: Comparison,
     pub constant: u32,
+}
+
+// A test's constant. Each width by itself, so that the compiler unrolls the loop over its bytes.
+fn constant_at(s: &[u8], at: usize, version: u8) -> Parsed<u64>
+    ensures { NumberAt (width_of version) s.now at result }
+{
+    if file_format::width_of(version) == 2 {
+        number_at(s, at, 2)
+    } else {
+        number_at(s, at, 4)
+    }
 }
 
 // One test of a transition of that chart.
@@ -39,7 +50,7 @@ pub fn test_at(s: &[u8], at: usize, chart: Header, place: u64) -> Parsed<Test>
             place,
         });
     };
-    let e = number_at(s, at2, file_format::width_of(chart.version));
+    let e = constant_at(s, at2, chart.version);
     let Ok((constant, next)) = e else {
         return Err(e.unwrap_err());
     };

@@ -11,7 +11,7 @@ ghost use Rattle.controller_model.specs.Headers.{HeadersOf};
 ghost use Rattle.heads.specs.Judged.{JudgedAs, charts_judged_in, set_up_judged_in, heads_judged_in};
 
 use crate::parts::part_of;
-use chart_lists::{ChartStore, Header, MOST_TIMERS, MOST_TRANSITIONS};
+use chart_lists::{Header, MOST_LOCATIONS, MOST_TESTS, MOST_TIMERS, MOST_TRANSITIONS};
 use controller_model::{Heads, MOST_HEADS, Parts};
 use refusal::Refusal;
 
@@ -46,12 +46,34 @@ const NO_HEADER: Header = Header {
 };
 
 // The judgement of one file, 1 to 10, and its chart's header.
+// stays: ten arrays and not a ChartStore: those that nobody reads the compiler then leaves out; with a store a call on small files takes two to four
+// times as long.
 fn judge_file(file: &[u8]) -> Result<Header, Refusal>
     ensures { answer_as result ≡ judged_header file.now }
 {
-    let mut store = ChartStore::EMPTY;
+    let mut accepting = [0u16; MOST_LOCATIONS];
+    let mut sources = [0u16; MOST_TRANSITIONS];
+    let mut targets = [0u16; MOST_TRANSITIONS];
+    let mut events = [0u8; MOST_TRANSITIONS];
+    let mut starts = [0u64; MOST_TRANSITIONS];
+    let mut test_counts = [0u8; MOST_TRANSITIONS];
+    let mut timers = [0u8; MOST_TESTS];
+    let mut codes = [0u8; MOST_TESTS];
+    let mut constants = [0u32; MOST_TESTS];
     let mut tested = [0u64; MOST_TRANSITIONS];
-    judgement::judge_into(file, &mut store, &mut tested)
+    judgement::judge(
+        file,
+        &mut accepting,
+        &mut sources,
+        &mut targets,
+        &mut events,
+        &mut starts,
+        &mut test_counts,
+        &mut timers,
+        &mut codes,
+        &mut constants,
+        &mut tested,
+    )
 }
 
 // The files of the heads, each in turn.

@@ -20,9 +20,9 @@ mod whole;
 
 use crate::floor::find_floor;
 use crate::whole::number_lists;
-use chart_lists::{ChartStore, Header, MOST_LOCATIONS, MOST_TRANSITIONS};
+use chart_lists::{Header, MOST_LOCATIONS, MOST_TESTS, MOST_TRANSITIONS};
 use refusal::Refusal;
-use spare::Transitions;
+use spare::{Part, Transitions};
 
 // How many board numbers a chart uses, how many families it has, and how many rounds found its live sets.
 #[derive(Clone, Copy)]
@@ -57,7 +57,8 @@ fn number_part<'a>(
     ensures { ((c : Chart) → ChartHeld c header transitions.entry
         → ChartNumbered (reached_part c) live.new merged.new cells.new families_at.new result) }
 {
-    let part = spare::reached_part(header, transitions);
+    let mut part = Part::EMPTY;
+    spare::reached_part(header, transitions, &mut part);
     number_lists(
         Header {
             transitions: part.count,
@@ -146,18 +147,40 @@ fn number_judged<'a>(
 
 // The chart of a file, with its live sets and its board numbers over the fronts of the lists, or a refusal, 1 to 10. The analysis and the program
 // take these from here.
+// stays: ten arrays and not a ChartStore: those that nobody reads the compiler then leaves out, of the stack too; with a store the program `allocate`
+// takes 26,000 bytes more of it, and a small chart's analysis a quarter more time.
 pub fn number_file(file: &[u8], live: &mut [u64], cells: &mut [u16]) -> Result<FileNumbers, Refusal>
     requires { (most_locations ≤ length live.old) × (most_cells ≤ length cells.old) }
     ensures answer { answer_as result ≡ numbered_in file.now }
     ensures lists { ((c : Chart) → judged_in file.now ≡ returned c → ListsNumbered c live.new cells.new) }
 {
-    let mut store = ChartStore::EMPTY;
+    let mut accepting = [0u16; MOST_LOCATIONS];
+    let mut sources = [0u16; MOST_TRANSITIONS];
+    let mut targets = [0u16; MOST_TRANSITIONS];
+    let mut events = [0u8; MOST_TRANSITIONS];
+    let mut starts = [0u64; MOST_TRANSITIONS];
+    let mut test_counts = [0u8; MOST_TRANSITIONS];
+    let mut timers = [0u8; MOST_TESTS];
+    let mut codes = [0u8; MOST_TESTS];
+    let mut constants = [0u32; MOST_TESTS];
     let mut tested = [0u64; MOST_TRANSITIONS];
-    let header = judgement::judge_into(file, &mut store, &mut tested)?;
+    let header = judgement::judge(
+        file,
+        &mut accepting,
+        &mut sources,
+        &mut targets,
+        &mut events,
+        &mut starts,
+        &mut test_counts,
+        &mut timers,
+        &mut codes,
+        &mut constants,
+        &mut tested,
+    )?;
     let transitions = Transitions {
-        sources: &store.sources,
-        targets: &store.targets,
-        starts: &store.starts,
+        sources: &sources,
+        targets: &targets,
+        starts: &starts,
         tested: &tested,
     };
     Ok(number_judged(header, transitions, live, cells))

@@ -59,6 +59,8 @@ fn write_renamed<'a>(
 }
 
 // The same of a chart whose spare transitions lose their tests and starts first.
+// Not inlined: its arrays would stand in the caller's frame while the board numbers are found, 10 KB of the stack on the deepest path.
+#[inline(never)]
 pub fn write_cleared<'a>(
     header: Header,
     store: &mut ChartStore,

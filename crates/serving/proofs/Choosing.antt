@@ -10,7 +10,7 @@ use lib.ListN.{length, get_or, get_elem?}
 use borrow.Author.Count.{below_more}
 use borrow.Author.Tests.{eq-eqb, ne_eqb, lt-ltb, le-ltb, ltb-false}
 use Rattle.std.specs.Prelude.{Some, None}
-use Rattle.lists.proofs.Membership.{first_is}
+use Rattle.lists.proofs.Membership.{first_le, first_is}
 use Rattle.lists.proofs.Nth.{below_nth}
 use Rattle.model.specs.Chart.{Transition, Chart, Nth}
 use Rattle.model.specs.Run.{State, grown, enabled}
@@ -69,6 +69,10 @@ pub record NoneBelow (c : Chart) (x : State) (e t i : ℕ) : Type 0 where
   pub before : (k : ℕ) → k < i → (r : Transition) → get_elem? c.transitions k ≡ some r → can_take c x e t r ≡ false
 
 module _ (c : Chart) (x : State) (e t : ℕ) where
+  pub lowest_most : lowest_to_take c x e t ≤ length c.transitions
+  unfolding lowest_to_take
+  lowest_most = first_le (can_take c x e t) c.transitions
+
   pub none_yet : NoneBelow c x e t 0
   none_yet = record { before = λ k d. absurd (omega arith) }
 
@@ -80,7 +84,7 @@ module _ (c : Chart) (x : State) (e t : ℕ) where
             (λ r n. sym (tried r (record { there = n })) ∙ d);
       }
 
-      lowest_here : i < length c.transitions → b ≡ true → i ≡ lowest_to_take c x e t
+      pub lowest_here : i < length c.transitions → b ≡ true → i ≡ lowest_to_take c x e t
       unfolding lowest_to_take
       lowest_here h d =
           sym (first_is (can_take c x e t) c.transitions i (omega arith) (λ r n. sym (tried r (record { there = n })) ∙ d) w.before)
@@ -88,7 +92,7 @@ module _ (c : Chart) (x : State) (e t : ℕ) where
       pub found_here : {m : ℕ} → m ≡ length c.transitions → i < m → b ≡ true → Some i ≡ found_below m (lowest_to_take c x e t)
       found_here {m} same h d = rw (sym (lowest_here (omega arith) d), lt-ltb i m h) refl
 
-    lowest_none : i ≡ length c.transitions → i ≡ lowest_to_take c x e t
+    pub lowest_none : i ≡ length c.transitions → i ≡ lowest_to_take c x e t
     unfolding lowest_to_take
     lowest_none h =
         sym (first_is (can_take c x e t) c.transitions i (omega arith)

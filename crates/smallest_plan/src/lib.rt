@@ -52,10 +52,13 @@ impl<'a> Search<'a> {
     fn score(&self, v: u8) -> usize
         requires { (self.now.used ≤ most_searched) × (v < most_searched) }
     {
-        let against = self.held[..self.used]
-            .iter()
-            .filter(|set| TimerSet { bits: **set }.has(v));
-        64 * self.row(v).common(self.unplaced).count() as usize + 63 * against.count()
+        let mut score = 64 * self.row(v).common(self.unplaced).count() as usize;
+        for set in &self.held[..self.used] {
+            if (TimerSet { bits: *set }).has(v) {
+                score += 63;
+            }
+        }
+        score
     }
 
     // The unplaced family to go on with.
@@ -85,14 +88,11 @@ impl<'a> Search<'a> {
           used = max self.now.used (c + 1);
         } }
     {
-        let mut held = self.held;
-        held[c] = self.against(c).join(self.row(v)).bits;
-        Search {
-            held,
-            unplaced: self.unplaced.without(v),
-            used: self.used.max(c + 1),
-            ..*self
-        }
+        let mut next = *self;
+        next.held[c] = self.against(c).join(self.row(v)).bits;
+        next.unplaced = self.unplaced.without(v);
+        next.used = self.used.max(c + 1);
+        next
     }
 
     // Whether v takes nothing from the families of `part` if it gets the number c: c is held already against each of them that v meets.

@@ -29,7 +29,7 @@ pub struct Transitions<'a> {
 }
 
 // So many transitions, over the fronts of the four lists.
-// stays: lists side by side, since `number_lists` takes them as it takes a chart's own, which the C interface hands over so.
+// stays: lists side by side, since `number_lists` takes them as it takes a chart's own, which stand so in a ChartStore.
 #[derive(Clone, Copy)]
 pub struct Part {
     pub sources: [u16; MOST_TRANSITIONS],
@@ -40,7 +40,7 @@ pub struct Part {
 }
 
 impl Part {
-    const EMPTY: Part = Part {
+    pub const EMPTY: Part = Part {
         sources: [0; MOST_TRANSITIONS],
         targets: [0; MOST_TRANSITIONS],
         starts: [0; MOST_TRANSITIONS],
@@ -97,37 +97,37 @@ fn leaves_reached<'a>(sources: &'a [u16], reached: &'a [u64], i: usize) -> bool
     !set.is_empty()
 }
 
-// The transitions that leave a reached location.
-fn keep_reached<'a>(n: usize, transitions: Transitions<'a>, reached: &'a [u64]) -> Part
+// The transitions that leave a reached location, in place of those that were there.
+fn keep_reached<'a>(n: usize, transitions: Transitions<'a>, reached: &'a [u64], part: &mut Part)
     requires { (c : Chart) × (n ≡ length c.transitions)
         × Holds c (edges_of c transitions.sources.now transitions.targets.now transitions.starts.now)
         × Begins (tested_sets c) transitions.tested.now × Begins (reached_sets c) reached.now }
     ensures { (c : Chart) → n ≡ length c.transitions
         → Holds c (edges_of c transitions.entry.sources.now transitions.entry.targets.now transitions.entry.starts.now)
         → Begins (tested_sets c) transitions.entry.tested.now → Begins (reached_sets c) reached.now
-        → PartListed c result.sources result.targets result.starts result.tested result.count }
+        → PartListed c part.new.sources part.new.targets part.new.starts part.new.tested part.new.count }
 {
-    let mut part = Part::EMPTY;
+    part.count = 0;
     for i in 0..n {
         if leaves_reached(transitions.sources, reached, i) {
             part.push(transitions, i);
         }
     }
-    part
 }
 
-// The lists of the part of a chart that counts: the transitions that leave a reached location.
-pub fn reached_part<'a>(header: Header, transitions: Transitions<'a>) -> Part
+// The lists of the part of a chart that counts: the transitions that leave a reached location. They are lent, not handed back: a copy of them takes
+// 10,242 bytes of the stack.
+pub fn reached_part<'a>(header: Header, transitions: Transitions<'a>, part: &mut Part)
     requires { (c : Chart) × (header ≡ header_of c)
         × Holds c (edges_of c transitions.sources.now transitions.targets.now transitions.starts.now)
         × Begins (tested_sets c) transitions.tested.now }
     ensures { (c : Chart) → header ≡ header_of c
         → Holds c (edges_of c transitions.entry.sources.now transitions.entry.targets.now transitions.entry.starts.now)
         → Begins (tested_sets c) transitions.entry.tested.now
-        → PartListed c result.sources result.targets result.starts result.tested result.count }
+        → PartListed c part.new.sources part.new.targets part.new.starts part.new.tested part.new.count }
 {
     let reached = reached_sets(header, transitions.sources, transitions.targets);
-    keep_reached(header.transitions as usize, transitions, &reached)
+    keep_reached(header.transitions as usize, transitions, &reached, part);
 }
 
 // So many tests move from the place `from` on to the place `to` on, which is no later.

@@ -1,4 +1,4 @@
-// One step of the player on values, and a list of steps. What happens to the counts stands in `counts`, the condition of a step in `tests`.
+// One step of the player, on a lent state, and a list of steps. What happens to the counts stands in `counts`, the condition of a step in `tests`.
 #![tactic(auto)]
 
 ghost use Rattle.std.specs.Prelude.{◌≡◌, length, get_or, OnErr};

@@ -35,3 +35,12 @@ put_four v l e =
     let a : v / 256 / 256 ≡ v / 65536 = omega arith in
     let b : v / 65536 / 256 ≡ v / 16777216 = omega arith in
     put_digits 4 _ l v (e ∙ rw (a, b))
+
+-- four bytes as two times two
+pub digits_four : (v : ℕ) → digits 2 (v / 65536) ++ digits 2 (v % 65536) ≡ digits 4 v
+unfolding digits
+digits_four v =
+    let a : v % 65536 / 256 % 256 ≡ v / 256 % 256 = omega arith in
+    let b : v % 65536 % 256 ≡ v % 256 = omega arith in
+    let c : v / 65536 ≡ v / 256 / 256 = omega arith in
+    rw (a, b, c)

@@ -29,9 +29,9 @@ pub number_locations-requires : goal.number_locations-requires
 number_locations-requires c = (
   (
     pairs_in c.args.chart,
-    rw c.as_slice.ensures (described c.args.chart _ c.requires.0 c.find_links-links.ensures.links),
+    rw c.as_slice.ensures (described c.args.chart _ c.requires.0 c.find_links.ensures.links),
   ),
-  rw c.as_slice.ensures c.find_links-links.ensures.ends,
+  rw c.as_slice.ensures c.find_links.ensures.ends,
   fresh c.args.chart.live.now c.fill.new.self c.fill-2.new.self c.requires.0.few_locations (c.fill.auto.self ∙ c.requires.1)
       (filled _ _ (c.fill.ensures.after (search rules)) c.requires.1) (c.fill-2.auto.self ∙ c.requires.2)
       (zeros _ (c.fill-2.ensures.after (search rules))),
@@ -40,7 +40,7 @@ number_locations-requires c = (
 pub returns : goal.returns
 unfolding pairs_of
 returns c = let n = c.number_locations.ensures (pairs_in c.args.chart)
-    (rw c.as_slice.ensures (described c.args.chart _ c.requires.0 c.find_links-links.ensures.links)) in
+    (rw c.as_slice.ensures (described c.args.chart _ c.requires.0 c.find_links.ensures.links)) in
     let all = all_families (formed c.requires.0) in
     let e = all_placed (formed c.requires.0) in record {
       cells = n.cells_are ∙ ap (λ (ps : List Placed). cells_of (numbering ps) (length c.args.chart.live.now)) e;

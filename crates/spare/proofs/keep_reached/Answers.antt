@@ -4,6 +4,7 @@ use mathlib.Core.Path.{sym, ◌∙◌}
 use Prim.Native.Nat.{◌<◌}
 use native.Mathlib.Omega.{arith}
 use lib.ListN.{length}
+use Rattle.chart_lists.specs.Limits.{most_transitions}
 use Rattle.chart_lists.proofs.Holds.{targets_each, starts_each}
 use Rattle.chart_lists.proofs.InTurn.{nth_transition, source_at, target_at, starts_at}
 use Rattle.flow.proofs.ChartFlows.{tested_each}
@@ -13,7 +14,7 @@ use Rattle.spare.proofs.keep_reached.Goals as goal
 use Rattle.spare.proofs.keep_reached.Goals.{then-leaves_reached, else-leaves_reached}
 
 pub loop-i-init : goal.loop-i-init
-loop-i-init c = (omega arith, λ chart e h t b. part_none chart)
+loop-i-init c = (omega arith, λ chart e h t b. part_none chart _)
 
 pub leaves_reached-requires : goal.leaves_reached-requires
 leaves_reached-requires c =
@@ -40,8 +41,10 @@ loop-i-preserved c =
         omega arith,
         λ chart e h t b.
             let n = (nth_transition chart c.loop-i.i (omega arith)).1 in
+            let room : c.loop-i.part.count < most_transitions = omega (arith, h.valid.few_transitions) in
             part_more (v.1 chart e h t b) n (source_at n h.sources) (target_at n h.targets) (starts_at n h.starts) (tested_at n t)
-            (leaves_is h.valid h.sources b n (sym w.if-leaves_reached.true ∙ c.leaves_reached.ensures)) (omega (arith, h.valid.few_transitions)),
+            (leaves_is h.valid h.sources b n (sym w.if-leaves_reached.true ∙ c.leaves_reached.ensures))
+            (omega (arith, room)) (omega (arith, room)) (omega (arith, room)) (omega (arith, room)),
       )
       | else-leaves_reached w ↦ rw w.part-is (
         omega arith,

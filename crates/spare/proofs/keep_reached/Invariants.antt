@@ -13,4 +13,4 @@ abbrev pub invariant-loop-i : goal.invariant-loop-i
 invariant-loop-i l = (l.part.count ≤ l.i)
     × ((c : Chart) → l.n ≡ length c.transitions
     → Holds c (edges_of c l.transitions.sources.now l.transitions.targets.now l.transitions.starts.now)
-    → Begins (tested_sets c) l.transitions.tested.now → Begins (reached_sets c) l.reached → PartTo c l.part l.i)
+    → Begins (tested_sets c) l.transitions.tested.now → Begins (reached_sets c) l.reached → PartTo c l.initial.part l.part l.i)
