@@ -116,6 +116,8 @@ pub struct Head {
 }
 
 // The head of a transition of that chart, with the place where its tests begin.
+// Inlined: else a copy of the header is handed over for each transition.
+#[inline(always)]
 #[tactic(auto, using(crate::proofs::Within::within, crate::proofs::Parts::count_few), unfolding(crate::specs::Parts::read_head))]
 pub fn head_at(s: &[u8], at: usize, chart: Header, place: u64) -> Parsed<Head>
     requires { chart.timers ≤ 64 }

@@ -46,8 +46,8 @@ const NO_HEADER: Header = Header {
 };
 
 // The judgement of one file, 1 to 10, and its chart's header.
-// stays: ten arrays and not a ChartStore: those that nobody reads the compiler then leaves out; with a store a call on small files takes two to four
-// times as long.
+// stays: ten arrays and not a ChartStore: those that nobody reads the compiler then leaves out; with a store a call on small files takes twice as
+// long and more.
 fn judge_file(file: &[u8]) -> Result<Header, Refusal>
     ensures { answer_as result ≡ judged_header file.now }
 {
