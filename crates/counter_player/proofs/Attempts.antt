@@ -6,7 +6,6 @@ use Rattle.model.specs.Chart.{Transition, Chart, Nth}
 use Rattle.model.specs.Run.{Counts, enabled}
 use Rattle.chart_lists.specs.Lists.{Lists}
 use Rattle.chart_lists.specs.Holds.{Holds}
-use Rattle.steps.specs.Stepping.{Decided}
 use Rattle.steps.specs.Counts.{CountsAgree, MovedOn}
 use Rattle.steps.proofs.TransitionPlaces.{TransitionAt, no_transition, some_transition, transition_at}
 use Rattle.steps.proofs.MovedCounts.{started_agrees}
@@ -15,7 +14,7 @@ use Rattle.counter_model.specs.CounterRun.{CounterState, counts_at, counter_afte
 use Rattle.counter_model.proofs.AddedUp.{counter_none, counter_some}
 use Rattle.counter_player.specs.declared.stepping.State.{State}
 use Rattle.counter_player.specs.Counts.{Risen}
-use Rattle.counter_player.specs.Stepping.{Shows}
+use Rattle.counter_player.specs.Stepping.{Shows, Answered}
 use Rattle.counter_player.proofs.RisenCounts.{risen_agrees}
 
 -- the state after a step
@@ -59,7 +58,7 @@ module _ {c : Chart} {l : Lists} (held : Holds c l) (k i reading : ℕ) (x : Sta
       attempt_24 f = counter_some c k s i reading nth ∙ rw (leaves, passed, f) refl
 
       pub attempt_taken : m ≡ true → (v : List ℕ) → MovedOn (get_or l.starts i 0) 0 g v
-          → Decided Shows (Ok (next_state (get_or l.targets i 0) reading v)) told
+          → Answered (next_state (get_or l.targets i 0) reading v) (Ok (tt {0})) told
       unfolding counter_after
       attempt_taken f v starting =
           let counts = started_agrees (get_or l.starts i 0) g v _ r.starts at.started agrees starting in

@@ -2,3 +2,4 @@ pub mod RisenCounts
 pub mod Attempts
 pub mod StepLists
 pub mod LargeConstants
+pub mod Lent

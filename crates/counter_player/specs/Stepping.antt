@@ -13,6 +13,6 @@ pub record Shows (x : State) (s : CounterState) : Type 0 where
   pub last : x.last ≡ s.last
   pub counts : CountsAgree x.counts s.counts
 
--- the code's answer is the definition's: a state that the code's state shows, or the same refusal
-abbrev pub Answered : Result State Refusal → Answer CounterState → Type 0
-Answered r a = Decided Shows r a
+-- the code's answer is the definition's: a state that the code's new state x shows, or the same refusal
+abbrev pub Answered : (x : State) → Result (Unit {0}) Refusal → Answer CounterState → Type 0
+Answered x r a = Decided (λ done. Shows x) r a

@@ -52,16 +52,16 @@ fn play_steps<'a>(
     if chart_lists::large_among(lists.constants, tests as usize) {
         return Err(refusal::NOT_FOR_COUNTER);
     }
-    let begin = State {
+    let mut state = State {
         location: header.initial,
         last: first,
         counts: starting_counts(counts),
     };
-    let last = take_steps(lists, &firsts, n, begin, transitions, readings)?;
+    take_steps(lists, &firsts, n, &mut state, transitions, readings)?;
     let a = header.accepting as usize;
     Ok(CounterArrival {
-        location: last.location,
-        accepting: player::accepts(&lists.accepting[..a], last.location),
+        location: state.location,
+        accepting: player::accepts(&lists.accepting[..a], state.location),
     })
 }
 

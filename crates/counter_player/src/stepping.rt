@@ -1,4 +1,4 @@
-// One step on the counter board on values, and a list of steps.
+// One step on the counter board, on a lent state, and a list of steps.
 ghost use Rattle.std.specs.Prelude.{◌≡◌, length};
 ghost use Rattle.model.specs.Chart.{Chart};
 ghost use Rattle.chart_lists.specs.Holds.{Holds};
@@ -27,16 +27,16 @@ fn step<'a>(
     lists: ChartLists<'a>,
     firsts: &'a [u16],
     n: usize,
-    state: State,
+    state: &mut State,
     k: u64,
     transition: u32,
     reading: u16,
-) -> Result<State, Refusal>
+) -> Result<(), Refusal>
     requires { (c : Chart) × (n ≡ length c.transitions) × FirstTests c firsts.now
         × Holds c (steps_in c lists) }
     ensures { (c : Chart) → n ≡ length c.transitions → FirstTests c firsts.now
         → Holds c (steps_in c lists.entry)
-        → (s : CounterState) → Shows state s → Answered result (counter_attempt c k s transition reading) }
+        → (s : CounterState) → Shows state.old s → Answered state.new result (counter_attempt c k s transition reading) }
 {
     let i = transition as usize;
     if i >= n {
@@ -51,11 +51,12 @@ fn step<'a>(
     if !enabled(lists, firsts, i, &counts) {
         return Err(refused(Reason::TestNotMet, k));
     }
-    Ok(State {
+    *state = State {
         location: lists.targets[i],
         last: reading,
         counts: started(counts, lists.starts[i]),
-    })
+    };
+    Ok(())
 }
 
 // The steps of a list, each from the state that the one before left, to the first that is refused.
@@ -63,20 +64,19 @@ pub fn take_steps<'a>(
     lists: ChartLists<'a>,
     firsts: &'a [u16],
     n: usize,
-    first: State,
+    state: &mut State,
     transitions: &[u32],
     readings: &[u16],
-) -> Result<State, Refusal>
+) -> Result<(), Refusal>
     requires n_value { (c : Chart) × (n ≡ length c.transitions) × FirstTests c firsts.now
         × Holds c (steps_in c lists) }
     requires readings_len { length readings.now ≡ length transitions.now }
     ensures { (c : Chart) → n ≡ length c.transitions → FirstTests c firsts.now
         → Holds c (steps_in c lists.entry)
-        → (s : CounterState) → Shows first s → Answered result (counter_steps c 0 s transitions.now readings.now) }
+        → (s : CounterState) → Shows state.old s → Answered state.new result (counter_steps c 0 s transitions.now readings.now) }
 {
-    let mut state = first;
     for k in 0..transitions.len() {
-        state = step(
+        step(
             lists,
             firsts,
             n,
@@ -86,5 +86,5 @@ pub fn take_steps<'a>(
             readings[k],
         )?;
     }
-    Ok(state)
+    Ok(())
 }

@@ -14,6 +14,7 @@ use Rattle.counter_player.specs.declared.stepping.State.{State}
 use Rattle.counter_player.specs.Stepping.{Shows}
 use Rattle.counter_player.proofs.RisenCounts.{starting_shows}
 use Rattle.counter_player.proofs.LargeConstants.{constants_room, constants_large}
+use Rattle.counter_player.proofs.Lent.{shown_by}
 use Rattle.counter_player.proofs.play_steps.Goals as goal
 
 -- the last location, with whether it is in the list of the accepting ones
@@ -50,16 +51,16 @@ take_steps-requires c =
 pub slice_bounds-accepts-end : goal.slice_bounds-accepts-end
 slice_bounds-accepts-end c = let p = c.requires.header_value in accepting_long p.0 p.1 p.2
 
-pub returns-in_err-last : goal.returns-in_err-last
+pub returns-in_err-take_steps : goal.returns-in_err-take_steps
 unfolding counter_answer_of counter_outcome
-returns-in_err-last c = λ ch e h.
+returns-in_err-take_steps c = λ ch e h.
     let p = err_from_is_err_and c.from_residual.result c.from_residual.ensures.1 in
     let number = c.find_firsts-tests.ensures.number ch (transitions_are ch e) (holds_counts h) in
     let firsts = c.find_firsts-tests.ensures.places ch (transitions_are ch e) (holds_counts h) in
     let begins = starting_shows c.starting_counts.ensures ch _ _ (initial_is ch e) in
     let small = (constants_large h number ∙ sym c.large_among.ensures) ∙ c.if-large_among.false in
-    rw (p.1, p.2, small)
-    (refused_answer Shows _ (counter_arrival ch) _ (c.in_err-last.ensures ch (transitions_are ch e) firsts (holds_steps h) _ begins))
+    let told = c.in_err-take_steps.ensures ch (transitions_are ch e) firsts (holds_steps h) _ begins in
+    rw (p.1, p.2, small) (refused_answer (shown_by c.take_steps.new.state) _ (counter_arrival ch) _ told)
 
 pub returns : goal.returns
 unfolding counter_answer_of counter_outcome
@@ -68,6 +69,6 @@ returns c = λ ch e h.
     let firsts = c.find_firsts-tests.ensures.places ch (transitions_are ch e) (holds_counts h) in
     let begins = starting_shows c.starting_counts.ensures ch _ _ (initial_is ch e) in
     let small = (constants_large h number ∙ sym c.large_among.ensures) ∙ c.if-large_among.false in
-    let taken = c.in_ok-last.ensures ch (transitions_are ch e) firsts (holds_steps h) _ begins in
-    rw small (taken_answer Shows _ (counter_arrival ch) _ taken
+    let taken = c.in_ok-take_steps.ensures ch (transitions_are ch e) firsts (holds_steps h) _ begins in
+    rw small (taken_answer (shown_by c.take_steps.new.state) _ (counter_arrival ch) _ taken
     (λ s w. arrives ch _ s _ w (accepts_at ch _ c.accepts.ensures (accepting_front ch e h) w.location)))

@@ -8,7 +8,7 @@ use Rattle.steps.proofs.Held.{holds_tests}
 use Rattle.steps.proofs.TransitionPlaces.{TransitionAt, some_transition, transition_at}
 use Rattle.counter_player.specs.Counts.{Risen}
 use Rattle.steps.proofs.Attempts.{refused_as_lem}
-use Rattle.counter_player.specs.Stepping.{Shows}
+use Rattle.counter_player.proofs.Lent.{shown_by}
 use Rattle.counter_player.proofs.Attempts.{attempt_14, attempt_22, attempt_24, attempt_taken}
 use Rattle.counter_player.proofs.stepping.step.Goals as goal
 
@@ -17,7 +17,8 @@ here : {c : Chart} {l : Lists} (h : Holds c l) (i : ℕ) → i < length c.transi
 here {c} h i a = let n = some_transition c i a in (n.0, transition_at h n.1)
 
 pub returns-then-i-n : goal.returns-then-i-n
-returns-then-i-n c = λ ch n f L s w. refused_as_lem Shows _ _ _ _ c.refused.ensures (attempt_14 L _ _ _ _ s w (omega (arith, c.if-i-n.true)))
+returns-then-i-n c = λ ch n f L s w.
+    refused_as_lem (shown_by c.args.state.now) _ _ _ _ c.refused.ensures (attempt_14 L _ _ _ _ s w (omega (arith, c.if-i-n.true)))
 
 pub bounds-lists-i : goal.bounds-lists-i
 bounds-lists-i c = (here c.requires.3 c.args.transition (omega (arith, c.if-i-n.false))).1.source_within
@@ -25,7 +26,7 @@ bounds-lists-i c = (here c.requires.3 c.args.transition (omega (arith, c.if-i-n.
 pub returns-then-lists-i : goal.returns-then-lists-i
 returns-then-lists-i c = λ ch n f L s w.
     let numbered : c.args.transition < length ch.transitions = omega (arith, c.if-i-n.false) in
-    refused_as_lem Shows _ _ _ _ c.refused-then-lists-i.ensures (attempt_22 L _ _ _ _ s w numbered c.if-lists-i.true)
+    refused_as_lem (shown_by c.args.state.now) _ _ _ _ c.refused-then-lists-i.ensures (attempt_22 L _ _ _ _ s w numbered c.if-lists-i.true)
 
 pub enabled-requires : goal.enabled-requires
 enabled-requires c = record {
@@ -37,9 +38,9 @@ pub returns-then-not-enabled : goal.returns-then-not-enabled
 returns-then-not-enabled c = λ ch n f L s w.
     let decided = c.enabled.ensures ch f (holds_tests L) in
     let numbered : c.args.transition < length ch.transitions = omega (arith, c.if-i-n.false) in
-    let grew = subst (λ (d : ℕ). Risen d c.args.state.counts c.risen-counts.result) c.ticks_passed-passed.ensures c.risen-counts.ensures in
+    let grew = subst (λ (d : ℕ). Risen d c.args.state.now.counts c.risen-counts.result) c.ticks_passed-passed.ensures c.risen-counts.ensures in
     let so = attempt_24 L _ _ _ _ s w numbered c.if-lists-i.false _ grew _ decided c.if-not-enabled.true in
-    refused_as_lem Shows _ _ _ _ c.refused-then-not-enabled.ensures so
+    refused_as_lem (shown_by c.args.state.now) _ _ _ _ c.refused-then-not-enabled.ensures so
 
 pub bounds-lists-i-2 : goal.bounds-lists-i-2
 bounds-lists-i-2 c = (here c.requires.3 c.args.transition (omega (arith, c.if-i-n.false))).1.target_within
@@ -51,5 +52,5 @@ pub returns : goal.returns
 returns c = λ ch n f L s w.
     let decided = c.enabled.ensures ch f (holds_tests L) in
     let numbered : c.args.transition < length ch.transitions = omega (arith, c.if-i-n.false) in
-    let grew = subst (λ (d : ℕ). Risen d c.args.state.counts c.risen-counts.result) c.ticks_passed-passed.ensures c.risen-counts.ensures in
+    let grew = subst (λ (d : ℕ). Risen d c.args.state.now.counts c.risen-counts.result) c.ticks_passed-passed.ensures c.risen-counts.ensures in
     attempt_taken L _ _ _ _ s w numbered c.if-lists-i.false _ grew _ decided c.if-not-enabled.false _ c.started.ensures
