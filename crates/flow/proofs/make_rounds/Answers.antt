@@ -1,10 +1,13 @@
 -- `make_rounds` makes the first round over all edges, and each round after it over those that leave changed locations. What is hard stands in Turns.
-use Rattle.std.proofs.Common.{◌≡◌, List, ℕ, ◌+◌, ◌≤◌, ◌<◌, length, take, replicate, refl, sym, ap, ◌∙◌, arith, rules}
+use Rattle.std.proofs.Common.{◌≡◌, List, ℕ, ◌+◌, ◌≤◌, length, replicate, refl, sym, ap, ◌∙◌, arith, rules}
 use lib.ListN.{length-replicate}
-use Rattle.std.proofs.lemmas.List.{length-take-le, get_or-take}
+use Rattle.std.proofs.lemmas.List.{length-take}
+use Rattle.std.proofs.lemmas.Grind.{elements}
 use Rattle.chart_lists.specs.Limits.{most_locations}
+use Rattle.worklist.specs.GoneOver.{GoneOver}
 use Rattle.worklist.proofs.Waiting.{worklist_none}
 use Rattle.flow.specs.Edges.{flow_of}
+use Rattle.flow.specs.Rounds.{LeavesOne}
 use Rattle.flow.proofs.EdgeLists.{shaped_lists, few_rounds}
 use Rattle.flow.proofs.Turns.{before_long, after_long, goes_on, ends_here, turn_first, turn_next}
 use Rattle.flow.proofs.make_rounds.Goals as goal
@@ -14,9 +17,11 @@ use Rattle.flow.proofs.make_rounds.Goals.{After-take_over}
 zeros_long : (sets : List ℕ) (n : ℕ) → sets ≡ replicate n 0 → length sets ≡ n
 zeros_long sets n e = ap length e ∙ length-replicate {A = ℕ} n 0
 
--- the changed locations are those at the front of the array
-in_front : (changed : List ℕ) (depth k : ℕ) → depth ≤ length changed → k < length (take depth changed) → k < depth
-in_front changed depth k h l = omega (arith, l, length-take-le depth changed h)
+-- where as many locations are gone over as have changed, those are all
+all_gone : {from into cut list sets idle after idleAfter : List ℕ} {stood : ℕ → ℕ} {depth : ℕ}
+    → GoneOver from into cut (LeavesOne from list (length list)) stood sets idle after idleAfter → length list ≡ depth
+    → GoneOver from into cut (LeavesOne from list depth) stood sets idle after idleAfter
+all_gone over long = rw long at over
 
 room : (c : After-take_over) → c.loop-depth.depth ≤ length c.take_over.new.changed
 room c =
@@ -54,11 +59,11 @@ take_over-requires c =
 pub next_round-depth-requires : goal.next_round-depth-requires
 unfolding flow_of
 next_round-depth-requires c =
-    let v = c.loop-depth.invariant in (
+    let v = c.loop-depth.invariant in
+    let fits = room (goal.at.next_round-depth-requires c).After-take_over in (
       (c.args.from.now, rw (after_long v.3) c.requires.3),
       ap length c.take_over.ensures.sets,
-      (λ k l. let b = in_front _ _ _ (room (goal.at.next_round-depth-requires c).After-take_over) l in
-          rw (get_or-take c.loop-depth.depth c.take_over.new.changed k 0 b, c.take_over.ensures.changed k b) (v.3.differing.worklist.below k b)),
+      (λ k l. grind (arith, elements, c.take_over.ensures.changed, v.3.differing.worklist.below, fits)),
       c.take_over.ensures.none,
     )
 
@@ -79,13 +84,14 @@ loop-depth-preserved c =
     let v = c.loop-depth.invariant in
     let shaped = shaped_lists _ _ _ _ _ c.requires.0 (λ i. (c.type_inv.gain i).fits) (λ i. (c.type_inv.own i).fits) in
     let e = c.next_round-depth.ensures in
-    let long = length-take-le c.loop-depth.depth c.take_over.new.changed (room (goal.at.loop-depth-preserved c).After-take_over) in (
+    let fits = room (goal.at.loop-depth-preserved c).After-take_over in (
       search rules,
       search rules,
       search rules,
       turn_next c.requires.0 shaped v.3 c.loop-depth-test.true
-          (λ i b. get_or-take c.loop-depth.depth c.take_over.new.changed i 0 b ∙ c.take_over.ensures.changed i b) c.take_over.ensures.sets
-          (rw long at (e.over c.args.from.now (rw (after_long v.3) c.requires.3))) e.worklist e.less (λ q. (c.type_inv.after q).fits),
+          (λ i b. grind (arith, elements, c.take_over.ensures.changed)) c.take_over.ensures.sets
+          (all_gone (e.over c.args.from.now (rw (after_long v.3) c.requires.3)) (rw length-take (omega (arith, fits)))) e.worklist e.less
+          (λ q. (c.type_inv.after q).fits),
     )
 
 pub overflow_add-result : goal.overflow_add-result
