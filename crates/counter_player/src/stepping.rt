@@ -1,5 +1,5 @@
 // One step on the counter board, on a lent state, and a list of steps.
-ghost use Rattle.std.specs.Prelude.{◌≡◌, length};
+ghost use Rattle.std.specs.Prelude.{◌≡◌, length, OnErr};
 ghost use Rattle.model.specs.Chart.{Chart};
 ghost use Rattle.chart_lists.specs.Holds.{Holds};
 ghost use Rattle.steps.specs.StepLists.{FirstTests, steps_in};
@@ -21,7 +21,7 @@ pub struct State {
     pub counts: [u32; 64],
 }
 
-// Step number k on a chart of n transitions: 14, 22, 24 in this order, or the state after it.
+// Step number k on a chart of n transitions: 14, 22, 24 in this order, and the state stays; or the state after it.
 // stays: beside steps::step, which judges times too (15, 23); one form of both needs a trait with laws for clocks and counts, no plainer
 fn step<'a>(
     lists: ChartLists<'a>,
@@ -34,9 +34,10 @@ fn step<'a>(
 ) -> Result<(), Refusal>
     requires { (c : Chart) × (n ≡ length c.transitions) × FirstTests c firsts.now
         × Holds c (steps_in c lists) }
-    ensures { (c : Chart) → n ≡ length c.transitions → FirstTests c firsts.now
+    ensures answer { (c : Chart) → n ≡ length c.transitions → FirstTests c firsts.now
         → Holds c (steps_in c lists.entry)
         → (s : CounterState) → Shows state.old s → Answered state.new result (counter_attempt c k s transition reading) }
+    ensures kept { OnErr result (state.new ≡ state.old) }
 {
     let i = transition as usize;
     if i >= n {
@@ -59,7 +60,7 @@ fn step<'a>(
     Ok(())
 }
 
-// The steps of a list, each from the state that the one before left, to the first that is refused.
+// The steps of a list, each from the state that the one before left, to the first that is refused; then the state is what the last one taken left.
 pub fn take_steps<'a>(
     lists: ChartLists<'a>,
     firsts: &'a [u16],

@@ -15,7 +15,7 @@ pub returns-in_err-step : goal.returns-in_err-step
 returns-in_err-step c = λ ch n f L s w.
     let p = err_from_is_err_and c.from_residual.result c.from_residual.ensures.1 in
     let told = reached_refused (c.loop-k.invariant.2 ch n f L s w) (omega arith) (λ (done : Unit {0}). c.step.new.state) _
-    (c.in_err-step.ensures ch n f L) in
+    (c.in_err-step.ensures.answer ch n f L) in
     rw (p.1, p.2) (refused_lent c.step.new.state _ _ told)
 
 pub loop-k-preserved : goal.loop-k-preserved
@@ -23,7 +23,7 @@ loop-k-preserved c = (
   c.loop-k.invariant.0,
   c.loop-k.invariant.1,
   λ ch n f L s w.
-      reached_next (c.loop-k.invariant.2 ch n f L s w) (omega arith) (λ (done : Unit {0}). c.step.new.state) _ (c.in_ok-step.ensures ch n f L),
+      reached_next (c.loop-k.invariant.2 ch n f L s w) (omega arith) (λ (done : Unit {0}). c.step.new.state) _ (c.in_ok-step.ensures.answer ch n f L),
 )
 
 pub returns : goal.returns
