@@ -79,20 +79,18 @@ impl<'a> Search<'a> {
         best
     }
 
-    // The search after family v takes the number c: it is held against each family that v meets.
-    fn with_number(&self, v: u8, c: usize) -> Search<'a>
+    // Family v is given the number c: it is held against each family that v meets.
+    fn give_number(&mut self, v: u8, c: usize)
         requires { (v < most_searched) × (c < most_searched) }
-        ensures { result ≡ record self.now {
-          held = held_after self.now.rows.now self.now.held v c;
-          unplaced = record { bits = removed self.now.unplaced.bits v };
-          used = max self.now.used (c + 1);
+        ensures { self.new ≡ record self.old {
+          held = held_after self.old.rows.now self.old.held v c;
+          unplaced = record { bits = removed self.old.unplaced.bits v };
+          used = max self.old.used (c + 1);
         } }
     {
-        let mut next = *self;
-        next.held[c] = self.against(c).join(self.row(v)).bits;
-        next.unplaced = self.unplaced.without(v);
-        next.used = self.used.max(c + 1);
-        next
+        self.held[c] = self.against(c).join(self.row(v)).bits;
+        self.unplaced = self.unplaced.without(v);
+        self.used = self.used.max(c + 1);
     }
 
     // Whether v takes nothing from the families of `part` if it gets the number c: c is held already against each of them that v meets.
@@ -119,7 +117,9 @@ impl<'a> Search<'a> {
         let mut found = TimerSet::EMPTY.with(v);
         for c in 0..limit {
             if !self.against(c).has(v) {
-                let part = self.with_number(v, c).conflict();
+                let mut next = *self;
+                next.give_number(v, c);
+                let part = next.conflict();
                 if self.takes_nothing(v, c, part) {
                     return part;
                 }

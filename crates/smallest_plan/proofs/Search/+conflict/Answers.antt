@@ -16,7 +16,7 @@ conflict-part-requires t c =
     let s = c.args.self.now in
     let long : length s.held ≡ 20 = search rules in
     let less = removed_less s.unplaced.bits c.pick-v.result (omega arith) (omega arith) c.pick-v.ensures.1 in
-    rw c.with_number.ensures (
+    rw c.give_number.ensures (
       omega arith,
       ready_next c.requires _ c.pick-v.ensures.1 _ (omega arith) (omega arith) (omega arith),
     )
@@ -25,7 +25,7 @@ pub returns-then-takes_nothing : goal.returns-then-takes_nothing
 returns-then-takes_nothing t c =
     let long : length c.args.self.now.held ≡ 20 = search rules in
     let free = sym c.has.ensures ∙ c.if-not-has.true in
-    let A = rw c.with_number.ensures at c.conflict-part.ensures in
+    let A = rw c.give_number.ensures at c.conflict-part.ensures in
     let e = eqb-true _ _ (sym c.takes_nothing.ensures ∙ c.if-takes_nothing.true) in
     answers_part c.requires _ c.pick-v.ensures.1 _ (omega arith) (omega arith) (rw c.against.ensures at free) e A
 
@@ -36,7 +36,7 @@ loop-c-preserved t c =
     elim c.if-not-has.branch [
       | then-not-has+else-takes_nothing w ↦
           let n = eqb-false _ _ (sym w.takes_nothing.ensures ∙ w.if-takes_nothing.false) in
-          let A = rw w.with_number.ensures at w.conflict-part.ensures in
+          let A = rw w.give_number.ensures at w.conflict-part.ensures in
           rw (w.found-is, w.join-found.ensures) (tried_more T (omega arith) n A)
       | else-not-has w ↦ rw w.found-is (tried_held T (rw c.against.ensures at (sym c.has.ensures ∙ w.if-not-has.false)))
     ]
