@@ -60,7 +60,7 @@ fn step<'a>(
     Ok(())
 }
 
-// The steps of a list, each from the state that the one before left, to the first that is refused; then the state is what the last one taken left.
+// The steps of a list, each from the state that the one before left, to the first that is refused, and the state stays; or the state after them.
 pub fn take_steps<'a>(
     lists: ChartLists<'a>,
     firsts: &'a [u16],
@@ -72,20 +72,23 @@ pub fn take_steps<'a>(
     requires n_value { (c : Chart) × (n ≡ length c.transitions) × FirstTests c firsts.now
         × Holds c (steps_in c lists) }
     requires readings_len { length readings.now ≡ length transitions.now }
-    ensures { (c : Chart) → n ≡ length c.transitions → FirstTests c firsts.now
+    ensures answer { (c : Chart) → n ≡ length c.transitions → FirstTests c firsts.now
         → Holds c (steps_in c lists.entry)
         → (s : CounterState) → Shows state.old s → Answered state.new result (counter_steps c 0 s transitions.now readings.now) }
+    ensures kept { OnErr result (state.new ≡ state.old) }
 {
+    let mut moved = *state;
     for k in 0..transitions.len() {
         step(
             lists,
             firsts,
             n,
-            state,
+            &mut moved,
             k as u64,
             transitions[k],
             readings[k],
         )?;
     }
+    *state = moved;
     Ok(())
 }

@@ -59,7 +59,7 @@ returns-in_err-take_steps c = λ ch e h.
     let firsts = c.find_firsts-tests.ensures.places ch (transitions_are ch e) (holds_counts h) in
     let begins = starting_shows c.starting_counts.ensures ch _ _ (initial_is ch e) in
     let small = (constants_large h number ∙ sym c.large_among.ensures) ∙ c.if-large_among.false in
-    let told = c.in_err-take_steps.ensures ch (transitions_are ch e) firsts (holds_steps h) _ begins in
+    let told = c.in_err-take_steps.ensures.answer ch (transitions_are ch e) firsts (holds_steps h) _ begins in
     rw (p.1, p.2, small) (refused_answer (shown_by c.take_steps.new.state) _ (counter_arrival ch) _ told)
 
 pub returns : goal.returns
@@ -69,6 +69,6 @@ returns c = λ ch e h.
     let firsts = c.find_firsts-tests.ensures.places ch (transitions_are ch e) (holds_counts h) in
     let begins = starting_shows c.starting_counts.ensures ch _ _ (initial_is ch e) in
     let small = (constants_large h number ∙ sym c.large_among.ensures) ∙ c.if-large_among.false in
-    let taken = c.in_ok-take_steps.ensures ch (transitions_are ch e) firsts (holds_steps h) _ begins in
+    let taken = c.in_ok-take_steps.ensures.answer ch (transitions_are ch e) firsts (holds_steps h) _ begins in
     rw small (taken_answer (shown_by c.take_steps.new.state) _ (counter_arrival ch) _ taken
     (λ s w. arrives ch _ s _ w (accepts_at ch _ c.accepts.ensures (accepting_front ch e h) w.location)))

@@ -1,5 +1,5 @@
 -- `take_steps` takes one step after another. The laws of a list of steps say what each leaves.
-use Rattle.std.proofs.Common.{arith}
+use Rattle.std.proofs.Common.{refl, arith}
 use Rattle.std.proofs.lemmas.Result.{err_from_is_err_and}
 use Rattle.steps.proofs.StepLists.{reached_start, reached_next, reached_refused, reached_end}
 use Rattle.counter_player.proofs.Lent.{taken_lent, refused_lent}
@@ -12,11 +12,14 @@ pub step-requires : goal.step-requires
 step-requires c = c.loop-k.invariant.0
 
 pub returns-in_err-step : goal.returns-in_err-step
-returns-in_err-step c = λ ch n f L s w.
-    let p = err_from_is_err_and c.from_residual.result c.from_residual.ensures.1 in
-    let told = reached_refused (c.loop-k.invariant.2 ch n f L s w) (omega arith) (λ (done : Unit {0}). c.step.new.state) _
-    (c.in_err-step.ensures.answer ch n f L) in
-    rw (p.1, p.2) (refused_lent c.step.new.state _ _ told)
+returns-in_err-step c = record {
+  answer = λ ch n f L s w.
+      let p = err_from_is_err_and c.from_residual.result c.from_residual.ensures.1 in
+      let tried = c.in_err-step.ensures.answer ch n f L in
+      let told = reached_refused (c.loop-k.invariant.2 ch n f L s w) (omega arith) (λ (done : Unit {0}). c.step.new.state) _ tried in
+      rw (p.1, p.2) (refused_lent c.args.state.now _ _ told);
+  kept = rw (err_from_is_err_and c.from_residual.result c.from_residual.ensures.1).1 refl;
+}
 
 pub loop-k-preserved : goal.loop-k-preserved
 loop-k-preserved c = (
@@ -27,4 +30,7 @@ loop-k-preserved c = (
 )
 
 pub returns : goal.returns
-returns c = λ ch n f L s w. taken_lent _ _ (reached_end (c.loop-k.invariant.2 ch n f L s w) (omega arith))
+returns c = record {
+  answer = λ ch n f L s w. taken_lent _ _ (reached_end (c.loop-k.invariant.2 ch n f L s w) (omega arith));
+  kept = tt;
+}

@@ -14,4 +14,4 @@ invariant-loop-k l = ((c : Chart) × (l.n ≡ length c.transitions) × FirstTest
     × (length l.readings ≡ length l.transitions)
     × ((c : Chart) → l.n ≡ length c.transitions → FirstTests c l.firsts
     → Holds c (steps_in c l.lists)
-    → (s : CounterState) → Shows l.initial.state s → Reached Shows (counter_sequence c l.transitions l.readings) l.k s l.state)
+    → (s : CounterState) → Shows l.initial.state s → Reached Shows (counter_sequence c l.transitions l.readings) l.k s l.moved)
