@@ -21,7 +21,7 @@ pub struct State {
     pub counts: [u32; 64],
 }
 
-// Step number k on a chart of n transitions: 14, 22, 24 in this order, and the state stays; or the state after it.
+// Step number k on a chart of n transitions: 14, 22, 24 in this order, or the state after it. A refusal leaves the state as it was.
 // stays: beside steps::step, which judges times too (15, 23); one form of both needs a trait with laws for clocks and counts, no plainer
 fn step<'a>(
     lists: ChartLists<'a>,
@@ -60,7 +60,7 @@ fn step<'a>(
     Ok(())
 }
 
-// The steps of a list, each from the state that the one before left, to the first that is refused, and the state stays; or the state after them.
+// The steps of a list, each from the state that the one before left, to the first that is refused. A refusal leaves the lent state as it was.
 pub fn take_steps<'a>(
     lists: ChartLists<'a>,
     firsts: &'a [u16],
