@@ -2,4 +2,3 @@ pub mod RisenCounts
 pub mod Attempts
 pub mod StepLists
 pub mod LargeConstants
-pub mod Lent

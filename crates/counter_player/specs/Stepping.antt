@@ -13,6 +13,10 @@ pub record Shows (x : State) (s : CounterState) : Type 0 where
   pub last : x.last ≡ s.last
   pub counts : CountsAgree x.counts s.counts
 
+-- x is left in the lent place, and shows the state
+abbrev pub LeftAs : (x : State) → Unit {0} → CounterState → Type 0
+LeftAs x done = Shows x
+
 -- the code's answer is the definition's: a state that the code's new state x shows, or the same refusal
 abbrev pub Answered : (x : State) → Result (Unit {0}) Refusal → Answer CounterState → Type 0
-Answered x r a = Decided (λ done. Shows x) r a
+Answered x r a = Decided (LeftAs x) r a

@@ -38,9 +38,9 @@ module _ {S X : Type 0} {Shown : X → S → Type 0} {t : StepSequence S} where
   reached_start {s} w = record { state = s; shown = w; same = refl }
 
   module _ {k : ℕ} {s : S} {x : X} (w : Reached Shown t k s x) where
-    -- no step is left
-    pub reached_end : t.number ≤ k → Decided Shown (Ok x) (t.rest 0 s)
-    reached_end h = subst (Decided Shown (Ok x)) (sym (w.same ∙ t.ended k w.state h)) w.shown
+    -- no step is left, and of the states that x shows an answer b says P
+    pub reached_end : t.number ≤ k → {B : Type 0} (P : B → S → Type 0) (b : B) → ((s' : S) → Shown x s' → P b s') → Decided P (Ok b) (t.rest 0 s)
+    reached_end h P b says = subst (Decided P (Ok b)) (sym (w.same ∙ t.ended k w.state h)) (says w.state w.shown)
 
     -- one step is tried, and then the rest
     module _ (h : k < t.number) {A : Type 0} (next : A → X) where
@@ -55,11 +55,12 @@ module _ {S X : Type 0} {Shown : X → S → Type 0} {t : StepSequence S} where
           go (returned s') p d = record { state = s'; shown = d; same = all ∙ ap (λ (q : Answer S). then q (t.rest (suc k))) p }
           go (refused n p) q d = absurd cc
 
-      pub reached_refused : (f : Refusal) → ((s' : S) → Shown x s' → Decided (λ (b : A). Shown (next b)) (Err f) (t.tried k s'))
-          → Decided Shown (Err f) (t.rest 0 s)
-      reached_refused f decided = subst (Decided Shown (Err f)) (sym all) (go (t.tried k w.state) (decided w.state w.shown))
+      -- whatever is said of an answer that is no refusal
+      pub reached_refused : {B : Type 0} (P : B → S → Type 0) (f : Refusal)
+          → ((s' : S) → Shown x s' → Decided (λ (b : A). Shown (next b)) (Err f) (t.tried k s')) → Decided P (Err f) (t.rest 0 s)
+      reached_refused P f decided = subst (Decided P (Err f)) (sym all) (go (t.tried k w.state) (decided w.state w.shown))
         where
-          go : (q : Answer S) → Decided (λ (b : A). Shown (next b)) (Err f) q → Decided Shown (Err f) (then q (t.rest (suc k)))
+          go : (q : Answer S) → Decided (λ (b : A). Shown (next b)) (Err f) q → Decided P (Err f) (then q (t.rest (suc k)))
           go (returned s') d = absurd d
           go (refused n p) d = cc
 

@@ -11,10 +11,9 @@ use Rattle.player.proofs.Arrivals.{taken_answer, refused_answer}
 use Rattle.counter_model.specs.CounterRun.{CounterState, counter_outcome}
 use Rattle.counter_model.specs.CounterPlayer.{counter_arrival, counter_answer_of}
 use Rattle.counter_player.specs.declared.stepping.State.{State}
-use Rattle.counter_player.specs.Stepping.{Shows}
+use Rattle.counter_player.specs.Stepping.{Shows, LeftAs}
 use Rattle.counter_player.proofs.RisenCounts.{starting_shows}
 use Rattle.counter_player.proofs.LargeConstants.{constants_room, constants_large}
-use Rattle.counter_player.proofs.Lent.{shown_by}
 use Rattle.counter_player.proofs.play_steps.Goals as goal
 
 -- the last location, with whether it is in the list of the accepting ones
@@ -60,7 +59,7 @@ returns-in_err-take_steps c = λ ch e h.
     let begins = starting_shows c.starting_counts.ensures ch _ _ (initial_is ch e) in
     let small = (constants_large h number ∙ sym c.large_among.ensures) ∙ c.if-large_among.false in
     let told = c.in_err-take_steps.ensures.answer ch (transitions_are ch e) firsts (holds_steps h) _ begins in
-    rw (p.1, p.2, small) (refused_answer (shown_by c.take_steps.new.state) _ (counter_arrival ch) _ told)
+    rw (p.1, p.2, small) (refused_answer (LeftAs c.take_steps.new.state) _ (counter_arrival ch) _ told)
 
 pub returns : goal.returns
 unfolding counter_answer_of counter_outcome
@@ -70,5 +69,5 @@ returns c = λ ch e h.
     let begins = starting_shows c.starting_counts.ensures ch _ _ (initial_is ch e) in
     let small = (constants_large h number ∙ sym c.large_among.ensures) ∙ c.if-large_among.false in
     let taken = c.in_ok-take_steps.ensures.answer ch (transitions_are ch e) firsts (holds_steps h) _ begins in
-    rw small (taken_answer (shown_by c.take_steps.new.state) _ (counter_arrival ch) _ taken
+    rw small (taken_answer (LeftAs c.take_steps.new.state) _ (counter_arrival ch) _ taken
     (λ s w. arrives ch _ s _ w (accepts_at ch _ c.accepts.ensures (accepting_front ch e h) w.location)))

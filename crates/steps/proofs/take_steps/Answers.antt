@@ -2,6 +2,7 @@
 use native.Mathlib.Omega.{arith}
 use Rattle.std.proofs.lemmas.Result.{err_from_is_err_and}
 use Rattle.steps.proofs.StepLists.{reached_start, reached_next, reached_refused, reached_end}
+use Rattle.steps.specs.Stepping.{Shows}
 use Rattle.steps.proofs.take_steps.Goals as goal
 
 pub loop-k-init : goal.loop-k-init
@@ -14,7 +15,7 @@ pub returns-in_err-step : goal.returns-in_err-step
 returns-in_err-step c = λ ch n f L s w.
     let p = err_from_is_err_and c.from_residual.result c.from_residual.ensures.1 in
     let tried = c.in_err-step.ensures.answer ch n f L in
-    rw (p.1, p.2) (reached_refused (c.loop-k.invariant.3 ch n f L s w) (omega arith) (λ (done : Unit {0}). c.step.new.state) _ tried)
+    rw (p.1, p.2) (reached_refused (c.loop-k.invariant.3 ch n f L s w) (omega arith) (λ (done : Unit {0}). c.step.new.state) Shows _ tried)
 
 pub loop-k-preserved : goal.loop-k-preserved
 loop-k-preserved c = (
@@ -27,4 +28,4 @@ loop-k-preserved c = (
 )
 
 pub returns : goal.returns
-returns c = λ ch n f L s w. reached_end (c.loop-k.invariant.3 ch n f L s w) (omega arith)
+returns c = λ ch n f L s w. reached_end (c.loop-k.invariant.3 ch n f L s w) (omega arith) Shows _ (λ s w. w)

@@ -8,7 +8,7 @@ use Rattle.steps.proofs.Held.{holds_tests}
 use Rattle.steps.proofs.TransitionPlaces.{TransitionAt, some_transition, transition_at}
 use Rattle.counter_player.specs.Counts.{Risen}
 use Rattle.steps.proofs.Attempts.{refused_as_lem}
-use Rattle.counter_player.proofs.Lent.{shown_by}
+use Rattle.counter_player.specs.Stepping.{LeftAs}
 use Rattle.counter_player.proofs.Attempts.{attempt_14, attempt_22, attempt_24, attempt_taken}
 use Rattle.counter_player.proofs.stepping.step.Goals as goal
 
@@ -19,7 +19,7 @@ here {c} h i a = let n = some_transition c i a in (n.0, transition_at h n.1)
 pub returns-then-i-n : goal.returns-then-i-n
 returns-then-i-n c = record {
   answer = λ ch n f L s w.
-      refused_as_lem (shown_by c.args.state.now) _ _ _ _ c.refused.ensures (attempt_14 L _ _ _ _ s w (omega (arith, c.if-i-n.true)));
+      refused_as_lem (LeftAs c.args.state.now) _ _ _ _ c.refused.ensures (attempt_14 L _ _ _ _ s w (omega (arith, c.if-i-n.true)));
   kept = refl;
 }
 
@@ -30,7 +30,7 @@ pub returns-then-lists-i : goal.returns-then-lists-i
 returns-then-lists-i c = record {
   answer = λ ch n f L s w.
       let numbered : c.args.transition < length ch.transitions = omega (arith, c.if-i-n.false) in
-      refused_as_lem (shown_by c.args.state.now) _ _ _ _ c.refused-then-lists-i.ensures (attempt_22 L _ _ _ _ s w numbered c.if-lists-i.true);
+      refused_as_lem (LeftAs c.args.state.now) _ _ _ _ c.refused-then-lists-i.ensures (attempt_22 L _ _ _ _ s w numbered c.if-lists-i.true);
   kept = refl;
 }
 
@@ -47,7 +47,7 @@ returns-then-not-enabled c = record {
       let numbered : c.args.transition < length ch.transitions = omega (arith, c.if-i-n.false) in
       let grew = subst (λ (d : ℕ). Risen d c.args.state.now.counts c.risen-counts.result) c.ticks_passed-passed.ensures c.risen-counts.ensures in
       let so = attempt_24 L _ _ _ _ s w numbered c.if-lists-i.false _ grew _ decided c.if-not-enabled.true in
-      refused_as_lem (shown_by c.args.state.now) _ _ _ _ c.refused-then-not-enabled.ensures so;
+      refused_as_lem (LeftAs c.args.state.now) _ _ _ _ c.refused-then-not-enabled.ensures so;
   kept = refl;
 }
 

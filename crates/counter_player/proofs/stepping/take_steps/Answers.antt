@@ -2,7 +2,7 @@
 use Rattle.std.proofs.Common.{refl, arith}
 use Rattle.std.proofs.lemmas.Result.{err_from_is_err_and}
 use Rattle.steps.proofs.StepLists.{reached_start, reached_next, reached_refused, reached_end}
-use Rattle.counter_player.proofs.Lent.{taken_lent, refused_lent}
+use Rattle.counter_player.specs.Stepping.{LeftAs}
 use Rattle.counter_player.proofs.stepping.take_steps.Goals as goal
 
 pub loop-k-init : goal.loop-k-init
@@ -12,14 +12,15 @@ pub step-requires : goal.step-requires
 step-requires c = c.loop-k.invariant.0
 
 pub returns-in_err-step : goal.returns-in_err-step
-returns-in_err-step c = record {
-  answer = λ ch n f L s w.
-      let p = err_from_is_err_and c.from_residual.result c.from_residual.ensures.1 in
-      let tried = c.in_err-step.ensures.answer ch n f L in
-      let told = reached_refused (c.loop-k.invariant.2 ch n f L s w) (omega arith) (λ (done : Unit {0}). c.step.new.state) _ tried in
-      rw (p.1, p.2) (refused_lent c.args.state.now _ _ told);
-  kept = rw (err_from_is_err_and c.from_residual.result c.from_residual.ensures.1).1 refl;
-}
+returns-in_err-step c =
+    let p = err_from_is_err_and c.from_residual.result c.from_residual.ensures.1 in
+    record {
+      answer = λ ch n f L s w.
+          let tried = c.in_err-step.ensures.answer ch n f L in
+          let at = c.loop-k.invariant.2 ch n f L s w in
+          rw (p.1, p.2) (reached_refused at (omega arith) (λ (done : Unit {0}). c.step.new.state) (LeftAs c.args.state.now) _ tried);
+      kept = rw p.1 refl;
+    }
 
 pub loop-k-preserved : goal.loop-k-preserved
 loop-k-preserved c = (
@@ -31,6 +32,6 @@ loop-k-preserved c = (
 
 pub returns : goal.returns
 returns c = record {
-  answer = λ ch n f L s w. taken_lent _ _ (reached_end (c.loop-k.invariant.2 ch n f L s w) (omega arith));
+  answer = λ ch n f L s w. reached_end (c.loop-k.invariant.2 ch n f L s w) (omega arith) (LeftAs c.loop-k.moved) _ (λ s w. w);
   kept = tt;
 }
